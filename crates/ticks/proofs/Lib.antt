@@ -1,0 +1,4 @@
+pub mod Bits
+pub mod Shifts
+pub mod Counts
+pub mod Tables

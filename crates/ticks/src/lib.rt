@@ -1,0 +1,1 @@
+// Words as sets of ticks: definitions in specs/, laws in proofs/, and no function yet.

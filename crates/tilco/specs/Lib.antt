@@ -1,0 +1,9 @@
+pub mod Lists
+pub mod Formula
+pub mod Meaning
+pub mod Inference
+pub mod Lowering
+pub mod Table
+pub mod Calls
+pub mod Short
+pub mod Cases

@@ -1,0 +1,1 @@
+// What a sheet means: definitions in specs/, theorems in proofs/, and no function.
