@@ -6,9 +6,11 @@ use mathlib.Core.Bool.{Bool, true, false}
 use mathlib.Core.List.{List, List·Memᴰ}
 use mathlib.Core.Logic.{_↔_}
 use Prim.Native.Nat.{ℕ, _+_, _*_, _/_, _<_}
+use lib.IntN.{pos}
 use lib.ListN.{length}
 use Rattle.ticks.specs.Ticks.{Marked, Small, tally}
 use Rattle.tilco.specs.Formula.{Sheet}
+use Rattle.tilco.specs.Meaning.{History}
 use Rattle.tilco.specs.Lowering.{program, rowCount}
 use Rattle.tilco.specs.Inference.{Mark, mark, Marks, Derives, _or_, Clash}
 
@@ -41,6 +43,14 @@ factsOf s T = facts (words (s .window)) (s .signals) T
 -- The marks of a list of readings.
 abbrev pub Taken : List Mark → Marks
 Taken R m = List·Memᴰ m R
+
+-- A reading is of a declared signal at a tick of the window (refusals 12 and 13).
+abbrev pub Reading : Sheet → Mark → Type 0
+Reading s (mark x t v) = (x < s .signals) × (t < s .window)
+
+-- A history agrees with a reading.
+abbrev pub Agrees : History → Mark → Type 0
+Agrees h (mark x t v) = h x (pos t) ≡ v
 
 -- What the rules lead to from these marks.
 abbrev pub Leads : Sheet → Marks → Marks
