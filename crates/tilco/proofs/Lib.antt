@@ -5,3 +5,7 @@ pub mod Derives
 pub mod Values
 pub mod Sense
 pub mod Order
+pub mod Sound
+pub mod Relocation
+pub mod Place
+pub mod Shuffle
