@@ -9,3 +9,6 @@ pub mod Sound
 pub mod Relocation
 pub mod Place
 pub mod Shuffle
+pub mod Closing
+pub mod Demand2
+pub mod Demand3
