@@ -8,7 +8,7 @@ use native.Mathlib.Omega.{arith}
 use lib.Count.{ones, onesIn, ones-cat, ones-step, trailingZeros, under}
 use lib.Pow.{mod-pow-add, shr-lt, pow-pos}
 use Rattle.ticks.specs.Ticks.{bit, Has}
-use Rattle.ticks.proofs.Bits.{bit-lt, bit-zero, bit-suc}
+use Rattle.ticks.proofs.Bits.{bit-zero, bit-suc}
 
 -- The ticks of w below n, counted one by one.
 unfoldable pub ticksBelow : ℕ → ℕ → ℕ

@@ -3,7 +3,7 @@
 use mathlib.Core.Path.{_≡_, sym, ap, _∙_, subst}
 use mathlib.Core.Logic.{⊎-elim}
 use Prim.Native.Nat.{ℕ, suc, _+_, _-_, _*_, _/_, _%_, _^_, _≤_, _<_}
-use native.Mathlib.Nat.{mod-lt, mul-assoc}
+use native.Mathlib.Nat.{mod-lt, mul-assoc, one-mul, div-self}
 use native.Mathlib.Omega.{arith}
 use lib.Bits.{bitAnd, and-mask, shifted-even}
 use lib.Pow.{pow-add, shr-shr, shl-shr, pow-pos}
@@ -24,6 +24,27 @@ bit-under a k t h =
     ∙ ap (λ (x : ℕ). x / 2 ^ t % 2) (sym (mul-assoc a (2 ^ suc d) (2 ^ t)))
     ∙ ap (λ (x : ℕ). x % 2) (shl-shr (a * 2 ^ suc d) t)
     ∙ shifted-even a d
+
+-- The word 2 ^ t holds tick t and no other.
+pub one-has : (t : ℕ) → Has (2 ^ t) t
+unfolding bit
+one-has t = ap (λ (x : ℕ). x % 2) (div-self (pow-pos t))
+
+pub one-only : (t s : ℕ) → Has (2 ^ t) s → s ≡ t
+one-only t s e = ⊎-elim below above (lt-or-ge s t)
+  where
+    shifted : (u : ℕ) → bit (2 ^ t) u ≡ bit (1 * 2 ^ t) u
+    shifted u = ap (λ (x : ℕ). bit x u) (sym (one-mul (2 ^ t)))
+
+    below : s < t → s ≡ t
+    below h = absurd (omega (arith, shifted s, bit-under 1 t s h))
+
+    above : t ≤ s → s ≡ t
+    above h =
+        let v : s ≡ t + (s - t) = omega arith in
+        let b : bit 1 (s - t) ≡ 1 = sym (bit-up 1 t (s - t)) ∙ ap (bit (1 * 2 ^ t)) (sym v) ∙ sym (shifted s) ∙ e in
+        let l : s - t < 1 = has-below 1 1 (s - t) (omega arith) b in
+        omega arith
 
 -- A shift up by k in a word of m bits, of which the n low ones are kept: tick k + t is in it when t is in a and k + t is below n.
 module _ (m n : ℕ) (wide : n ≤ m) (a k : ℕ) where

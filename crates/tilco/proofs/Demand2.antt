@@ -1,9 +1,9 @@
 -- Demand 2: after an accepted add a mark stands in the table exactly if a finite chain of the published inference rules leads to it.
 -- `Added` says so; here is what follows from it, and what makes it true. Assumes a window of at least one tick where tables are compared.
-use mathlib.Core.Path.{_≡_, sym, _∙_}
-use mathlib.Core.Bool.{Bool, true}
+use mathlib.Core.Path.{_≡_, refl, sym, _∙_}
+use mathlib.Core.Bool.{true}
 use mathlib.Core.List.{List, [], List·Memᴰ, List·Memᴰ·not-nil}
-use mathlib.Core.Logic.{_⊎_, inl, inr}
+use mathlib.Core.Logic.{inl, inr}
 use Prim.Native.Nat.{ℕ, _≤_, _<_}
 use native.Mathlib.Omega.{arith}
 use lib.ListN.{length}
@@ -11,9 +11,9 @@ use Rattle.ticks.specs.Ticks.{Small}
 use Rattle.ticks.proofs.Tables.{same-table, tally-grows}
 use Rattle.tilco.specs.Lists.{All}
 use Rattle.tilco.specs.Formula.{Sheet}
-use Rattle.tilco.specs.Inference.{Mark, mark, Marks, start, node, _or_}
+use Rattle.tilco.specs.Inference.{Mark, mark, start, node, _or_}
 use Rattle.tilco.specs.Lowering.{program}
-use Rattle.tilco.specs.Table.{words, Stands, Standing, Inside, factsOf, Taken, Reading, Leads, Added}
+use Rattle.tilco.specs.Table.{words, Standing, Inside, factsOf, Taken, Reading, Leads, Added}
 use Rattle.tilco.proofs.Lists.{all-at}
 use Rattle.tilco.proofs.Derives.{cut, monotone, stays-inside}
 use Rattle.tilco.proofs.Closing.{SettledAt, finished}
@@ -42,6 +42,14 @@ module _ (s : Sheet) where
   -- The table made is closed: the rules lead to nothing more.
   pub added-closed : {T U : List ℕ} {R : List Mark} → Added s T R U → (m : Mark) → Leads s (Standing s U) m → Standing s U m
   added-closed A m d = A .exactly m .1 (cut (λ n i. A .exactly n .0 i) d)
+
+  -- Adding the same readings again changes nothing.
+  pub added-again : {T U : List ℕ} {R : List Mark} → Added s T R U → Added s U R U
+  added-again {T} {U} {R} A = record { size = refl; small = A .small; exactly = λ m. (λ i. start (inl i), λ d. added-closed A m (monotone stood d)) }
+    where
+      stood : (n : Mark) → _or_ (Standing s U) (Taken R) n → Standing s U n
+      stood n (inl i) = i
+      stood n (inr i) = added-keeps A n (inr i)
 
   -- No fact is lost.
   pub added-facts : 1 ≤ s .window → {T U : List ℕ} {R : List Mark} → Small 64 T → Added s T R U → factsOf s T ≤ factsOf s U

@@ -3,7 +3,7 @@
 -- no such history exists. Assumes that every name is declared and a window of at least one tick where tables are compared.
 use mathlib.Core.Path.{_≡_, refl, sym, _∙_, ap, ap₂}
 use mathlib.Core.Bool.{Bool, true, false}
-use mathlib.Core.List.{List, [], _∷_, _++_, List·Memᴰ, List·Memᴰ·not-nil, List·Memᴰ·append-cases, Memᴰ·append-left, Memᴰ·append-right, List·Permᴰ, Permᴰ·symm}
+use mathlib.Core.List.{List, [], _++_, List·Memᴰ, List·Memᴰ·not-nil, List·Memᴰ·append-cases, Memᴰ·append-left, Memᴰ·append-right, List·Permᴰ, Permᴰ·symm}
 use mathlib.Core.Logic.{_⊎_, inl, inr, _↔_}
 use Prim.Native.Nat.{ℕ, _+_, _*_, _<_, _≤_}
 use native.Mathlib.Nat.{add-zero}
@@ -12,13 +12,13 @@ use lib.IntN.{pos}
 use lib.ListN.{length}
 use Rattle.ticks.specs.Ticks.{Small, empty}
 use Rattle.ticks.proofs.Tables.{tally-same, empty-small, empty-bare, empty-tally}
-use Rattle.tilco.specs.Lists.{All, total}
+use Rattle.tilco.specs.Lists.{All}
 use Rattle.tilco.specs.Formula.{Written, hiddens, Sheet, signalRows, formulas, withRules, Named, Declared}
 use Rattle.tilco.specs.Meaning.{History, Obeys}
-use Rattle.tilco.specs.Inference.{Mark, mark, Marks, start, _or_, Clash}
+use Rattle.tilco.specs.Inference.{Mark, mark, start, _or_, Clash}
 use Rattle.tilco.specs.Lowering.{BTL, worth, lows, rowCount, rowPart}
-use Rattle.tilco.specs.Table.{words, Standing, factsOf, Taken, Reading, Agrees, Leads, Added}
-use Rattle.tilco.specs.Calls.{Call, add, refused, Run, done, call, refuse, readingsOf, Some, reported}
+use Rattle.tilco.specs.Table.{words, Standing, factsOf, Taken, Reading, Agrees, Leads}
+use Rattle.tilco.specs.Calls.{Call, Run, done, call, refuse, readingsOf, Some, reported}
 use Rattle.tilco.proofs.Lists.{all-at, all-of, all-stays, found-again, total-stays}
 use Rattle.tilco.proofs.Derives.{cut, monotone}
 use Rattle.tilco.proofs.Order.{row-count}

@@ -1,7 +1,6 @@
 -- Laws of `Derives` that hold for every program: more marks lead to more, closing once is enough, and marks in any order close alike.
 -- Assumes nothing.
-use mathlib.Core.Bool.{Bool}
-use mathlib.Core.Logic.{_⊎_, inl, inr, _↔_}
+use mathlib.Core.Logic.{inl, inr, _↔_}
 use Prim.Native.Nat.{ℕ, _<_}
 use Rattle.tilco.specs.Inference.{Program, Mark, mark, Marks, One, down-left, down-right, up-left, up-right, look-down, look-up, not-down, not-up, Two, up-both, rest-right, rest-left, Derives, start, top, one, two, _or_}
 use Rattle.tilco.specs.Table.{Inside}

@@ -1,7 +1,7 @@
 -- Laws of the four ways to go through a list, and of rules in another order.
 -- Assumes nothing.
 use mathlib.Core.Path.{_≡_, refl, sym, _∙_, ap, ap₂, subst}
-use mathlib.Core.List.{List, [], _∷_, _++_, map, append-assoc, List·Memᴰ, List·Memᴰ·head, List·Memᴰ·tail, List·Memᴰ·cases-cons, List·Memᴰ·not-nil, List·Permᴰ, List·Permᴰ·nil, List·Permᴰ·cons, List·Permᴰ·swap, List·Permᴰ·trans}
+use mathlib.Core.List.{List, [], _∷_, _++_, append-assoc, List·Memᴰ, List·Memᴰ·head, List·Memᴰ·tail, List·Memᴰ·cases-cons, List·Memᴰ·not-nil, List·Permᴰ, List·Permᴰ·nil, List·Permᴰ·cons, List·Permᴰ·swap, List·Permᴰ·trans}
 use mathlib.Core.Logic.{_⊎_, inl, inr}
 use Prim.Native.Nat.{ℕ, zero, suc, _+_}
 use native.Mathlib.Omega.{arith}
@@ -12,6 +12,14 @@ module _ {A : Type 0} (P : A → Type 0) where
   pub all-append : (xs ys : List A) → All P xs → All P ys → All P (xs ++ ys)
   all-append [] ys p q = q
   all-append (x ∷ xs) ys p q = (p .0, all-append xs ys (p .1) q)
+
+  pub all-left : (xs ys : List A) → All P (xs ++ ys) → All P xs
+  all-left [] ys a = tt
+  all-left (x ∷ xs) ys a = (a .0, all-left xs ys (a .1))
+
+  pub all-right : (xs ys : List A) → All P (xs ++ ys) → All P ys
+  all-right [] ys a = a
+  all-right (x ∷ xs) ys a = all-right xs ys (a .1)
 
   pub all-of : (xs : List A) → ((x : A) → List·Memᴰ x xs → P x) → All P xs
   all-of [] f = tt
@@ -25,9 +33,9 @@ module _ {A : Type 0} (P : A → Type 0) where
       go (inl e) f = subst P (sym e) (p .0)
       go (inr j) f = f j
 
-pub all-map : {A B : Type 0} (P : A → Type 0) (Q : B → Type 0) (f : A → B) → ((x : A) → P x → Q (f x)) → (xs : List A) → All P xs → All Q (map f xs)
-all-map P Q f g [] p = tt
-all-map P Q f g (x ∷ xs) p = (g x (p .0), all-map P Q f g xs (p .1))
+pub all-weaker : {A : Type 0} (P Q : A → Type 0) → ((x : A) → P x → Q x) → (xs : List A) → All P xs → All Q xs
+all-weaker P Q g [] p = tt
+all-weaker P Q g (x ∷ xs) p = (g x (p .0), all-weaker P Q g xs (p .1))
 
 pub total-append : {A : Type 0} (f : A → ℕ) (xs ys : List A) → total f (xs ++ ys) ≡ total f xs + total f ys
 total-append f [] ys = omega arith

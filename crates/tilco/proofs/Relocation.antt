@@ -6,7 +6,7 @@ use mathlib.Core.List.{List, [], _∷_, _++_, map, map-append, List·Memᴰ, Lis
 use mathlib.Core.Logic.{_⊎_, inl, inr}
 use Prim.Native.Nat.{ℕ, zero, suc, _+_, _<_, _≤_}
 use native.Mathlib.Omega.{arith}
-use Rattle.tilco.specs.Lists.{total, tab}
+use Rattle.tilco.specs.Lists.{total}
 use Rattle.tilco.specs.Formula.{Op, And, Or, Implies, Iff, Written, Formula, sig, hiddens, plain, defining, definings, spelled, Named}
 use Rattle.tilco.specs.Inference.{Node, signal, notOf, gate, look}
 use Rattle.tilco.specs.Lowering.{BTL, lit, join, timed, turn, paired, lowered, size, joined, topOf, rowsOf, rowsAll, topsAll, lows}
@@ -129,8 +129,8 @@ module _ (f : ℕ → ℕ) where
     each-there (c ∷ cs) b d S s = (
       record { to = d; slides = run f b d (size c + total size cs) S b d 0 (size c) (omega arith) (omega arith) (omega arith); rows = at-left Is d (rowsOf (renB c) d) (rowsAll (map renB cs) (d + size (renB c))) s },
       each-there cs (b + size c) (d + size (renB c))
-      (run f b d (size c + total size cs) S (b + size c) (d + size (renB c)) (size c) (total size cs) (omega arith) (omega (arith, size-ren c)) (omega arith))
-      (at-right Is d (d + size (renB c)) (rowsOf (renB c) d) (rowsAll (map renB cs) (d + size (renB c))) (omega (arith, length-rows (renB c) d)) s),
+          (run f b d (size c + total size cs) S (b + size c) (d + size (renB c)) (size c) (total size cs) (omega arith) (omega (arith, size-ren c)) (omega arith))
+          (at-right Is d (d + size (renB c)) (rowsOf (renB c) d) (rowsAll (map renB cs) (d + size (renB c))) (omega (arith, length-rows (renB c) d)) s),
     )
 
     -- The rows of a list of formulas are kept.

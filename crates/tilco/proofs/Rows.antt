@@ -2,11 +2,11 @@
 -- Assumes nothing.
 use mathlib.Core.Path.{_≡_, refl}
 use mathlib.Core.Bool.{Bool, true, false}
-use mathlib.Core.List.{List, [], _∷_, _++_}
+use mathlib.Core.List.{List, [], _∷_}
 use Prim.Native.Nat.{ℕ, suc, _+_, _<_}
 use native.Mathlib.Omega.{arith}
 use lib.ListN.{length, length-append, replicate, length-replicate}
-use Rattle.tilco.specs.Lists.{total, tab}
+use Rattle.tilco.specs.Lists.{total}
 use Rattle.tilco.specs.Inference.{Node, signal, notOf, gate, look, node}
 use Rattle.tilco.specs.Lowering.{BTL, lit, join, timed, size, joined, topOf, rowsOf, rowsAll, assembled, parts}
 use Rattle.tilco.proofs.Lists.{length-tab, length-laid}

@@ -1,7 +1,7 @@
 -- Lowering keeps the meaning: a formula lowered in a sense is worth the formula's value in that sense.
 -- Assumes nothing.
 use mathlib.Core.Path.{_≡_, refl, sym, _∙_, ap, ap₂, fun-ext}
-use mathlib.Core.Bool.{Bool, true, false, not, _&&_, _||_, Bool·not-not}
+use mathlib.Core.Bool.{Bool, true, false, not, _||_, Bool·not-not}
 use Prim.Native.Nat.{ℕ, zero, suc, _+_}
 use lib.IntN.{ℤ}
 use Rattle.tilco.specs.Formula.{Op, And, Or, Implies, Iff, Formula}

@@ -1,17 +1,17 @@
 -- The rows of a sheet's rules are found among those of any sheet that has these rules, in whatever order and however often.
 -- Assumes that every name is declared.
-use mathlib.Core.Path.{_≡_, refl, sym, _∙_, ap, ap₂, subst}
+use mathlib.Core.Path.{_≡_, refl, sym, _∙_, ap, subst}
 use mathlib.Core.Bool.{Bool, true, false, not}
 use mathlib.Core.List.{List, [], _∷_, _++_, map-append, List·Memᴰ, List·Memᴰ·head, List·Memᴰ·tail, List·Memᴰ·not-nil, List·Memᴰ·append-cases, Memᴰ·append-left, Memᴰ·append-right}
 use mathlib.Core.Logic.{_⊎_, inl, inr}
-use Prim.Native.Nat.{ℕ, zero, suc, _+_, _<_}
+use Prim.Native.Nat.{ℕ, suc, _+_, _<_}
 use native.Mathlib.Nat.{zero-add}
 use native.Mathlib.Omega.{arith}
 use lib.ListN.{replicate, length-replicate}
 use Rattle.tilco.specs.Lists.{All, total, laid}
 use Rattle.tilco.specs.Formula.{Op, And, Or, Implies, Iff, Written, Formula, hiddens, plain, defining, definings, spelled, Sheet, signalRows, withRules, Named, Declared}
 use Rattle.tilco.specs.Inference.{Node, signal, Program, node, Mark, mark, Marks, One, down-left, down-right, up-left, up-right, look-down, look-up, not-down, not-up, Two, up-both, rest-right, rest-left, Derives, start, top, one, two, Clash}
-use Rattle.tilco.specs.Lowering.{BTL, lit, join, paired, lowered, size, topOf, rowsOf, rowsAll, topsAll, assembled, lows, program}
+use Rattle.tilco.specs.Lowering.{BTL, lit, paired, lowered, size, topOf, rowsOf, rowsAll, topsAll, lows, program}
 use Rattle.tilco.specs.Table.{Leads}
 use Rattle.tilco.proofs.Lists.{total-append, laid-append}
 use Rattle.tilco.proofs.At.{At, at-left, at-right, at-append, at-self}

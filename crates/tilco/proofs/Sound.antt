@@ -1,18 +1,18 @@
 -- What the rules lead to holds: every derived mark on a row is the value of what the row stands for, and a clash excludes every history.
 -- Assumes a sheet in which every name is declared.
-use mathlib.Core.Path.{_≡_, refl, sym, _∙_, ap, ap₂, subst}
+use mathlib.Core.Path.{_≡_, sym, _∙_, ap, ap₂, subst}
 use mathlib.Core.Bool.{Bool, true, false, not, Bool·not-not, true≢false}
-use mathlib.Core.List.{List, [], _∷_, _++_, map, List·Memᴰ, List·Memᴰ·head, List·Memᴰ·tail, List·Memᴰ·cases-cons, List·Memᴰ·not-nil, Memᴰ·of-map}
+use mathlib.Core.List.{List, [], _∷_, _++_, List·Memᴰ, List·Memᴰ·head, List·Memᴰ·tail, List·Memᴰ·cases-cons, List·Memᴰ·not-nil, Memᴰ·of-map}
 use mathlib.Core.Logic.{_⊎_, inl, inr}
 use Prim.Native.Nat.{ℕ, zero, suc, _+_, _<_}
 use native.Mathlib.Nat.{add-zero, zero-add}
 use native.Mathlib.Omega.{arith}
 use lib.IntN.{ℤ, pos, _-ℤ_, +ℤ-negℤ-cancel}
 use Rattle.tilco.specs.Lists.{All, tab, laid}
-use Rattle.tilco.specs.Formula.{Formula, Sheet, signalRows, formulas, Declared}
+use Rattle.tilco.specs.Formula.{Sheet, signalRows, formulas, Declared}
 use Rattle.tilco.specs.Meaning.{History, moved, gateOf, Obeys}
 use Rattle.tilco.specs.Inference.{Node, signal, notOf, gate, look, Program, node, Mark, mark, Marks, Shifted, One, down-left, down-right, up-left, up-right, look-down, look-up, not-down, not-up, Two, up-both, rest-right, rest-left, Derives, start, top, one, two, Clash}
-use Rattle.tilco.specs.Lowering.{BTL, lit, join, timed, lowered, worth, size, joined, topOf, rowsAll, topsAll, assembled, lows, program, parts, partAt, rowPart}
+use Rattle.tilco.specs.Lowering.{BTL, lit, join, timed, lowered, worth, size, joined, topOf, topsAll, assembled, lows, program, parts, partAt, rowPart}
 use Rattle.tilco.specs.Table.{Leads}
 use Rattle.tilco.proofs.Lists.{length-tab}
 use Rattle.tilco.proofs.At.{At, at-left, at-right, tab-at, at-joined, at-timed, Timed, at-self}

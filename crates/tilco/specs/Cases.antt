@@ -10,7 +10,7 @@ use Prim.Native.String as Str
 use lib.Dec.{T}
 use Rattle.ticks.specs.Ticks.{empty}
 use Rattle.tilco.specs.Lists.{tab}
-use Rattle.tilco.specs.Formula.{And, Or, Implies, Iff, Written, always, sometime, since, Sheet}
+use Rattle.tilco.specs.Formula.{Or, Implies, Iff, Written, always, sometime, since, Sheet}
 use Rattle.tilco.specs.Inference.{Mark, mark, Clash}
 use Rattle.tilco.specs.Lowering.{rowCount}
 use Rattle.tilco.specs.Table.{Standing, tableWords, factsOf, Added, Answer, Unsettled, True, False, Contradiction, Asked}

@@ -1,7 +1,7 @@
 -- The shorter set of rules at which document 004 ends (section 5, "the final set"). It is not ours: the theorem `not-dropped` says why.
 -- Assumes nothing.
 use mathlib.Core.Path.{_≡_}
-use mathlib.Core.Bool.{Bool, true, false}
+use mathlib.Core.Bool.{true, false}
 use mathlib.Core.List.{List·Memᴰ}
 use Prim.Native.Nat.{ℕ, _<_}
 use Rattle.tilco.specs.Inference.{notOf, gate, look, Program, node, mark, Mark, Marks, Shifted}
