@@ -15,6 +15,7 @@ use Rattle.tilco.specs.Inference.{Mark, mark, Clash}
 use Rattle.tilco.specs.Lowering.{rowCount}
 use Rattle.tilco.specs.Table.{Standing, tableWords, factsOf, Added, Answer, Unsettled, True, False, Contradiction, Asked}
 
+-- A sheet as it is read, readings, and what the listing then says: rows, facts, clash and each signal's marks.
 pub record Case : Type 0 where
   pub sheet : Sheet
   pub readings : List Mark
@@ -30,6 +31,7 @@ signOf True = "1"
 signOf False = "0"
 signOf Contradiction = "x"
 
+-- A signal's marks.
 abbrev pub signs : List Answer → String
 signs [] = ""
 signs (x ∷ xs) = Str._++_ (signOf x) (signs xs)
@@ -45,9 +47,11 @@ pub record Holds (c : Case) : Type 0 where
   pub asked : (x t : ℕ) → Asked (Standing (c .sheet) table) x t (answers x t)
   pub marks : tab (λ x. signs (tab (answers x) (c .sheet .window))) (c .sheet .signals) ≡ c .marks
 
+-- Window, signals, rules and readings; then rows, facts, clash and marks.
 abbrev case : ℕ → ℕ → List Written → List Mark → ℕ → ℕ → Bool → List String → Case
 case W n ws R r k x ms = record { sheet = record { window = W; signals = n; rules = ws }; readings = R; rows = r; facts = k; clash = x; marks = ms }
 
+-- The first three signals.
 abbrev a : Written
 a = Written.name 0
 
@@ -57,7 +61,7 @@ b = Written.name 1
 abbrev c : Written
 c = Written.name 2
 
--- clear2@[-3,0]=>go10 and go10=>open10@[2,2]
+-- P1: clear2@[-3,0]=>go10 and go10=>open10@[2,2], with clear2 true at 3, 4, 5, 6
 abbrev p1-first : Written
 p1-first = Written.pair Implies (always 61 3 a) b
 

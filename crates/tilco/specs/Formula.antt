@@ -18,17 +18,19 @@ pub data Written : Type 0 where
   time : Bool → ℕ → ℕ → Written → Written
   keep : Bool → Written → Written → Written
 
--- f@i and f?i.
+-- f@i.
 abbrev pub always : ℕ → ℕ → Written → Written
 always = Written.time true
 
+-- f?i.
 abbrev pub sometime : ℕ → ℕ → Written → Written
 sometime = Written.time false
 
--- since(A,B) and until(A,B).
+-- since(A,B).
 abbrev pub since : Written → Written → Written
 since = Written.keep true
 
+-- until(A,B).
 abbrev pub until : Written → Written → Written
 until = Written.keep false
 
@@ -55,7 +57,7 @@ plain x (Written.pair o f g) = Formula.pair o (plain x f) (plain (x + hiddens f)
 plain x (Written.time u lo n f) = Formula.time u lo n (plain x f)
 plain x (Written.keep b f g) = sig x
 
--- [-1,-1] for since and [1,1] for until.
+-- [-1,-1] for since and [1,1] for until, with 64 added.
 abbrev pub stepOf : Bool → ℕ
 stepOf true = 63
 stepOf false = 65

@@ -28,6 +28,7 @@ node P r = getD (P .rows) r signal
 pub data Mark : Type 0 where
   mark : ℕ → ℕ → Bool → Mark
 
+-- A set of marks.
 abbrev pub Marks : Type 1
 Marks = Mark → Type 0
 

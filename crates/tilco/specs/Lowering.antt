@@ -71,10 +71,11 @@ rowsOf (timed u lo n a) b =
     ++ (tab (λ j. look (lo + j) (topOf a b)) (suc n)
     ++ tab (λ j. gate u (joined (b + size a) (b + size a + suc n) j) (b + size a + suc j)) n)
 
--- The rows and the tops of formulas one after the other, the first row being b.
+-- The rows of formulas one after the other, the first row being b.
 abbrev pub rowsAll : List BTL → ℕ → List Node
 rowsAll = laid size rowsOf
 
+-- Their top rows.
 abbrev pub topsAll : List BTL → ℕ → List ℕ
 topsAll = laid size (λ c b. topOf c b ∷ [])
 
@@ -105,5 +106,6 @@ parts (timed u lo n a) = parts a ++ (tab (λ j. timed u (lo + j) 0 a) (suc n) ++
 abbrev pub partAt : ℕ → List BTL → ℕ → BTL
 partAt m cs r = getD (tab (lit true) m ++ laid size (λ c b. parts c) cs m) r (lit true 0)
 
+-- What a row of the sheet stands for.
 abbrev pub rowPart : Sheet → ℕ → BTL
 rowPart s = partAt (signalRows s) (lows (formulas s))

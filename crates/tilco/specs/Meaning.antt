@@ -25,6 +25,7 @@ abbrev pub span : Bool → (ℕ → Bool) → ℕ → ℕ → Bool
 span u p lo zero = p lo
 span u p lo (suc n) = gateOf u (span u p lo n) (p (lo + suc n))
 
+-- What a sign makes of its two sides' values.
 abbrev pub opOf : Op → Bool → Bool → Bool
 opOf And x y = x && y
 opOf Or x y = x || y

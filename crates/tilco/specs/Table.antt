@@ -22,6 +22,7 @@ words W = (W + 63) / 64
 abbrev pub Stands : ℕ → List ℕ → Marks
 Stands n T (mark r t v) = Marked 64 n T r t v
 
+-- The mark stands in the sheet's table.
 abbrev pub Standing : Sheet → List ℕ → Marks
 Standing s T = Stands (words (s .window)) T
 
@@ -37,6 +38,7 @@ Inside W S = (r t : ℕ) (v : Bool) → S (mark r t v) → t < W
 abbrev pub facts : ℕ → ℕ → List ℕ → ℕ
 facts n k T = tally T (2 * k * n)
 
+-- The facts of the sheet's table.
 abbrev pub factsOf : Sheet → List ℕ → ℕ
 factsOf s T = facts (words (s .window)) (s .signals) T
 
