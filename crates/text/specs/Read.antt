@@ -1,0 +1,20 @@
+-- What reading a text finds, and what a reader's answer says (01, "Numbers of refusal").
+-- Assumes nothing.
+use Prim.Native.Nat.{ℕ}
+use Rattle.text.specs.declared.lines.Step.{Step}
+use Rattle.text.specs.declared.lines.Step.the-variants.{Got, Refused}
+
+-- A value and the place after it, or a refusal's number and place.
+pub data Read (A : Type 0) : Type 0 where
+  got : A → ℕ → Read A
+  refused : ℕ → ℕ → Read A
+
+-- Go on with what was read, or hand the refusal on.
+abbrev pub andThen : {A B : Type 0} → Read A → (A → ℕ → Read B) → Read B
+andThen (got a q) k = k a q
+andThen (refused n p) k = refused n p
+
+-- What each case of a reader's answer says.
+abbrev pub says : Step → Read ℕ
+says (Got v q) = got v q
+says (Refused n p) = refused n p
