@@ -1,0 +1,5 @@
+pub mod Puts
+pub mod Read
+pub mod Helds
+pub mod Keeps
+pub mod Cases
