@@ -1,0 +1,107 @@
+-- A reading's lines: each answer of the reader, and what an accepted reading is.
+-- Assumes nothing.
+use mathlib.Core.Path.{_≡_, sym}
+use mathlib.Core.List.{List}
+use Prim.Native.Nat.{ℕ, _+_, _-_, _<_, _≤_}
+use native.Mathlib.Omega.{arith}
+use borrow.Author.Tests.{lt-ltb, le-ltb, ltb-true}
+use lib.Dec.{ltb, eqb}
+use lib.ListN.{length}
+use Rattle.text.specs.Read.Read.{got, refused}
+use Rattle.text.specs.Bytes.{bytes}
+use Rattle.text.specs.declared.words.Word.{Word}
+use Rattle.text.specs.declared.words.Word.the-variants.{Name, Other}
+use Rattle.text.specs.Words.{wordAt, namesAt, findName, nameAt}
+use Rattle.text.specs.Lines.{line, wholeName, rangedLine, nameLine}
+use Rattle.text.proofs.Places.{Reach}
+use Rattle.text.proofs.Names.{names-many}
+use Rattle.text.proofs.Answers.{not-both, same-value, same-place, through, came}
+use Rattle.text.proofs.Keyed.{placed, name-past, ranged-past}
+use Rattle.tilco.specs.Inference.{Mark, mark}
+use Rattle.readings.specs.Readings.{knownLine, reading}
+
+-- The place of a name that is read is its value.
+name-value : (v content e : ℕ) (w : Word) {x q : ℕ} → wholeName v content e w ≡ got x q → v ≡ x
+name-value v content e (Name z) f = through (eqb z e) v (e + 1) content v f .1
+name-value v content e Other f = absurd (not-both (sym f))
+
+-- A name that is read stands inside the text.
+pub name-place : (s : List ℕ) (p : ℕ) (key : List ℕ) (form content : ℕ) {v q : ℕ} → nameLine s p key form content ≡ got v q → v ≤ length s
+unfolding nameLine
+name-place s p key form content h =
+    let d = came (line s p key form) _ h in
+    let w = placed s p key form (d .first) in
+    omega (arith, w .order, w .inside, name-value (d .value) content (d .place) (nameAt s (d .value)) (d .then))
+
+-- A name that is read: its number among the names at places of the sheet, or its refusal.
+module _ (s ps r : List ℕ) (p : ℕ) {v q : ℕ} (a : nameLine r p (bytes "signal=") 11 12 ≡ got v q) (i : ℕ) (e : i ≡ findName (wordAt r v) (namesAt s ps)) where
+  pub known-is : i < length ps → got i q ≡ knownLine (namesAt s ps) r p
+  unfolding knownLine
+  known-is h =
+      let l : findName (wordAt r v) (namesAt s ps) < length (namesAt s ps) = omega (arith, names-many s ps) in
+      rw (a, lt-ltb (findName (wordAt r v) (namesAt s ps)) (length (namesAt s ps)) l, e)
+
+  pub known-not : length ps ≤ i → refused 12 v ≡ knownLine (namesAt s ps) r p
+  unfolding knownLine
+  known-not h =
+      let l : length (namesAt s ps) ≤ findName (wordAt r v) (namesAt s ps) = omega (arith, names-many s ps) in
+      rw (a, le-ltb (findName (wordAt r v) (namesAt s ps)) (length (namesAt s ps)) l)
+
+-- What follows a line with a declared name stands after it.
+pub known-past : (names : List (List ℕ)) (r : List ℕ) (p : ℕ) {i q : ℕ} → knownLine names r p ≡ got i q → Reach r (p + 1) q × (i < length names)
+unfolding knownLine
+known-past names r p h =
+    let d = came (nameLine r p (bytes "signal=") 11 12) _ h in
+    let w = name-past r p (bytes "signal=") 11 12 (d .first) in
+    let x = through (ltb (findName (wordAt r (d .value)) names) (length names)) (findName (wordAt r (d .value)) names) (d .place) 12 (d .value) (d .then) in
+    let y = ltb-true (findName (wordAt r (d .value)) names) (length names) (x .0) in
+    (record { ahead = omega (arith, x .2, w .ahead); inside = omega (arith, x .2, w .inside) }, omega (arith, x .1, y))
+
+-- The mark is of one of k signals at a tick of the window W.
+abbrev pub Within : ℕ → ℕ → Mark → Type 0
+Within k W (mark x t v) = (x < k) × (t < W)
+
+-- An accepted reading: what follows it stands after it, and its mark is within bounds.
+pub record Read-past (k W : ℕ) (r : List ℕ) (p : ℕ) (m : Mark) (q : ℕ) : Type 0 where
+  pub past : Reach r (p + 1) q
+  pub within : Within k W m
+
+module _ (names : List (List ℕ)) (W : ℕ) (r : List ℕ) (p : ℕ) where
+  -- The refusal of a line is the reading's, once those before it are accepted.
+  pub refused-first : {n k : ℕ} → rangedLine r p (bytes "at=") 11 13 0 (W - 1) ≡ refused n k → refused n k ≡ reading names W r p
+  unfolding reading
+  refused-first a = rw a
+
+  module _ {t q : ℕ} (a : rangedLine r p (bytes "at=") 11 13 0 (W - 1) ≡ got t q) where
+    pub refused-second : {n k : ℕ} → knownLine names r q ≡ refused n k → refused n k ≡ reading names W r p
+    unfolding reading
+    refused-second b = rw (a, b)
+
+    module _ {x u : ℕ} (b : knownLine names r q ≡ got x u) where
+      pub refused-third : {n k : ℕ} → rangedLine r u (bytes "value=") 11 14 0 1 ≡ refused n k → refused n k ≡ reading names W r p
+      unfolding reading
+      refused-third d = rw (a, b, d)
+
+      -- three accepted lines are a reading
+      pub reading-is : {v e : ℕ} → rangedLine r u (bytes "value=") 11 14 0 1 ≡ got v e → got (mark x t (eqb v 1)) e ≡ reading names W r p
+      unfolding reading
+      reading-is d = rw (a, b, d)
+
+  -- Each accepted reading is so.
+  pub reading-past : 1 ≤ W → (m : Mark) {q : ℕ} → reading names W r p ≡ got m q → Read-past (length names) W r p m q
+  unfolding reading
+  reading-past some (mark x t v) {q} e =
+      let a = came (rangedLine r p (bytes "at=") 11 13 0 (W - 1)) _ e in
+      let b = came (knownLine names r (a .place)) _ (a .then) in
+      let d = came (rangedLine r (b .place) (bytes "value=") 11 14 0 1) _ (b .then) in
+      let f = ranged-past r p (bytes "at=") 11 13 0 (W - 1) (a .first) in
+      let g = known-past names r (a .place) (b .first) in
+      let h = ranged-past r (b .place) (bytes "value=") 11 14 0 1 (d .first) in
+      let i : mark (b .value) (a .value) (eqb (d .value) 1) ≡ mark x t v = same-value (d .then) in
+      let j : d .place ≡ q = same-place (d .then) in
+      let k : b .value ≡ x = cc in
+      let l : a .value ≡ t = cc in
+      record {
+        past = record { ahead = omega (arith, f .0 .ahead, g .0 .ahead, h .0 .ahead); inside = omega (arith, h .0 .inside) };
+        within = (omega (arith, g .1), omega (arith, f .2));
+      }

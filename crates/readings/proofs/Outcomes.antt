@@ -1,0 +1,72 @@
+-- Outcomes of taking readings: how each is reached, and that two outcomes for one input coincide.
+-- Assumes what each law states.
+use mathlib.Core.Path.{_≡_, refl, sym, _∙_}
+use mathlib.Core.List.{List}
+use Prim.Native.Nat.{ℕ, _≤_}
+use native.Mathlib.Omega.{arith}
+use Rattle.text.specs.Read.{Read}
+use Rattle.text.specs.Read.Read.{got, refused}
+use Rattle.text.proofs.Answers.{not-both, same-value}
+use Rattle.ticks.specs.Ticks.{Small}
+use Rattle.ticks.proofs.Tables.{same-table}
+use Rattle.tilco.specs.Inference.{Mark, mark}
+use Rattle.readings.specs.declared.whole.Outcome.{Outcome}
+use Rattle.readings.specs.declared.whole.Outcome.the-variants.{Accepted, Refused}
+use Rattle.readings.specs.Taking.{Checked, Puts, Took}
+use Rattle.readings.specs.Taking.Checked.{accepted, refused-at}
+use Rattle.readings.specs.Taking.Took.{taken, kept}
+use Rattle.readings.proofs.Marks.{puts-same}
+
+-- No text is both accepted and refused.
+other-outcome : {k p : ℕ} → Accepted ≡ Refused k p → ⊥
+other-outcome e = let z : _≡_ {A = ℕ} 0 1 = cc in omega arith
+
+-- A refused text leaves the table as it is.
+pub not-taken : {R : Read (List Mark)} {a : Outcome} {k p : ℕ} (n : ℕ) (T : List ℕ) → Checked R a → a ≡ Refused k p → Took R n T T a
+not-taken n T (accepted ms q e) x = absurd (other-outcome x)
+not-taken n T (refused-at k p e) x = kept k p e refl
+
+-- An accepted text is taken where its marks are put.
+pub all-taken : {R : Read (List Mark)} {a : Outcome} (n : ℕ) (T T′ : List ℕ) → Checked R a → a ≡ Accepted
+    → ((ms : List Mark) (q : ℕ) → R ≡ got ms q → Puts n ms T T′) → Took R n T T′ a
+all-taken n T T′ (accepted ms q e) x f = taken ms q e (f ms q e)
+all-taken n T T′ (refused-at k p e) x f = absurd (other-outcome (sym x))
+
+-- What an accepted text says: its marks are put.
+pub record Accepted-as (R : Read (List Mark)) (n : ℕ) (T T′ : List ℕ) : Type 0 where
+  pub marks : List Mark
+  pub place : ℕ
+  pub all : R ≡ got marks place
+  pub puts : Puts n marks T T′
+
+pub when-accepted : {R : Read (List Mark)} {n : ℕ} {T T′ : List ℕ} {a : Outcome} → Took R n T T′ a → a ≡ Accepted → Accepted-as R n T T′
+when-accepted (taken ms q e f) x = record { marks = ms; place = q; all = e; puts = f }
+when-accepted (kept k p e f) x = absurd (other-outcome (sym x))
+
+-- What a refusal says: the text has it, and every word is kept.
+pub when-refused : {R : Read (List Mark)} {n : ℕ} {T T′ : List ℕ} {a : Outcome} {k p : ℕ} → Took R n T T′ a → a ≡ Refused k p → (R ≡ refused k p) × (T′ ≡ T)
+when-refused (taken ms q e f) x = absurd (other-outcome x)
+when-refused {k = k} {p = p} (kept l q e f) x =
+    let i : l ≡ k = cc in
+    let j : q ≡ p = cc in
+    (cc, f)
+
+-- The same marks put into the same table give the same table, word for word.
+pub puts-one : (n : ℕ) → 1 ≤ n → {ms : List Mark} {T T′ T″ : List ℕ} → Small 64 T′ → Small 64 T″ → Puts n ms T T′ → Puts n ms T T″ → T′ ≡ T″
+puts-one n some {ms} {T} {T′} {T″} s z a b =
+    same-table n some 64 T′ T″ (a .size ∙ sym (b .size)) s z
+    (λ r t v m. b .exactly (mark r t v) .1 (a .exactly (mark r t v) .0 m))
+    (λ r t v m. a .exactly (mark r t v) .1 (b .exactly (mark r t v) .0 m))
+
+-- Two outcomes for one text and one table coincide, and so do the tables that they leave.
+pub outcomes-coincide : {R : Read (List Mark)} {n : ℕ} {T T′ T″ : List ℕ} {a b : Outcome} → 1 ≤ n → Small 64 T′ → Small 64 T″
+    → Took R n T T′ a → Took R n T T″ b → (a ≡ b) × (T′ ≡ T″)
+outcomes-coincide {n = n} some s z (taken ms q e f) (taken ns u g h) =
+    (refl, puts-one n some s z f (puts-same (same-value (sym g ∙ e)) h))
+outcomes-coincide some s z (taken ms q e f) (kept l u g h) = absurd (not-both (sym e ∙ g))
+outcomes-coincide some s z (kept k p e f) (taken ns u g h) = absurd (not-both (sym g ∙ e))
+outcomes-coincide some s z (kept k p e f) (kept l u g h) =
+    let y : _≡_ {A = Read (List Mark)} (refused k p) (refused l u) = sym e ∙ g in
+    let i : k ≡ l = cc in
+    let j : p ≡ u = cc in
+    (cc, f ∙ sym h)
