@@ -16,7 +16,7 @@ use Rattle.text.specs.Lines.{line, wholeName, rangedLine, nameLine}
 use Rattle.text.proofs.Places.{Reach}
 use Rattle.text.proofs.Names.{names-many}
 use Rattle.text.proofs.Answers.{not-both, same-value, same-place, through, came}
-use Rattle.text.proofs.Keyed.{placed, name-past, ranged-past}
+use Rattle.text.proofs.Keyed.{placed, name-held, line-past, ranged-past}
 use Rattle.tilco.specs.Inference.{Mark, mark}
 use Rattle.readings.specs.Readings.{knownLine, reading}
 
@@ -52,7 +52,7 @@ pub known-past : (names : List (List ℕ)) (r : List ℕ) (p : ℕ) {i q : ℕ} 
 unfolding knownLine
 known-past names r p h =
     let d = came (nameLine r p (bytes "signal=") 11 12) _ h in
-    let w = name-past r p (bytes "signal=") 11 12 (d .first) in
+    let w = line-past (name-held r p (bytes "signal=") 11 12 (d .first)) in
     let x = through (ltb (findName (wordAt r (d .value)) names) (length names)) (findName (wordAt r (d .value)) names) (d .place) 12 (d .value) (d .then) in
     let y = ltb-true (findName (wordAt r (d .value)) names) (length names) (x .0) in
     (record { ahead = omega (arith, x .2, w .ahead); inside = omega (arith, x .2, w .inside) }, omega (arith, x .1, y))
