@@ -1,0 +1,6 @@
+pub mod Ends
+pub mod Spans
+pub mod Levels
+pub mod Rooms
+pub mod Steps
+pub mod Timed

@@ -1,0 +1,3 @@
+pub mod Interval
+pub mod Grammar
+pub mod Parsed
