@@ -1,0 +1,11 @@
+-- The laws, one idea a file.
+pub mod Cut
+pub mod Signals
+pub mod Heads
+pub mod Ruled
+pub mod Answers
+pub mod Wholes
+pub mod Stays
+pub mod Formulas
+pub mod Accepted
+pub mod Examples

@@ -1,0 +1,84 @@
+-- A sheet, from its first line to its last (01, "The sheet" and "Numbers of refusal" 1 to 8).
+-- Assumes nothing. `s` is the sheet's text and p a place in it; `names` are the declared names in sheet order.
+use Prim.Native.Nat.{ℕ, _+_, _-_, _≤_}
+use mathlib.Core.List.{List, []}
+use lib.ListN.{length, take}
+use lib.Dec.{leb, eqb}
+use Rattle.text.specs.Read.{Read, andThen}
+use Rattle.text.specs.Read.Read.{got, refused}
+use Rattle.text.specs.Bytes.{bytes, pick, between}
+use Rattle.text.specs.Words.{wordAt, namesAt, findName}
+use Rattle.text.specs.Lines.{line, rangedLine, nameLine, inTurn}
+use Rattle.tilco.specs.Formula as tilco
+use Rattle.tilco.specs.Formula.{Written}
+use Rattle.formula.specs.Grammar.{rule}
+
+-- The line `signal=` with a name, after those at `places`: the place of the name, and the place after the line. A name given twice is 4.
+unfoldable pub signalLine : List ℕ → List ℕ → ℕ → Read ℕ
+signalLine s places p =
+    andThen (nameLine s p (bytes "signal=") 2 4) (λ v q.
+    pick (eqb (findName (wordAt s v) (namesAt s places)) (length places)) (λ _. got v q) (refused 4 v))
+
+-- What stands before the rules: the window, the place of each signal's name, and how many rules there are.
+pub record Head : Type 0 where
+  pub window : ℕ
+  pub places : List ℕ
+  pub count : ℕ
+
+-- A head of these parts.
+abbrev pub headOf : ℕ → List ℕ → ℕ → Head
+headOf w places m = record { window = w; places = places; count = m }
+
+-- "Fixed order: `window=`, `signals=`, one `signal=` a signal, `rules=`": the head, and the place of the first rule's line.
+unfoldable pub head : List ℕ → Read Head
+head s =
+    andThen (rangedLine s 0 (bytes "window=") 2 3 1 64) (λ w p.
+    andThen (rangedLine s p (bytes "signals=") 2 3 1 64) (λ n q.
+    andThen (inTurn (signalLine s) n [] q) (λ places u.
+    andThen (rangedLine s u (bytes "rules=") 2 3 0 64) (λ m e. got (headOf w places m) e))))
+
+-- A rule from v to its LF at e, and the place after the line. "A rule has 1 to 256 bytes", else 5 at v, before its formula is read.
+unfoldable pub ruleTo : List (List ℕ) → List ℕ → ℕ → ℕ → Read Written
+ruleTo names s v e = pick (between 1 256 (e - v)) (λ _. andThen (rule names (take e s) v) (λ w q. got w (e + 1))) (refused 5 v)
+
+-- The line `rule=` with a rule.
+unfoldable pub ruleLine : List (List ℕ) → List ℕ → ℕ → Read Written
+ruleLine names s p = andThen (line s p (bytes "rule=") 2) (λ v e. ruleTo names s v e)
+
+-- The lines of m rules.
+unfoldable pub rules : List (List ℕ) → List ℕ → ℕ → ℕ → Read (List Written)
+rules names s m p = inTurn (λ _ q. ruleLine names s q) m [] p
+
+-- What a sheet says: the window, the place of each signal's name, and the rules.
+pub record Contents : Type 0 where
+  pub window : ℕ
+  pub places : List ℕ
+  pub rules : List Written
+
+-- Contents of these parts.
+abbrev pub contents : ℕ → List ℕ → List Written → Contents
+contents w places ws = record { window = w; places = places; rules = ws }
+
+-- "Then the end": 2 at bytes that follow the last line, which ends at q.
+abbrev pub atEnd : List ℕ → Contents → ℕ → Read Contents
+atEnd s k q = pick (eqb q (length s)) (λ _. got k q) (refused 2 q)
+
+-- A whole sheet, at most 32,768 bytes.
+unfoldable pub sheetOf : List ℕ → Read Contents
+sheetOf s =
+    pick (leb (length s) 32768) (λ _.
+    andThen (head s) (λ h p.
+    andThen (rules (namesAt s (h .places)) s (h .count) p) (λ ws q. atEnd s (contents (h .window) (h .places) ws) q)))
+    (refused 1 0)
+
+-- The sheet that is meant: each signal by its number.
+abbrev pub meant : Contents → tilco.Sheet
+meant k = record { window = k .window; signals = length (k .places); rules = k .rules }
+
+-- Every interval in the rule has whole numbers from -63 to 63 only, as reading it ensures (refusal 7).
+abbrev pub Near : Written → Type 0
+Near (Written.name x) = Unit {0}
+Near (Written.neg f) = Near f
+Near (Written.pair o f g) = Near f × Near g
+Near (Written.time u first more f) = (1 ≤ first) × (first + more ≤ 127) × Near f
+Near (Written.keep b f g) = Near f × Near g

@@ -1,0 +1,64 @@
+// The lines of the rules. Assumes nothing of the text. The names are those at `places` of the sheet text `s`, before the rules.
+use formula::parser::Parsed;
+use formula::parser::rule;
+use text::lines::Step;
+use text::lines::line_at;
+ghost use Prim.Native.Nat.{_≤_};
+ghost use lib.ListN.{length};
+ghost use Rattle.text.specs.Words.{namesAt};
+ghost use Rattle.tilco.specs.Lists.{All};
+ghost use Rattle.sheet.specs.Sheet.{ruleTo, ruleLine, rules};
+ghost use Rattle.sheet.specs.Reading.{Ready, Ended, RuleRead, RulesRead};
+
+// The rule from `v` to its LF at `e`, read into the arena. Its hidden signals are numbered from `hidden`.
+fn rule_to(s: &[u8], places: &[u64], arena: &mut [u16], v: usize, e: usize, hidden: usize) -> Parsed
+    requires { ⌜ Ready (now s) (now arena) (now places) v hidden × Ended (now s) v e ⌝ }
+    ensures { λ r. ⌜ RuleRead (now (arena .exit)) hidden (ruleTo (namesAt (now (s .entry)) (now (places .entry))) (now (s .entry)) v e) r ⌝ }
+{
+    let n = e - v;
+    match n {
+        1..=256 => {}
+        _ => return Parsed::Refused(5, v),
+    }
+    let r = rule(&s[..e], places, arena, v, hidden);
+    let Parsed::Got(_, nodes, rows) = r else {
+        return r;
+    };
+    let next = e + 1;
+    Parsed::Got(next, nodes, rows)
+}
+
+// The line at `at` with a rule, read into the arena: the place after the line, the nodes used, and the next hidden signal's row.
+pub fn rule_line(s: &[u8], places: &[u64], arena: &mut [u16], at: usize, hidden: usize) -> Parsed
+    requires { ⌜ Ready (now s) (now arena) (now places) at hidden ⌝ }
+    ensures { λ r. ⌜ RuleRead (now (arena .exit)) hidden (ruleLine (namesAt (now (s .entry)) (now (places .entry))) (now (s .entry)) at) r ⌝ }
+{
+    let l = line_at(s, at, b"rule=", 2);
+    match l {
+        Step::Got(v, e) => rule_to(s, places, arena, v, e, hidden),
+        Step::Refused(n, p) => Parsed::Refused(n, p),
+    }
+}
+
+// The lines of `m` rules from `at` on: how many hidden signals they have, and the place after the lines. The arena serves each rule in turn.
+pub fn check_rules(s: &[u8], places: &[u64], m: usize, at: usize) -> Step
+    requires { ⌜ (m ≤ 64) × (at ≤ length (now s)) × (length (now places) ≤ 64) × All (λ v. v ≤ at) (now places) ⌝ }
+    ensures { λ r. ⌜ RulesRead (rules (namesAt (now (s .entry)) (now (places .entry))) (now (s .entry)) m at) r ⌝ }
+{
+    let mut arena = [0u16; 1024];
+    let mut i = 0;
+    let mut p = at;
+    let mut hidden = 0;
+    while i < m {
+        let r = rule_line(s, places, &mut arena, p, hidden);
+        match r {
+            Parsed::Got(next, _, rows) => {
+                p = next;
+                hidden = rows;
+                i += 1;
+            }
+            Parsed::Refused(n, k) => return Step::Refused(n, k),
+        }
+    }
+    Step::Got(hidden, p)
+}
