@@ -1,0 +1,120 @@
+-- `run_readings` meets its contract. Assumes nothing.
+use native.Mathlib.Omega.{arith}
+use lib.ListN.{length-take}
+use Rattle.sheet.proofs.Answers.{when-sheet}
+use borrow.Author.Needs.{needs}
+use Rattle.reading_runs.proofs.run_readings.Statement.{statement}
+use Rattle.reading_runs.proofs.run_readings.Tie as tie
+
+large-buffer-requires : tie.Need-large-buffer-requires
+large-buffer-requires c κs = search needs
+
+slice-aggregate-text-under : tie.Need-slice-aggregate-text-under
+slice-aggregate-text-under c = search needs
+
+text-under-requires : tie.Need-text-under-requires
+text-under-requires c κs = search needs
+
+large-buffer-requires-2 : tie.Need-large-buffer-requires-2
+large-buffer-requires-2 c κs = search needs
+
+slice-aggregate-text-under-2 : tie.Need-slice-aggregate-text-under-2
+slice-aggregate-text-under-2 c = search needs
+
+text-under-requires-2 : tie.Need-text-under-requires-2
+text-under-requires-2 c κs = search needs
+
+array-share-prefix-lines : tie.Need-array-share-prefix-lines
+array-share-prefix-lines c = search needs
+
+slice-aggregate-s : tie.Need-slice-aggregate-s
+slice-aggregate-s c = search needs
+
+slice-aggregate-read-sheet : tie.Need-slice-aggregate-read-sheet
+slice-aggregate-read-sheet c = search needs
+
+read-sheet-requires : tie.Need-read-sheet-requires
+read-sheet-requires c κs = search needs
+
+enum-known-window : tie.Need-enum-known-window
+enum-known-window c = search needs
+
+enum-told : tie.Need-enum-told
+enum-told c = search needs
+
+slice-aggregate-write-all : tie.Need-slice-aggregate-write-all
+slice-aggregate-write-all c = search needs
+
+write-all-requires : tie.Need-write-all-requires
+write-all-requires c κs = search needs
+
+returns : tie.Need-returns
+returns c = search needs
+
+array-share-prefix-places : tie.Need-array-share-prefix-places
+array-share-prefix-places c = let w = when-sheet (c .before .before .before .before .read-sheet .ensures) (c .before .window .given .1) in omega (arith, w .sizes .signals-high)
+
+slice-aggregate-check-readings : tie.Need-slice-aggregate-check-readings
+slice-aggregate-check-readings c = let w = when-sheet (c .before .before .before .before .before .read-sheet .ensures) (c .before .before .window .given .1) in simp length-take (omega (arith, w .sizes .signals-high))
+
+array-share-prefix-buffer : tie.Need-array-share-prefix-buffer
+array-share-prefix-buffer c = search needs
+
+slice-aggregate-check-readings-2 : tie.Need-slice-aggregate-check-readings-2
+slice-aggregate-check-readings-2 c = search needs
+
+check-readings-requires : tie.Need-check-readings-requires
+check-readings-requires c κs = let w = when-sheet (c .before .before .before .before .before .before .read-sheet .ensures) (c .before .before .before .window .given .1) in w .sizes .window-low
+
+enum-told-2 : tie.Need-enum-told-2
+enum-told-2 c = search needs
+
+slice-aggregate-write-all-2 : tie.Need-slice-aggregate-write-all-2
+slice-aggregate-write-all-2 c = search needs
+
+write-all-requires-2 : tie.Need-write-all-requires-2
+write-all-requires-2 c κs = search needs
+
+enum-known-answer : tie.Need-enum-known-answer
+enum-known-answer c = search needs
+
+print-refusal-requires : tie.Need-print-refusal-requires
+print-refusal-requires c κs = search needs
+
+returns-2 : tie.Need-returns-2
+returns-2 c = search needs
+
+returns-3 : tie.Need-returns-3
+returns-3 c = search needs
+
+pub run-readings-spec : {M : Type 1} → statement M
+run-readings-spec =
+    tie.close
+    (tie.spec
+    large-buffer-requires
+    slice-aggregate-text-under
+    text-under-requires
+    large-buffer-requires-2
+    slice-aggregate-text-under-2
+    text-under-requires-2
+    array-share-prefix-lines
+    slice-aggregate-s
+    slice-aggregate-read-sheet
+    read-sheet-requires
+    enum-known-window
+    enum-told
+    slice-aggregate-write-all
+    write-all-requires
+    returns
+    array-share-prefix-places
+    slice-aggregate-check-readings
+    array-share-prefix-buffer
+    slice-aggregate-check-readings-2
+    check-readings-requires
+    enum-told-2
+    slice-aggregate-write-all-2
+    write-all-requires-2
+    enum-known-answer
+    print-refusal-requires
+    returns-2
+    returns-3)
