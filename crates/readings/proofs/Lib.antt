@@ -4,4 +4,4 @@ pub mod Turns
 pub mod Marks
 pub mod Outcomes
 pub mod Bounds
-pub mod Staying
+pub mod Stays

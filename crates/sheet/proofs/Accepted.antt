@@ -14,17 +14,14 @@ use Rattle.text.specs.Words.{wordAt, namesAt, findName}
 use Rattle.text.specs.Lines.{line, rangedLine, nameLine, inTurn}
 use Rattle.text.proofs.Keyed.{placed}
 use Rattle.text.proofs.Names.{names-many}
+use Rattle.text.proofs.Stays.{Stays, Any, then-stays, pick-stays, stays-longer, stays-got, stays-refused, line-stays, ranged-stays, name-stays}
 use Rattle.tilco.specs.Formula.{Named, Declared}
 use Rattle.tilco.specs.Lists.{All}
 use Rattle.tilco.proofs.Lists.{all-weaker}
 use Rattle.formula.specs.Grammar.{rule}
-use Rattle.sheet.specs.Sheet.{signalLine, Head, headOf, head, ruleTo, ruleLine, rules, Contents, contents, sheetOf, meant, Near}
-use Rattle.sheet.proofs.Stays.{Stays, Any, then-stays, pick-stays, stays-longer, turn-stays, stays-got, stays-refused, line-stays, ranged-stays, name-stays}
+use Rattle.sheet.specs.Sheet.{signalLine, headOf, head, ruleTo, ruleLine, rules, Contents, contents, sheetOf, meant, Near}
+use Rattle.sheet.proofs.Stays.{turn-stays}
 use Rattle.sheet.proofs.Formulas.{Fits, rule-reads}
-
--- Nothing is asked of a head.
-abbrev AnyHead : Head → Type 0
-AnyHead h = Unit {0}
 
 -- The rules fit the names.
 abbrev FitsAll : Contents → Type 0
@@ -39,16 +36,16 @@ module _ (s : List ℕ) where
       (λ v q e i l.
       pick-stays (λ v. v ≤ length s) (length s) (eqb (findName (wordAt s v) (namesAt s t)) (length t)) (got v q) (refused 4 v) (λ _. (i, l)) i)
 
-  head-stays : Stays AnyHead (length s) (head s)
+  head-stays : Stays Any (length s) (head s)
   unfolding head
   head-stays =
-      then-stays AnyHead (length s) Any (rangedLine s 0 (bytes "window=") 2 3 1 64) _ (ranged-stays s 0 (omega arith) (bytes "window=") 2 3 1 64)
+      then-stays Any (length s) Any (rangedLine s 0 (bytes "window=") 2 3 1 64) _ (ranged-stays s 0 (omega arith) (bytes "window=") 2 3 1 64)
       (λ w p _ _ h.
-      then-stays AnyHead (length s) Any (rangedLine s p (bytes "signals=") 2 3 1 64) _ (ranged-stays s p h (bytes "signals=") 2 3 1 64)
+      then-stays Any (length s) Any (rangedLine s p (bytes "signals=") 2 3 1 64) _ (ranged-stays s p h (bytes "signals=") 2 3 1 64)
       (λ n q _ _ i.
-      then-stays AnyHead (length s) (All (λ v. v ≤ length s)) (inTurn (signalLine s) n [] q) _ (turn-stays (λ v. v ≤ length s) (length s) (signalLine s) signal-stays n [] q i tt)
+      then-stays Any (length s) (All (λ v. v ≤ length s)) (inTurn (signalLine s) n [] q) _ (turn-stays (λ v. v ≤ length s) (length s) (signalLine s) signal-stays n [] q i tt)
       (λ t u _ _ j.
-      then-stays AnyHead (length s) Any (rangedLine s u (bytes "rules=") 2 3 0 64) (λ m e. got (headOf w t m) e) (ranged-stays s u j (bytes "rules=") 2 3 0 64)
+      then-stays Any (length s) Any (rangedLine s u (bytes "rules=") 2 3 0 64) (λ m e. got (headOf w t m) e) (ranged-stays s u j (bytes "rules=") 2 3 0 64)
       (λ m e _ _ k. (tt, k)))))
 
   module _ (names : List (List ℕ)) where
@@ -83,7 +80,7 @@ module _ (s : List ℕ) where
       (andThen (head s) (λ h p. andThen (rules (namesAt s (h .places)) s (h .count) p) (λ ws q. pick (eqb q (length s)) (λ _. got (contents (h .window) (h .places) ws) q) (refused 2 q))))
       (refused 1 0)
       (λ _.
-      then-stays FitsAll (length s) AnyHead (head s) _ head-stays
+      then-stays FitsAll (length s) Any (head s) _ head-stays
       (λ h p _ _ i.
       then-stays FitsAll (length s) (All (Fits (length (namesAt s (h .places))))) (rules (namesAt s (h .places)) s (h .count) p) _ (rules-stay (namesAt s (h .places)) (h .count) p i)
       (λ ws q _ f j.

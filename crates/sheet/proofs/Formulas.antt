@@ -17,6 +17,7 @@ use Rattle.text.specs.Bytes.{byte, bytes, peek, pick, oneOf, classOf, nameByte,
 use Rattle.text.specs.Words.{wordAt, wordEnd, findName, isWord}
 use Rattle.text.proofs.Places.{inside-test}
 use Rattle.text.proofs.Runs.{end-reach}
+use Rattle.text.proofs.Stays.{Stays, then-stays, pick-stays}
 use Rattle.tilco.specs.Formula.{Op, And, Or, Implies, Iff, Written, Named}
 use Rattle.formula.specs.declared.interval.Span.{Span}
 use Rattle.formula.specs.declared.interval.Span.the-variants as span
@@ -25,7 +26,6 @@ use Rattle.formula.specs.Grammar.{Reader, declared, spanThen, times, timedPart,
 use Rattle.formula.proofs.Spans.{Sound, interval-sound}
 use Rattle.formula.proofs.Steps.{InLine, starts-inside, sign-inside}
 use Rattle.sheet.specs.Sheet.{Near}
-use Rattle.sheet.proofs.Stays.{Stays, then-stays, pick-stays}
 
 -- Each name is one of n, and each interval is near.
 abbrev pub Fits : ℕ → Written → Type 0

@@ -9,3 +9,4 @@ pub mod Values
 pub mod Answers
 pub mod Keyed
 pub mod Loops
+pub mod Stays
