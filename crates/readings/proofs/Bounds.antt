@@ -1,10 +1,11 @@
--- The marks of accepted readings: each is of a declared signal at a tick of the window.
+-- The marks of accepted readings: each is of a declared signal at a tick of the window, and the table has room for it.
 -- Assumes a window of at least one tick.
 use mathlib.Core.Path.{_≡_, refl, subst}
 use mathlib.Core.Bool.{Bool, true, false}
 use mathlib.Core.Logic.{⊎-elim}
 use mathlib.Core.List.{List, [], _∷_, _++_}
-use Prim.Native.Nat.{ℕ, zero, suc, _≤_}
+use Prim.Native.Nat.{ℕ, zero, suc, _+_, _*_, _<_, _≤_}
+use native.Mathlib.Nat.{mul-le-mul-right}
 use native.Mathlib.Omega.{arith}
 use lib.Dec.{ltb}
 use lib.ListN.{length}
@@ -12,13 +13,15 @@ use Rattle.text.specs.Read.{Read}
 use Rattle.text.specs.Read.Read.{got}
 use Rattle.text.specs.Lines.{upTo}
 use Rattle.text.proofs.Answers.{same-value, came}
+use Rattle.text.specs.Words.{namesAt}
+use Rattle.text.proofs.Names.{names-many}
 use Rattle.tilco.specs.Formula.{Sheet}
 use Rattle.tilco.specs.Inference.{Mark, mark}
 use Rattle.tilco.specs.Lists.{All}
 use Rattle.tilco.specs.Table.{Stands, Reading, Inside}
 use Rattle.tilco.proofs.Lists.{all-append, all-at, all-weaker}
+use Rattle.table.specs.Puts.{Puts}
 use Rattle.readings.specs.Readings.{reading, readings}
-use Rattle.readings.specs.Taking.{Puts}
 use Rattle.readings.proofs.Lines.{Within, reading-past}
 use Rattle.readings.proofs.Turns.{readings-every}
 
@@ -54,3 +57,9 @@ readings-of-sheet s names r {ms} some k e =
 pub puts-inside : (k W n : ℕ) {ms : List Mark} {T T′ : List ℕ} → All (Within k W) ms → Inside W (Stands n T) → Puts n ms T T′ → Inside W (Stands n T′)
 puts-inside k W n {ms} a i p =
     λ r t v m. ⊎-elim (i r t v) (λ x. all-at (Within k W) ms a (mark r t v) x .1) (p .exactly (mark r t v) .0 m)
+
+-- The table has room for a declared signal's row.
+pub room-for : (s ps : List ℕ) (n row m : ℕ) → row < length (namesAt s ps) → 2 * length ps * n ≤ m → 2 * (row + 1) * n ≤ m
+room-for s ps n row m h l =
+    let b : 2 * (row + 1) * n ≤ 2 * length ps * n = mul-le-mul-right n (omega (arith, names-many s ps)) in
+    omega arith

@@ -1,7 +1,6 @@
 -- The laws, one idea a file, in the order in which they build on each other.
 pub mod Lines
 pub mod Turns
-pub mod Marks
 pub mod Outcomes
 pub mod Bounds
 pub mod Stays

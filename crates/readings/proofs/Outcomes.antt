@@ -12,10 +12,13 @@ use Rattle.ticks.proofs.Tables.{same-table}
 use Rattle.tilco.specs.Inference.{Mark, mark}
 use Rattle.readings.specs.declared.whole.Outcome.{Outcome}
 use Rattle.readings.specs.declared.whole.Outcome.the-variants.{Accepted, Refused}
-use Rattle.readings.specs.Taking.{Checked, Puts, Took}
+use Rattle.table.specs.Puts.{Puts}
+use Rattle.readings.specs.Taking.{Checked, Took}
+use Rattle.table.specs.Puts.{Puts}
 use Rattle.readings.specs.Taking.Checked.{accepted, refused-at}
+use Rattle.table.specs.Puts.{Puts}
 use Rattle.readings.specs.Taking.Took.{taken, kept}
-use Rattle.readings.proofs.Marks.{puts-same}
+use Rattle.table.proofs.Marks.{puts-same}
 
 -- No text is both accepted and refused.
 other-outcome : {k p : ℕ} → Accepted ≡ Refused k p → ⊥
@@ -62,7 +65,7 @@ puts-one n some {ms} {T} {T′} {T″} s z a b =
 pub outcomes-coincide : {R : Read (List Mark)} {n : ℕ} {T T′ T″ : List ℕ} {a b : Outcome} → 1 ≤ n → Small 64 T′ → Small 64 T″
     → Took R n T T′ a → Took R n T T″ b → (a ≡ b) × (T′ ≡ T″)
 outcomes-coincide {n = n} some s z (taken ms q e f) (taken ns u g h) =
-    (refl, puts-one n some s z f (puts-same (same-value (sym g ∙ e)) h))
+    (refl, puts-one n some s z f (puts-same _ _ (same-value (sym g ∙ e)) h))
 outcomes-coincide some s z (taken ms q e f) (kept l u g h) = absurd (not-both (sym e ∙ g))
 outcomes-coincide some s z (kept k p e f) (taken ns u g h) = absurd (not-both (sym g ∙ e))
 outcomes-coincide some s z (kept k p e f) (kept l u g h) =

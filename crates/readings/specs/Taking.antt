@@ -2,13 +2,11 @@
 -- Assumes nothing. R is what the text holds, n how many words a row has for each value, T the table before and T′ after.
 use mathlib.Core.Path.{_≡_}
 use mathlib.Core.List.{List}
-use mathlib.Core.Logic.{_↔_}
 use Prim.Native.Nat.{ℕ}
-use lib.ListN.{length}
 use Rattle.text.specs.Read.{Read}
 use Rattle.text.specs.Read.Read.{got, refused}
-use Rattle.tilco.specs.Inference.{Mark, _or_}
-use Rattle.tilco.specs.Table.{Stands, Taken}
+use Rattle.tilco.specs.Inference.{Mark}
+use Rattle.table.specs.Puts.{Puts}
 use Rattle.readings.specs.declared.whole.Outcome.{Outcome}
 use Rattle.readings.specs.declared.whole.Outcome.the-variants.{Accepted, Refused}
 
@@ -16,11 +14,6 @@ use Rattle.readings.specs.declared.whole.Outcome.the-variants.{Accepted,
 pub data Checked (R : Read (List Mark)) : Outcome → Type 0 where
   accepted : (ms : List Mark) (q : ℕ) → R ≡ got ms q → Checked R Accepted
   refused-at : (k p : ℕ) → R ≡ refused k p → Checked R (Refused k p)
-
--- The marks ms are put into T: exactly these stand in T′ besides those that stood in T.
-pub record Puts (n : ℕ) (ms : List Mark) (T T′ : List ℕ) : Type 0 where
-  pub size : length T′ ≡ length T
-  pub exactly : (m : Mark) → Stands n T′ m ↔ (_or_ (Stands n T) (Taken ms)) m
 
 -- What each outcome of taking says of the text and the table: every reading is put, or every word is kept.
 pub data Took (R : Read (List Mark)) (n : ℕ) (T T′ : List ℕ) : Outcome → Type 0 where

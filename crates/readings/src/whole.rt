@@ -1,7 +1,7 @@
 // The readings of a whole text: they are all checked before the first mark is put. Assumes nothing of the text.
 use crate::reading::Reading;
 use crate::reading::reading_at;
-use crate::table::put_mark;
+use table::put_mark;
 ghost use mathlib.Core.Path.{_≡_};
 ghost use mathlib.Core.List.{List};
 ghost use Prim.Native.Nat.{ℕ, _*_, _≤_};
@@ -9,10 +9,11 @@ ghost use lib.ListN.{length};
 ghost use Rattle.text.specs.Read.Read.{got};
 ghost use Rattle.text.specs.Words.{namesAt};
 ghost use Rattle.tilco.specs.Inference.{Mark};
+ghost use Rattle.table.specs.Puts.{Puts};
 ghost use Rattle.readings.specs.declared.reading.Reading.the-variants.{Refused as RefusedReading};
 ghost use Rattle.readings.specs.declared.whole.Outcome.the-variants.{Refused};
 ghost use Rattle.readings.specs.Readings.{readings};
-ghost use Rattle.readings.specs.Taking.{Checked, Puts, Took};
+ghost use Rattle.readings.specs.Taking.{Checked, Took};
 
 // A whole text is accepted, or a refusal's number and place are given.
 pub enum Outcome {

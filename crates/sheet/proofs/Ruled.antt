@@ -145,7 +145,7 @@ rule-past names s p {w} {q} x =
 -- ---- the lines of m rules from `at` on
 
 -- What is read in turn begins with what was read before.
-turn-part : {A : Type 0} (P : List A → ℕ → Read A) (n : ℕ) (t : List A) (p : ℕ) {u : List A} {q : ℕ} → inTurn P n t p ≡ got u q → (rest : List A) × (u ≡ t ++ rest)
+pub turn-part : {A : Type 0} (P : List A → ℕ → Read A) (n : ℕ) (t : List A) (p : ℕ) {u : List A} {q : ℕ} → inTurn P n t p ≡ got u q → (rest : List A) × (u ≡ t ++ rest)
 unfolding inTurn
 turn-part P zero t p e = ([], sym (same-value e) ∙ sym (append-nil t))
 turn-part P (suc n) t p e =

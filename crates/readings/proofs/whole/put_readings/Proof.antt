@@ -9,10 +9,11 @@ use Rattle.text.specs.Words.{namesAt}
 use Rattle.text.proofs.Answers.{not-both, same-value, answered}
 use Rattle.tilco.specs.Inference.{Mark}
 use Rattle.readings.specs.Readings.{reading, readingOf}
-use Rattle.readings.specs.Taking.{Puts}
+use Rattle.table.specs.Puts.{Puts}
+use Rattle.table.proofs.Marks.{puts-none, puts-same, puts-more}
 use Rattle.readings.proofs.Lines.{reading-past}
 use Rattle.readings.proofs.Turns.{Passed, passed-none, passed-one, passed-off, passed-all, readings-every}
-use Rattle.readings.proofs.Marks.{puts-none, puts-same, puts-more, room-for}
+use Rattle.readings.proofs.Bounds.{room-for}
 use Rattle.readings.proofs.whole.put_readings.Statement.{statement}
 use Rattle.readings.proofs.whole.put_readings.Tie as tie
 
@@ -62,14 +63,14 @@ loop-again c =
     let a = answered readingOf (c .before .before .before .before .before .before .before .reading-at .ensures) (c .before .before .before .before .before .a .given .1) in
     let w = reading-past _ _ _ _ (omega arith) _ a in
     let z = c .before .before .before .before .before .before .before .before .before .loop .inv in
-    (_, passed-one _ _ (z .1) (c .before .before .before .before .before .before .before .before .loop-test .taken) a (w .past), puts-more (z .2) (c .before .before .put-mark .ensures))
+    (_, passed-one _ _ (z .1) (c .before .before .before .before .before .before .before .before .loop-test .taken) a (w .past), puts-more _ _ (z .2) (c .before .before .put-mark .ensures))
 
 same-length-2 : tie.Need-same-length-2 Inv-loop μ-loop
 same-length-2 c = c .before .loop .inv .2 .size
 
 returns-2 : tie.Need-returns-2 Inv-loop μ-loop
 returns-2 c =
-    λ ms q e. puts-same (same-value (sym (passed-all _ _ (c .before .loop .inv .1) (omega arith)) ∙ readings-every _ _ _ e)) (c .before .loop .inv .2)
+    λ ms q e. puts-same _ _ (same-value (sym (passed-all _ _ (c .before .loop .inv .1) (omega arith)) ∙ readings-every _ _ _ e)) (c .before .loop .inv .2)
 
 pub put-readings-spec : {M : Type 1} → statement M
 put-readings-spec =

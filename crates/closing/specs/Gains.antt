@@ -1,0 +1,56 @@
+-- Ticks of one word joined to a table, told by marks. Assumes nothing.
+-- n is how many words a row has for each value, q a word of a row, T the table before and T′ after.
+use mathlib.Core.Path.{_≡_}
+use mathlib.Core.Bool.{Bool}
+use mathlib.Core.List.{List, [], _∷_}
+use mathlib.Core.Logic.{_↔_}
+use Prim.Native.Nat.{ℕ, _+_, _-_, _*_, _/_, _%_, _^_, _≤_, _<_}
+use lib.ListN.{length}
+use Rattle.ticks.specs.Ticks.{Has}
+use Rattle.tilco.specs.Inference.{mark, Marks}
+use Rattle.tilco.specs.Table.{Stands}
+use Rattle.table.specs.Puts.{Gains}
+
+-- The table has row r.
+abbrev pub HasRow : ℕ → List ℕ → ℕ → Type 0
+HasRow n T r = 2 * (r + 1) * n ≤ length T
+
+-- The ticks of v, as word q, are those of U.
+abbrev pub Ticks : ℕ → ℕ → (ℕ → Type 0) → Type 0
+Ticks q v U = (b : ℕ) → b < 64 → Has v b ↔ U (q * 64 + b)
+
+-- Row r's marks of value v at the ticks U of word q.
+abbrev pub Here : ℕ → Bool → ℕ → (ℕ → Type 0) → Marks
+Here r v q U (mark x t w) = (x ≡ r) × (w ≡ v) × (t / 64 ≡ q) × U t
+
+-- The bits of v, as a word's ticks.
+abbrev pub Bits : ℕ → ℕ → Type 0
+Bits v t = Has v (t % 64)
+
+-- How far the words may still grow.
+unfoldable pub room : List ℕ → ℕ
+room [] = 0
+room (x ∷ xs) = (2 ^ 64 - x) + room xs
+
+-- The marks R are gained, by a function that says whether the table changed.
+pub record Joins (n : ℕ) (R : Marks) (T T′ : List ℕ) (changed : ℕ) : Type 0 where
+  pub gains : Gains n R T T′
+  pub still : changed ≡ 0 → T′ ≡ T
+  pub moved : 0 < changed → room T′ < room T
+  pub small : changed ≤ 1
+
+-- Ticks at which the marks (a, x) and (b, y) both stand.
+abbrev pub Both : ℕ → List ℕ → ℕ → Bool → ℕ → Bool → ℕ → Type 0
+Both n T a x b y t = Stands n T (mark a t x) × Stands n T (mark b t y)
+
+-- Ticks k before one at which a row's value stands.
+abbrev pub Later : ℕ → List ℕ → ℕ → Bool → ℕ → ℕ → Type 0
+Later n T r v k t = Stands n T (mark r (t + k) v)
+
+-- Ticks k after one at which a row's value stands.
+abbrev pub Earlier : ℕ → List ℕ → ℕ → Bool → ℕ → ℕ → Type 0
+Earlier n T r v k t = (k ≤ t) × Stands n T (mark r (t - k) v)
+
+-- Those of these ticks that are in the window.
+abbrev pub InWindow : ℕ → (ℕ → Type 0) → ℕ → Type 0
+InWindow W U t = (t < W) × U t

@@ -1,0 +1,5 @@
+-- The definitions that the contracts cite, lowest layer first.
+pub mod Codes
+pub mod Gains
+pub mod Moves
+pub mod Closes

@@ -1,0 +1,2 @@
+-- The laws: what a word changed in a table says of its marks.
+pub mod Marks
