@@ -1,3 +1,4 @@
+-- The laws, one idea a file.
 pub mod Puts
 pub mod Read
 pub mod Helds

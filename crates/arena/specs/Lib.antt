@@ -1,2 +1,3 @@
+-- The definitions, lowest layer first.
 pub mod Nodes
 pub mod Readings

@@ -1,1 +1,2 @@
+-- The laws, one idea a file.
 pub mod Places

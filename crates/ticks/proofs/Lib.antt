@@ -1,3 +1,4 @@
+-- The laws, one idea a file.
 pub mod Bits
 pub mod Shifts
 pub mod Counts

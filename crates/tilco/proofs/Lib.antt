@@ -1,3 +1,4 @@
+-- The laws, one idea a file.
 pub mod Demand1
 pub mod Demand2
 pub mod Demand3

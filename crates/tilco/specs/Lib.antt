@@ -1,3 +1,4 @@
+-- The definitions, lowest layer first.
 pub mod Lists
 pub mod Formula
 pub mod Meaning
