@@ -75,9 +75,9 @@ module _ (n W : ℕ) (B : List ℕ) where
   crown-inside k T T′ a inside r t v i = ⊎-elim (inside r t v) (λ h. h .0) (a .exactly (mark r t v) .0 i)
 
   -- The tops marked and then the table closed: it has exactly what the rules lead to from the tops and its marks.
-  pub crown-then-close : (first count : ℕ) (R : List ℕ) (k : ℕ) (T T′ T″ : List ℕ) → Gains n (TopMarks W B k) T T′ → ClosesAll first count R W n T′ T″
-      → SettlesAll first count R B k W n T T″
-  crown-then-close first count R k T T′ T″ a closes P codes tops = record {
+  pub crown-then-close : (count : ℕ) (R : List ℕ) (k : ℕ) (T T′ T″ : List ℕ) → Gains n (TopMarks W B k) T T′ → ClosesAll count R W n T′ T″
+      → SettlesAll count R B k W n T T″
+  crown-then-close count R k T T′ T″ a closes P codes tops = record {
     size = s .size ∙ a .size;
     small = s .small;
     exactly = λ m. (λ i. cut back (s .exactly m .0 i), λ d. s .exactly m .1 (monotone (λ p i. a .exactly p .1 (inl i)) d));

@@ -31,12 +31,12 @@ abbrev pub TopMarks : ℕ → List ℕ → ℕ → Marks
 TopMarks W B k (mark r t v) = (t < W) × (v ≡ true) × ((i : ℕ) × (i < k) × (getD B i 0 ≡ r))
 
 -- The table is closed for every program with these rows whose tops stand in it.
-abbrev pub ClosesAll : ℕ → ℕ → List ℕ → ℕ → ℕ → List ℕ → List ℕ → Type 0
-ClosesAll first count B W n T T′ = (P : Program) → Codes P first count B → TopsStand n P W T → Settles n P W T T′
+abbrev pub ClosesAll : ℕ → List ℕ → ℕ → ℕ → List ℕ → List ℕ → Type 0
+ClosesAll count B W n T T′ = (P : Program) → Codes P count B → TopsStand n P W T → Settles n P W T T′
 
 -- The table is settled for every program with these rows and tops.
-abbrev pub SettlesAll : ℕ → ℕ → List ℕ → List ℕ → ℕ → ℕ → ℕ → List ℕ → List ℕ → Type 0
-SettlesAll first count B tops k W n T T′ = (P : Program) → Codes P first count B → TopsAre P tops k → Settles n P W T T′
+abbrev pub SettlesAll : ℕ → List ℕ → List ℕ → ℕ → ℕ → ℕ → List ℕ → List ℕ → Type 0
+SettlesAll count B tops k W n T T′ = (P : Program) → Codes P count B → TopsAre P tops k → Settles n P W T T′
 
 -- Row r has both marks at one tick.
 abbrev pub ClashAt : ℕ → List ℕ → ℕ → Type 0

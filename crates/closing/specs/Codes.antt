@@ -14,18 +14,17 @@ Fine r (notOf x) = x < r
 Fine r (gate u a b) = (a < r) × (b < r)
 Fine r (look k c) = (c < r) × (1 ≤ k) × (k ≤ 127)
 
--- The words in B from `first` on say the nodes of P's `count` rows, and the rows before are signals'.
-pub record Codes (P : Program) (first count : ℕ) (B : List ℕ) : Type 0 where
+-- The words in B say the nodes of P's `count` rows, and past them signals.
+pub record Codes (P : Program) (count : ℕ) (B : List ℕ) : Type 0 where
   pub long : count ≤ length B
   pub rows-are : length (P .rows) ≡ count
-  pub signals : (r : ℕ) → r < first → node P r ≡ signal
-  pub nodes : (r : ℕ) → first ≤ r → r < count → node P r ≡ rowAt B r
-  pub fine : (r : ℕ) → first ≤ r → r < count → Fine r (node P r)
+  pub nodes : (r : ℕ) → node P r ≡ rowAt B r
+  pub fine : (r : ℕ) → Fine r (node P r)
 
 -- Some program has these words.
-pub record Coded (first count : ℕ) (B : List ℕ) : Type 0 where
+pub record Coded (count : ℕ) (B : List ℕ) : Type 0 where
   pub program : Program
-  pub codes : Codes program first count B
+  pub codes : Codes program count B
 
 -- The first k words in B are the top rows of P.
 pub record TopsAre (P : Program) (B : List ℕ) (k : ℕ) : Type 0 where

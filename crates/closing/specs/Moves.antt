@@ -83,21 +83,21 @@ ByLink hi lo k q W n T T′ changed =
     (P : Program) → Links P hi lo k → Inside W (Stands n T) → Moves n P W (Pair q hi lo) (λ X. LinkedIn q W (Stands n X) hi lo k) T T′ changed
 
 -- What a function does for every program whose rows are the words in B.
-abbrev pub ByRows : ℕ → ℕ → List ℕ → (Program → Marks) → (Program → Marks → Type 0) → ℕ → ℕ → List ℕ → List ℕ → ℕ → Type 0
-ByRows first count B A C W n T T′ changed =
-    (P : Program) → Codes P first count B → Inside W (Stands n T) → Moves n P W (A P) (λ X. C P (Stands n X)) T T′ changed
+abbrev pub ByRows : ℕ → List ℕ → (Program → Marks) → (Program → Marks → Type 0) → ℕ → ℕ → List ℕ → List ℕ → ℕ → Type 0
+ByRows count B A C W n T T′ changed =
+    (P : Program) → Codes P count B → Inside W (Stands n T) → Moves n P W (A P) (λ X. C P (Stands n X)) T T′ changed
 
 -- A row's rules in word q: they write only rows that it speaks of.
-abbrev pub Stepped : ℕ → ℕ → List ℕ → ℕ → ℕ → ℕ → ℕ → List ℕ → List ℕ → ℕ → Type 0
-Stepped first count B r q W = ByRows first count B (λ P. Spoken q (node P r) r) (λ P S. SettledIn q W S r (node P r)) W
+abbrev pub Stepped : ℕ → List ℕ → ℕ → ℕ → ℕ → ℕ → List ℕ → List ℕ → ℕ → Type 0
+Stepped count B r q W = ByRows count B (λ P. Spoken q (node P r) r) (λ P S. SettledIn q W S r (node P r)) W
 
 -- The rules of the rows from lo to before hi add nothing.
 abbrev pub SettledFrom : ℕ → ℕ → ℕ → Program → Marks → Type 0
 SettledFrom lo hi W P S = (r : ℕ) → lo ≤ r → r < hi → SettledAt W S r (node P r)
 
 -- The rules of the rows from lo to before hi.
-abbrev pub Swept : ℕ → ℕ → List ℕ → ℕ → ℕ → ℕ → ℕ → List ℕ → List ℕ → ℕ → Type 0
-Swept first count B lo hi W = ByRows first count B (λ P. AnyMark) (SettledFrom lo hi W) W
+abbrev pub Swept : ℕ → List ℕ → ℕ → ℕ → ℕ → ℕ → List ℕ → List ℕ → ℕ → Type 0
+Swept count B lo hi W = ByRows count B (λ P. AnyMark) (SettledFrom lo hi W) W
 
 -- The table has n words for each value of `count` rows, and they cover the window.
 pub record Sized (n count W : ℕ) (T : List ℕ) : Type 0 where

@@ -104,10 +104,9 @@ pub fn look_step(
     }
 }
 
-// The rules of a row of the program, by its word.
+// The rules of a row of the program, by its word. A signal's row has none.
 pub fn step(
     rows: &[u64],
-    first: usize,
     count: usize,
     row: usize,
     q: usize,
@@ -115,20 +114,21 @@ pub fn step(
     window: usize,
     marks: &mut [u64],
 ) -> u64
-    requires { ⌜ Coded first count (now rows) ⌝ }
-    requires { ⌜ (first ≤ row) × (row < count) × (q < n) ⌝ }
+    requires { ⌜ Coded count (now rows) ⌝ }
+    requires { ⌜ (row < count) × (q < n) ⌝ }
     requires { ⌜ Sized n count window (now marks) ⌝ }
-    ensures { λ changed. ⌜ Stepped first count (now (rows .entry)) row q window n (now (marks .entry)) (now (marks .exit)) changed ⌝ }
+    ensures { λ changed. ⌜ Stepped count (now (rows .entry)) row q window n (now (marks .entry)) (now (marks .exit)) changed ⌝ }
 {
     let w = rows[row];
-    let kind = w % 4;
-    let a = (w / 4 % 65536) as usize;
-    let offset = w / 262144;
+    let kind = w % 8;
+    let a = (w / 8 % 65536) as usize;
+    let offset = w / 524288;
     let b = offset as usize;
     match kind {
-        0 => gate_step(marks, n, q, row, a, b, true),
-        1 => gate_step(marks, n, q, row, a, b, false),
-        2 => look_step(marks, n, q, row, a, offset, window),
+        0 => 0,
+        1 => gate_step(marks, n, q, row, a, b, true),
+        2 => gate_step(marks, n, q, row, a, b, false),
+        3 => look_step(marks, n, q, row, a, offset, window),
         _ => not_step(marks, n, q, row, a),
     }
 }

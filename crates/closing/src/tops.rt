@@ -49,7 +49,6 @@ pub fn crown(tops: &[u16], k: usize, n: usize, window: usize, marks: &mut [u64])
 // Settles the table: it has exactly what the rules lead to from the tops and its marks.
 pub fn settle(
     rows: &[u64],
-    first: usize,
     count: usize,
     tops: &[u16],
     k: usize,
@@ -57,12 +56,12 @@ pub fn settle(
     window: usize,
     marks: &mut [u64],
 )
-    requires { ⌜ Coded first count (now rows) ⌝ }
+    requires { ⌜ Coded count (now rows) ⌝ }
     requires { ⌜ (k ≤ length (now tops)) × ((i : ℕ) → i < k → getD (now tops) i 0 < count) ⌝ }
     requires { ⌜ Sized n count window (now marks) ⌝ }
     requires { ⌜ Inside window (Stands n (now marks)) ⌝ }
-    ensures { λ _. ⌜ SettlesAll first count (now (rows .entry)) (now (tops .entry)) k window n (now (marks .entry)) (now (marks .exit)) ⌝ }
+    ensures { λ _. ⌜ SettlesAll count (now (rows .entry)) (now (tops .entry)) k window n (now (marks .entry)) (now (marks .exit)) ⌝ }
 {
     crown(tops, k, n, window, marks);
-    close(rows, first, count, n, window, marks);
+    close(rows, count, n, window, marks);
 }

@@ -4,10 +4,9 @@ use text::lines::name_line;
 use text::lines::ranged_line;
 use text::words::find_name;
 ghost use mathlib.Core.Path.{_≡_};
-ghost use Prim.Native.Nat.{ℕ, _≤_};
+ghost use Prim.Native.Nat.{_≤_};
 ghost use lib.ListN.{length};
-ghost use Rattle.text.specs.declared.lines.Step.the-variants.{Refused as RefusedLine};
-ghost use Rattle.text.specs.Read.{says};
+ghost use Rattle.text.specs.Read.{says, numberOf, placeOf};
 ghost use Rattle.text.specs.Words.{namesAt};
 ghost use Rattle.readings.specs.declared.reading.Reading.the-variants.{Refused};
 ghost use Rattle.readings.specs.Readings.{knownLine, reading, readingOf};
@@ -40,9 +39,9 @@ pub fn known_line(s: &[u8], places: &[u64], r: &[u8], at: usize) -> Step
     }
 }
 
-// A line's refusal as the reading's.
+// A line's refusal as the reading's; 0 and 0 for a line that was read.
 fn refused_line(l: Step) -> Reading
-    ensures { λ v. ⌜ ((n p : ℕ) → l ≡ RefusedLine n p → v ≡ Refused n p) ⌝ }
+    ensures { λ v. ⌜ v ≡ Refused (numberOf (says l)) (placeOf (says l)) ⌝ }
 {
     match l {
         Step::Got(_, _) => Reading::Refused(0, 0),

@@ -6,13 +6,13 @@ ghost use mathlib.Core.Path.{_≡_};
 ghost use mathlib.Core.List.{List};
 ghost use Prim.Native.Nat.{ℕ, _*_, _≤_};
 ghost use lib.ListN.{length};
+ghost use Rattle.text.specs.Read.{numberOf, placeOf};
 ghost use Rattle.text.specs.Read.Read.{got};
 ghost use Rattle.text.specs.Words.{namesAt};
 ghost use Rattle.tilco.specs.Inference.{Mark};
 ghost use Rattle.table.specs.Puts.{Puts};
-ghost use Rattle.readings.specs.declared.reading.Reading.the-variants.{Refused as RefusedReading};
 ghost use Rattle.readings.specs.declared.whole.Outcome.the-variants.{Refused};
-ghost use Rattle.readings.specs.Readings.{readings};
+ghost use Rattle.readings.specs.Readings.{readings, readingOf};
 ghost use Rattle.readings.specs.Taking.{Checked, Took};
 
 // A whole text is accepted, or a refusal's number and place are given.
@@ -21,9 +21,9 @@ pub enum Outcome {
     Refused(usize, usize),
 }
 
-// A reading's refusal as the text's.
+// A reading's refusal as the text's; 0 and 0 for a reading that was taken.
 fn refused_reading(a: Reading) -> Outcome
-    ensures { λ v. ⌜ ((n p : ℕ) → a ≡ RefusedReading n p → v ≡ Refused n p) ⌝ }
+    ensures { λ v. ⌜ v ≡ Refused (numberOf (readingOf a)) (placeOf (readingOf a)) ⌝ }
 {
     match a {
         Reading::Taken {
@@ -31,7 +31,7 @@ fn refused_reading(a: Reading) -> Outcome
             signal: _,
             value: _,
             next: _,
-        } => Outcome::Accepted,
+        } => Outcome::Refused(0, 0),
         Reading::Refused(n, p) => Outcome::Refused(n, p),
     }
 }

@@ -1,34 +1,34 @@
 -- Decoding the words that were written gives the rows.
 -- Assumes nothing.
-use mathlib.Core.Path.{_≡_, sym, ap, _∙_}
+use mathlib.Core.Path.{_≡_, refl, ap, _∙_}
 use mathlib.Core.Bool.{true, false}
-use mathlib.Core.List.{List, _++_, map}
-use Prim.Native.Nat.{ℕ, _+_, _*_, _/_, _%_, _≤_, _<_}
+use mathlib.Core.List.{List, [], _∷_, _++_, map}
+use Prim.Native.Nat.{ℕ, zero, suc, _+_, _*_, _/_, _%_, _≤_, _<_}
 use native.Mathlib.Omega.{arith}
-use lib.ListN.{length, getD, take, drop, length-append, length-map, List·getD-append, List·getD-map}
-use lib.Seq.{sets, sets-eq, length-take-le, getD-append-add}
+use lib.ListN.{length, getD, take, drop, replicate, length-map, List·getD-map}
+use lib.Seq.{sets, sets-eq, getD-drop}
 use Rattle.tilco.specs.Inference.{Node, signal, notOf, gate, look}
-use Rattle.rows.specs.Words.{packed, word, unpacked, rowOf, rowAt}
+use Rattle.rows.specs.Words.{packed, word, unpacked, rowOf, rowAt, Blank}
 
--- A row that its word tells: no signal's, and with a first number of at most two bytes.
+-- A row that its word tells: its first number has at most two bytes.
 abbrev pub Coded : Node → Type 0
-Coded signal = ⊥
+Coded signal = Unit {0}
 Coded (notOf x) = x < 65536
 Coded (gate u a b) = a < 65536
 Coded (look k c) = c < 65536
 
-module _ (kind a b : ℕ) (few : kind < 4) (low : a < 65536) where
-  first : packed kind a b % 4 ≡ kind
+module _ (kind a b : ℕ) (few : kind < 8) (low : a < 65536) where
+  first : packed kind a b % 8 ≡ kind
   unfolding packed
   first = omega arith
 
-  left : packed kind a b / 4 % 65536 ≡ a
+  left : packed kind a b / 8 % 65536 ≡ a
   unfolding packed
   left =
-      let x : (kind + 4 * (a + 65536 * b)) / 4 ≡ a + 65536 * b = omega arith in
+      let x : (kind + 8 * (a + 65536 * b)) / 8 ≡ a + 65536 * b = omega arith in
       rw x (omega arith)
 
-  right : packed kind a b / 262144 ≡ b
+  right : packed kind a b / 524288 ≡ b
   unfolding packed
   right = omega arith
 
@@ -38,25 +38,36 @@ module _ (kind a b : ℕ) (few : kind < 4) (low : a < 65536) where
 -- Decoding a row's word gives the row.
 pub decoded : (n : Node) → Coded n → rowOf (word n) ≡ n
 unfolding word
-decoded signal h = absurd h
-decoded (notOf x) h = unpack 3 x 0 (omega arith) h
-decoded (gate true a b) h = unpack 0 a b (omega arith) h
-decoded (gate false a b) h = unpack 1 a b (omega arith) h
-decoded (look k c) h = unpack 2 c k (omega arith) h
+decoded signal h = refl
+decoded (notOf x) h = unpack 4 x 0 (omega arith) h
+decoded (gate true a b) h = unpack 1 a b (omega arith) h
+decoded (gate false a b) h = unpack 2 a b (omega arith) h
+decoded (look k c) h = unpack 3 c k (omega arith) h
 
--- What is stored stands in its turn.
-at-sets : (m ws : List ℕ) (b j : ℕ) → b + length ws ≤ length m → j < length ws → getD (sets m b ws) (b + j) 0 ≡ getD ws j 0
-at-sets m ws b j fits h =
-    let n : length (take b m) ≡ b = length-take-le b m (omega arith) in
-    ap (λ (l : List ℕ). getD l (b + j) 0) (sets-eq ws m b fits)
-    ∙ List·getD-append (take b m ++ ws) (drop (b + length ws) m) 0 (b + j) (omega (arith, length-append (take b m) ws))
-    ∙ ap (λ (i : ℕ). getD (take b m ++ ws) (i + j) 0) (sym n)
-    ∙ getD-append-add (take b m) ws j 0
-
--- Rows written from b on stand each at its place.
-pub row-at : (rows : List Node) (m : List ℕ) (b j : ℕ) → b + length rows ≤ length m → j < length rows → Coded (getD rows j signal)
-    → rowAt (sets m b (map word rows)) (b + j) ≡ getD rows j signal
+-- The blank part before the rows is their signals' words.
+before : (b : ℕ) (m : List ℕ) (rows : List Node) → Blank m → b ≤ length m → (r : ℕ)
+    → getD (take b m ++ map word rows) r 0 ≡ getD (map word (replicate b signal ++ rows)) r 0
 unfolding word
-row-at rows m b j fits h k =
-    ap rowOf (at-sets m (map word rows) b j (omega (arith, length-map rows word)) (omega (arith, length-map rows word)) ∙ List·getD-map word rows j signal)
-    ∙ decoded (getD rows j signal) k
+before zero m rows z h r = refl
+before (suc b) [] rows z h r = absurd (omega arith)
+before (suc b) (x ∷ m) rows z h zero = z 0
+before (suc b) (x ∷ m) rows z h (suc r) = before b m rows (λ i. z (suc i)) (omega arith) r
+
+-- The blank part after them says nothing more.
+after : (ws m : List ℕ) → Blank m → (r : ℕ) → getD (ws ++ m) r 0 ≡ getD ws r 0
+after [] m z r = z r
+after (w ∷ ws) m z zero = refl
+after (w ∷ ws) m z (suc r) = after ws m z r
+
+-- Rows written from b on into a blank buffer: it says every row, the b signals' before them too.
+pub row-at : (rows : List Node) (m : List ℕ) (b : ℕ) → Blank m → b + length rows ≤ length m → (r : ℕ) → Coded (getD (replicate b signal ++ rows) r signal)
+    → rowAt (sets m b (map word rows)) r ≡ getD (replicate b signal ++ rows) r signal
+unfolding word
+row-at rows m b z fits r k =
+    let e = length-map rows word in
+    ap rowOf
+    (ap (λ (l : List ℕ). getD l r 0) (sets-eq (map word rows) m b (omega arith))
+    ∙ after (take b m ++ map word rows) (drop (b + length (map word rows)) m) (λ i. getD-drop (b + length (map word rows)) m i 0 ∙ z (b + length (map word rows) + i)) r
+    ∙ before b m rows z (omega arith) r
+    ∙ List·getD-map word (replicate b signal ++ rows) r signal)
+    ∙ decoded (getD (replicate b signal ++ rows) r signal) k

@@ -1,4 +1,4 @@
-// Rows as words, one row more in the buffer, and a signal in a sense. A signal's own row is never written.
+// Rows as words, one row more in the buffer, and a signal in a sense. A signal's own row is not written: its word is 0.
 ghost use mathlib.Core.Path.{_≡_};
 ghost use mathlib.Core.List.{[], _∷_};
 ghost use Prim.Native.Nat.{_≤_};
@@ -20,8 +20,8 @@ pub fn gate_word(gate: bool, a: u16, b: u16) -> u64
 {
     let left = a as u64;
     let right = b as u64;
-    let rows = 4 * (left + 65536 * right);
-    if gate { rows } else { 1 + rows }
+    let rows = 8 * (left + 65536 * right);
+    if gate { 1 + rows } else { 2 + rows }
 }
 
 // The word of a look at the row child, at an offset with 64 added.
@@ -30,7 +30,7 @@ pub fn look_word(child: u16, offset: u16) -> u64
 {
     let row = child as u64;
     let ticks = offset as u64;
-    2 + 4 * (row + 65536 * ticks)
+    3 + 8 * (row + 65536 * ticks)
 }
 
 // One row more.
@@ -56,7 +56,7 @@ pub fn name_row(signal: u16, sense: bool, out: &mut [u64], used: usize) -> Lower
         Lowered::Top { row: signal, used }
     } else {
         let row = signal as u64;
-        let opposite = 3 + 4 * row;
+        let opposite = 4 + 8 * row;
         push_row(opposite, out, used)
     }
 }

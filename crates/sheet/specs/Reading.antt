@@ -39,6 +39,11 @@ pub data Headed (s T : List ℕ) : Heading → Type 0 where
   headed : {w n m p : ℕ} → head s ≡ got (headOf w (take n T) m) p → Sizes w n m → Headed s T (heading.Lines w n m p)
   refused-at : {k p : ℕ} → head s ≡ refused k p → Headed s T (heading.Refused k p)
 
+-- What each case of it says of the rules: how many follow, and the place of the first one's line.
+abbrev pub headSays : Heading → Read ℕ
+headSays (heading.Lines w n m p) = got m p
+headSays (heading.Refused k p) = refused k p
+
 -- A rule's line can be read at p: the names stand before it, the arena a has a node for each byte of a rule, and the rows of its hidden
 -- signals, from h on, stay in 16 bits.
 pub record Ready (s a places : List ℕ) (p h : ℕ) : Type 0 where

@@ -6,10 +6,9 @@ use text::lines::ranged_line;
 use text::words::find_name;
 ghost use mathlib.Core.Path.{_≡_};
 ghost use mathlib.Core.List.{[]};
-ghost use Prim.Native.Nat.{ℕ, _≤_};
+ghost use Prim.Native.Nat.{_≤_};
 ghost use lib.ListN.{length};
-ghost use Rattle.text.specs.declared.lines.Step.the-variants.{Refused as RefusedLine};
-ghost use Rattle.text.specs.Read.{says};
+ghost use Rattle.text.specs.Read.{says, numberOf, placeOf};
 ghost use Rattle.text.specs.Lines.{inTurn};
 ghost use Rattle.sheet.specs.declared.head.Heading.the-variants.{Refused};
 ghost use Rattle.sheet.specs.Sheet.{signalLine};
@@ -62,9 +61,9 @@ pub fn signals_at(s: &[u8], places: &mut [u64], n: usize, at: usize) -> Step
     Step::Got(n, p)
 }
 
-// A line's refusal as the head's.
+// A line's refusal as the head's; 0 and 0 for a line that was read.
 fn refused_line(l: Step) -> Heading
-    ensures { λ v. ⌜ ((n p : ℕ) → l ≡ RefusedLine n p → v ≡ Refused n p) ⌝ }
+    ensures { λ v. ⌜ v ≡ Refused (numberOf (says l)) (placeOf (says l)) ⌝ }
 {
     match l {
         Step::Got(_, _) => Heading::Refused(0, 0),

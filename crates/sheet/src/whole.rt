@@ -4,11 +4,10 @@ use crate::head::head;
 use crate::rules::check_rules;
 use text::lines::Step;
 ghost use mathlib.Core.Path.{_≡_};
-ghost use Prim.Native.Nat.{ℕ};
 ghost use lib.ListN.{length};
-ghost use Rattle.sheet.specs.declared.head.Heading.the-variants.{Refused as RefusedHead};
+ghost use Rattle.text.specs.Read.{numberOf, placeOf};
 ghost use Rattle.sheet.specs.declared.whole.Outline.the-variants.{Refused};
-ghost use Rattle.sheet.specs.Reading.{SheetRead};
+ghost use Rattle.sheet.specs.Reading.{headSays, SheetRead};
 
 // What an accepted sheet has: its window, how many signals, rules and hidden signals, and the place of the first rule's line. Or a refusal's
 // number and place.
@@ -23,9 +22,9 @@ pub enum Outline {
     Refused(usize, usize),
 }
 
-// The head's refusal as the sheet's.
+// The head's refusal as the sheet's; 0 and 0 for a head that was read.
 fn refused_head(h: Heading) -> Outline
-    ensures { λ v. ⌜ ((n p : ℕ) → h ≡ RefusedHead n p → v ≡ Refused n p) ⌝ }
+    ensures { λ v. ⌜ v ≡ Refused (numberOf (headSays h)) (placeOf (headSays h)) ⌝ }
 {
     match h {
         Heading::Lines {

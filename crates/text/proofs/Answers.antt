@@ -4,7 +4,7 @@ use mathlib.Core.Path.{_≡_, refl, sym, ap, _∙_}
 use mathlib.Core.Bool.{Bool, true, false}
 use Prim.Native.Nat.{ℕ}
 use native.Mathlib.Omega.{arith}
-use Rattle.text.specs.Read.{Read, andThen}
+use Rattle.text.specs.Read.{Read, andThen, numberOf, placeOf}
 use Rattle.text.specs.Read.Read.{got, refused}
 use Rattle.text.specs.Bytes.{pick}
 
@@ -21,6 +21,11 @@ module _ {A : Type 0} {a b : A} {p q : ℕ} (e : got a p ≡ got b q) where
 -- What is read is what its answer says, by `says` or by another such definition.
 pub answered : {X A : Type 0} (f : X → Read A) {a x : X} {R : Read A} → f a ≡ R → a ≡ x → R ≡ f x
 answered f h g = sym h ∙ ap f g
+
+-- A refusal keeps its number and place where another answer k takes it over.
+pub taken-over : {X Y A : Type 0} (f : X → Read A) (k : ℕ → ℕ → Y) {a x : X} {v : Y} → v ≡ k (numberOf (f a)) (placeOf (f a)) → a ≡ x
+    → v ≡ k (numberOf (f x)) (placeOf (f x))
+taken-over f k h g = h ∙ ap (λ z. k (numberOf (f z)) (placeOf (f z))) g
 
 -- A refusal is the answer of all that would have gone on.
 pub hand-on : {A B : Type 0} (K : A → ℕ → Read B) {R : Read A} {n p : ℕ} → R ≡ refused n p → refused n p ≡ andThen R K

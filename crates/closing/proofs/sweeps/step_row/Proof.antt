@@ -10,20 +10,20 @@ use Rattle.closing.proofs.sweeps.step_row.Statement.{statement}
 use Rattle.closing.proofs.sweeps.step_row.Tie as tie
 
 abbrev Inv-loop : tie.InvT-loop
-Inv-loop rows first count row n window marks₀ changed₀ q₀ marks changed q =
-    (q ≤ n) × (length marks ≡ length marks₀) × WordsDone first count rows window n row q marks₀ marks changed
+Inv-loop rows count row n window marks₀ changed₀ q₀ marks changed q =
+    (q ≤ n) × (length marks ≡ length marks₀) × WordsDone count rows window n row q marks₀ marks changed
 
 abbrev μ-loop : tie.MeasureT-loop
-μ-loop rows first count row n window marks₀ changed₀ q₀ marks changed q = n - q
+μ-loop rows count row n window marks₀ changed₀ q₀ marks changed q = n - q
 
 loop-holds : tie.Need-loop-holds Inv-loop μ-loop
 loop-holds c =
-    (omega arith, refl, words-none _ _ _ _ _ _ _)
+    (omega arith, refl, words-none _ _ _ _ _ _)
 
 step-requires : tie.Need-step-requires Inv-loop μ-loop
 step-requires c κs =
     let o = c .before .before .before .before .before .pre in
-    (o .0, ((o .1 .0 .0, o .1 .0 .1, omega arith), sized-as (c .before .before .loop .inv .1) (o .1 .1)))
+    (o .0, ((o .1 .0, omega arith), sized-as (c .before .before .loop .inv .1) (o .1 .1)))
 
 add-q : tie.Need-add-q Inv-loop μ-loop
 add-q c = omega arith
@@ -38,7 +38,7 @@ loop-again c =
     let if1 = c .if1 in (
       omega arith,
       omega arith,
-      words-more _ _ _ _ _ _ _ _ _ _ _ _ _
+      words-more _ _ _ _ _ _ _ _ _ _ _ _
           (λ e. ⊎-elim (λ w. omega arith) (λ w. omega arith) (if1 .came))
           (λ e. ⊎-elim (λ w. omega arith) (λ w. omega arith) (if1 .came))
           (l .inv .2) (step .ensures),
@@ -52,8 +52,8 @@ returns c =
     let o = c .before .before .before .before .pre in
     let l = c .before .loop in
     let a = c .before .before .before .before .args in
-    words-all _ _ _ _ _ _ _ _ _ (o .1 .1 .words-are)
-    (subst (λ (k : ℕ). WordsDone (a .first) (a .count) (a .rows .now) (a .window) (a .n) (a .row) k (a .marks .now) (l .marks) (l .changed)) (omega arith) (l .inv .2))
+    words-all _ _ _ _ _ _ _ _ (o .1 .1 .words-are)
+    (subst (λ (k : ℕ). WordsDone (a .count) (a .rows .now) (a .window) (a .n) (a .row) k (a .marks .now) (l .marks) (l .changed)) (omega arith) (l .inv .2))
 
 pub step-row-spec : {M : Type 1} → statement M
 step-row-spec =

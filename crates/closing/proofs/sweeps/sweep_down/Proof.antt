@@ -12,16 +12,16 @@ use Rattle.closing.proofs.sweeps.sweep_down.Statement.{statement}
 use Rattle.closing.proofs.sweeps.sweep_down.Tie as tie
 
 abbrev Inv-loop : tie.InvT-loop
-Inv-loop rows first count n window marks₀ changed₀ row₀ marks changed row =
-    (row ≤ count) × (length marks ≡ length marks₀) × Swept first count rows row count window n marks₀ marks changed
+Inv-loop rows count n window marks₀ changed₀ row₀ marks changed row =
+    (row ≤ count) × (length marks ≡ length marks₀) × Swept count rows row count window n marks₀ marks changed
 
 abbrev μ-loop : tie.MeasureT-loop
-μ-loop rows first count n window marks₀ changed₀ row₀ marks changed row = row - first
+μ-loop rows count n window marks₀ changed₀ row₀ marks changed row = row
 
 loop-holds : tie.Need-loop-holds Inv-loop μ-loop
 loop-holds c =
     let a = c .before .before .args in
-    (le-refl (a .count), refl, rows-none _ _ _ _ _ _ _)
+    (le-refl (a .count), refl, rows-none _ _ _ _ _ _)
 
 sub-step-row : tie.Need-sub-step-row Inv-loop μ-loop
 sub-step-row c = omega arith
@@ -29,7 +29,7 @@ sub-step-row c = omega arith
 step-row-requires : tie.Need-step-row-requires Inv-loop μ-loop
 step-row-requires c κs =
     let o = c .before .before .before .before .before .pre in
-    (o .0, ((omega arith, omega arith), sized-as (c .before .before .loop .inv .1) (o .1)))
+    (o .0, (omega arith, sized-as (c .before .before .loop .inv .1) (o .1)))
 
 sub-row : tie.Need-sub-row Inv-loop μ-loop
 sub-row c = omega arith
@@ -46,10 +46,10 @@ loop-again c =
     let e : l .row - 1 + 1 ≡ l .row = omega arith in (
       omega arith,
       omega arith,
-      rows-down _ _ _ _ _ (l .row - 1) _ _ _ _ _ _ _ _
+      rows-down _ _ _ _ (l .row - 1) _ _ _ _ _ _ _ _
           (λ e. ⊎-elim (λ w. omega arith) (λ w. omega arith) (if1 .came))
           (λ e. ⊎-elim (λ w. omega arith) (λ w. omega arith) (if1 .came))
-          (l .inv .2) (subst (λ (k : ℕ). Swept (a .first) (a .count) (a .rows .now) (l .row - 1) k (a .window) (a .n) (l .marks) (step-row .last .1 .1 .1 .1 .1 .1 .0) (step-row .result)) e (step-row .ensures)),
+          (l .inv .2) (subst (λ (k : ℕ). Swept (a .count) (a .rows .now) (l .row - 1) k (a .window) (a .n) (l .marks) (step-row .last .1 .1 .1 .1 .1 .0) (step-row .result)) e (step-row .ensures)),
     )
 
 same-length : tie.Need-same-length Inv-loop μ-loop
@@ -58,7 +58,7 @@ same-length c = c .before .loop .inv .1
 returns : tie.Need-returns Inv-loop μ-loop
 returns c =
     let a = c .before .before .before .before .args in
-    rows-among _ _ _ _ _ _ _ _ _ _ _ _ (omega arith) (le-refl (a .count)) (c .before .loop .inv .2)
+    rows-among _ _ _ _ _ _ _ _ _ _ _ (omega arith) (le-refl (a .count)) (c .before .loop .inv .2)
 
 pub sweep-down-spec : {M : Type 1} → statement M
 sweep-down-spec =

@@ -2,8 +2,7 @@
 use native.Mathlib.Omega.{arith}
 use mathlib.Core.Path.{_≡_, refl}
 use mathlib.Core.Logic.{⊎-elim}
-use Prim.Native.Nat.{_+_, _-_, _≤_}
-use native.Mathlib.Nat.{le-refl}
+use Prim.Native.Nat.{_+_, _-_}
 use lib.ListN.{length}
 use Rattle.closing.specs.Moves.{Swept}
 use Rattle.closing.proofs.Decoding.{sized-as}
@@ -12,22 +11,21 @@ use Rattle.closing.proofs.sweeps.sweep_up.Statement.{statement}
 use Rattle.closing.proofs.sweeps.sweep_up.Tie as tie
 
 abbrev Inv-loop : tie.InvT-loop
-Inv-loop rows first count n window marks₀ changed₀ row₀ marks changed row =
-    (first ≤ row) × (length marks ≡ length marks₀) × Swept first count rows first row window n marks₀ marks changed
+Inv-loop rows count n window marks₀ changed₀ row₀ marks changed row =
+    (length marks ≡ length marks₀) × Swept count rows 0 row window n marks₀ marks changed
 
 abbrev μ-loop : tie.MeasureT-loop
-μ-loop rows first count n window marks₀ changed₀ row₀ marks changed row = count - row
+μ-loop rows count n window marks₀ changed₀ row₀ marks changed row = count - row
 
 loop-holds : tie.Need-loop-holds Inv-loop μ-loop
 loop-holds c =
-    let a = c .before .before .args in
-    (le-refl (a .first), refl, rows-none _ _ _ _ _ _ _)
+    (refl, rows-none _ _ _ _ _ _)
 
 step-row-requires : tie.Need-step-row-requires Inv-loop μ-loop
 step-row-requires c κs =
     let o = c .before .before .before .before .before .pre in
     let l = c .before .before .loop in
-    (o .0, ((l .inv .0, omega arith), sized-as (l .inv .1) (o .1)))
+    (o .0, (omega arith, sized-as (l .inv .0) (o .1)))
 
 add-row : tie.Need-add-row Inv-loop μ-loop
 add-row c = omega arith
@@ -41,20 +39,18 @@ loop-again c =
     let step-row = c .before .before .before .step-row in
     let if1 = c .if1 in (
       omega arith,
-      omega arith,
-      rows-up _ _ _ _ _ _ _ (l .row + 1) _ _ _ _ _ _
+      rows-up _ _ _ _ _ _ (l .row + 1) _ _ _ _ _ _
           (λ e. ⊎-elim (λ w. omega arith) (λ w. omega arith) (if1 .came))
           (λ e. ⊎-elim (λ w. omega arith) (λ w. omega arith) (if1 .came))
-          (l .inv .2) (step-row .ensures),
+          (l .inv .1) (step-row .ensures),
     )
 
 same-length : tie.Need-same-length Inv-loop μ-loop
-same-length c = c .before .loop .inv .1
+same-length c = c .before .loop .inv .0
 
 returns : tie.Need-returns Inv-loop μ-loop
 returns c =
-    let a = c .before .before .before .before .args in
-    rows-among _ _ _ _ _ _ _ _ _ _ _ _ (le-refl (a .first)) (omega arith) (c .before .loop .inv .2)
+    rows-among _ _ _ _ _ _ _ _ _ _ _ (omega arith) (omega arith) (c .before .loop .inv .1)
 
 pub sweep-up-spec : {M : Type 1} → statement M
 sweep-up-spec =

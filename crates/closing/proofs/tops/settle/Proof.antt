@@ -23,7 +23,7 @@ same-length c = search needs
 
 returns : tie.Need-returns
 returns c =
-    crown-then-close _ _ _ _ _ _ _ _ _ _ (c .before .before .before .before .before .before .crown .ensures) (c .before .before .close .ensures)
+    crown-then-close _ _ _ _ _ _ _ _ _ (c .before .before .before .before .before .before .crown .ensures) (c .before .before .close .ensures)
 
 pub settle-spec : {M : Type 1} → statement M
 settle-spec = tie.close (tie.spec crown-requires close-requires same-length returns)

@@ -2,8 +2,9 @@
 use borrow.Author.Needs.{needs}
 use mathlib.Core.Path.{ap, _∙_}
 use Rattle.text.specs.Read.{says}
-use Rattle.text.proofs.Answers.{answered}
+use Rattle.text.proofs.Answers.{answered, taken-over}
 use Rattle.text.proofs.Keyed.{ranged-past}
+use Rattle.readings.specs.declared.reading.Reading.the-variants.{Refused}
 use Rattle.readings.specs.Readings.{readingOf}
 use Rattle.readings.proofs.Lines.{known-past, refused-first, refused-second, refused-third, reading-is}
 use Rattle.readings.proofs.reading.reading_at.Statement.{statement}
@@ -30,7 +31,7 @@ refused-line-requires c κs = search needs
 returns : tie.Need-returns
 returns c =
     let e = c .before .enum-told .given .1 in
-    ap readingOf (c .refused-line .ensures _ _ e) ∙ refused-first _ _ _ _ (answered says (c .before .before .before .ranged-line .ensures) e)
+    ap readingOf (taken-over says Refused (c .refused-line .ensures) e) ∙ refused-first _ _ _ _ (answered says (c .before .before .before .ranged-line .ensures) e)
 
 known-line-requires : tie.Need-known-line-requires
 known-line-requires c κs =
@@ -50,7 +51,7 @@ returns-2 : tie.Need-returns-2
 returns-2 c =
     let a = answered says (c .before .before .before .before .before .before .before .ranged-line .ensures) (c .before .before .before .before .before .a .given .1) in
     let e = c .before .enum-told2 .given .1 in
-    ap readingOf (c .refused-line2 .ensures _ _ e) ∙ refused-second _ _ _ _ a (answered says (c .before .before .before .known-line .ensures) e)
+    ap readingOf (taken-over says Refused (c .refused-line2 .ensures) e) ∙ refused-second _ _ _ _ a (answered says (c .before .before .before .known-line .ensures) e)
 
 slice-aggregate-ranged-line-2 : tie.Need-slice-aggregate-ranged-line-2
 slice-aggregate-ranged-line-2 c = search needs
@@ -74,7 +75,7 @@ returns-3 c =
     let a = answered says (c .before .before .before .before .before .before .before .before .before .before .before .before .ranged-line .ensures) (c .before .before .before .before .before .before .before .before .before .before .a .given .1) in
     let b = answered says (c .before .before .before .before .before .before .before .before .known-line .ensures) (c .before .before .before .before .before .before .b .given .1) in
     let e = c .before .enum-told3 .given .1 in
-    ap readingOf (c .refused-line3 .ensures _ _ e) ∙ refused-third _ _ _ _ a b (answered says (c .before .before .before .ranged-line2 .ensures) e)
+    ap readingOf (taken-over says Refused (c .refused-line3 .ensures) e) ∙ refused-third _ _ _ _ a b (answered says (c .before .before .before .ranged-line2 .ensures) e)
 
 returns-4 : tie.Need-returns-4
 returns-4 c =

@@ -1,8 +1,5 @@
 -- `refused_line` meets its contract. Assumes nothing.
 use borrow.Author.Needs.{needs}
-use native.Mathlib.Omega.{arith}
-use mathlib.Core.Path.{_≡_}
-use Prim.Native.Nat.{ℕ}
 use Rattle.readings.proofs.reading.refused_line.Statement.{statement}
 use Rattle.readings.proofs.reading.refused_line.Tie as tie
 
@@ -13,11 +10,10 @@ enum-known-l : tie.Need-enum-known-l
 enum-known-l c = search needs
 
 returns : tie.Need-returns
-returns c =
-    λ n p e. let z : _≡_ {A = ℕ} 0 1 = cc (c .enum-told .given .1) in absurd (omega arith)
+returns c = rw (c .enum-told .given .1)
 
 returns-2 : tie.Need-returns-2
-returns-2 c = λ n p e. cc (c .before .l .given .1)
+returns-2 c = rw (c .before .l .given .1)
 
 pub refused-line-spec : {M : Type 1} → statement M
 refused-line-spec = tie.close (tie.spec enum-told enum-known-l returns returns-2)

@@ -6,8 +6,9 @@ use mathlib.Core.List.{List, []}
 use Prim.Native.Nat.{_-_}
 use lib.ListN.{length}
 use Rattle.text.specs.Words.{namesAt}
-use Rattle.text.proofs.Answers.{answered}
+use Rattle.text.proofs.Answers.{answered, taken-over}
 use Rattle.tilco.specs.Inference.{Mark}
+use Rattle.readings.specs.declared.whole.Outcome.the-variants.{Refused}
 use Rattle.readings.specs.Readings.{reading, readingOf}
 use Rattle.readings.specs.Taking.{Checked}
 use Rattle.readings.specs.Taking.Checked.{accepted, refused-at}
@@ -44,7 +45,7 @@ returns-2 : tie.Need-returns-2 Inv-loop μ-loop
 returns-2 c =
     let a = answered readingOf (c .before .before .before .reading-at .ensures) (c .before .enum-told .given .1) in
     let e = passed-off _ _ (c .before .before .before .before .before .loop .inv .1) (c .before .before .before .before .loop-test .taken) a in
-    subst (Checked _) (sym (c .refused-reading .ensures _ _ (c .before .enum-told .given .1)))
+    subst (Checked _) (sym (taken-over readingOf Refused (c .refused-reading .ensures) (c .before .enum-told .given .1)))
     (refused-at _ _ (readings-short _ _ _ (c .before .before .before .before .before .before .if1 .left) ∙ e))
 
 loop-less : tie.Need-loop-less Inv-loop μ-loop

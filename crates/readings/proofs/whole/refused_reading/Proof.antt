@@ -1,8 +1,5 @@
 -- `refused_reading` meets its contract. Assumes nothing.
 use borrow.Author.Needs.{needs}
-use native.Mathlib.Omega.{arith}
-use mathlib.Core.Path.{_≡_}
-use Prim.Native.Nat.{ℕ}
 use Rattle.readings.proofs.whole.refused_reading.Statement.{statement}
 use Rattle.readings.proofs.whole.refused_reading.Tie as tie
 
@@ -13,11 +10,10 @@ enum-known-a : tie.Need-enum-known-a
 enum-known-a c = search needs
 
 returns : tie.Need-returns
-returns c =
-    λ n p e. let z : _≡_ {A = ℕ} 0 1 = cc (c .enum-told .given .1) in absurd (omega arith)
+returns c = rw (c .enum-told .given .1)
 
 returns-2 : tie.Need-returns-2
-returns-2 c = λ n p e. cc (c .before .a .given .1)
+returns-2 c = rw (c .before .a .given .1)
 
 pub refused-reading-spec : {M : Type 1} → statement M
 refused-reading-spec = tie.close (tie.spec enum-told enum-known-a returns returns-2)

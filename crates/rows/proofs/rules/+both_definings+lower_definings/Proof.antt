@@ -52,7 +52,7 @@ module _ (t : ℕ) where
   both-definings-lower-definings-requires c κs =
       let s = c .before .before .before .before .before .args in
       let n = length-append (definingsAt (s .arena .now) (s .left)) (definingsAt (s .arena .now) (s .right)) in
-      (omega arith, (c .before .before .before .before .before .pre .1 .0 .0, (omega arith, (omega arith, omega arith))))
+      (omega arith, (search needs, (omega arith, (omega arith, omega arith))))
 
   both-definings-enum-known-free : both-definings-lts.Need-enum-known-free both-definings-calls both-definings-at both-definings.Post
   both-definings-enum-known-free c = search needs

@@ -3,8 +3,9 @@ use borrow.Author.Needs.{needs}
 use native.Mathlib.Omega.{arith}
 use mathlib.Core.Path.{sym, subst}
 use Rattle.text.specs.Read.{says}
-use Rattle.text.proofs.Answers.{answered}
+use Rattle.text.proofs.Answers.{answered, taken-over}
 use Rattle.text.proofs.Keyed.{ranged-past}
+use Rattle.sheet.specs.declared.head.Heading.the-variants.{Refused}
 use Rattle.sheet.specs.Reading.{placesOf, Headed}
 use Rattle.sheet.specs.Reading.Headed.{headed, refused-at}
 use Rattle.sheet.proofs.Signals.{signal-lines}
@@ -30,7 +31,7 @@ refused-line-requires c κs = search needs
 returns : tie.Need-returns
 returns c =
     let x = c .before .enum-told .given .1 in
-    subst (Headed _ _) (sym (c .refused-line .ensures _ _ x)) (refused-at (refused-window _ (answered says (c .before .before .before .ranged-line .ensures) x)))
+    subst (Headed _ _) (sym (taken-over says Refused (c .refused-line .ensures) x)) (refused-at (refused-window _ (answered says (c .before .before .before .ranged-line .ensures) x)))
 
 slice-aggregate-ranged-line-2 : tie.Need-slice-aggregate-ranged-line-2
 slice-aggregate-ranged-line-2 c = search needs
@@ -53,7 +54,7 @@ returns-2 : tie.Need-returns-2
 returns-2 c =
     let a = answered says (c .before .before .before .before .before .before .before .before .ranged-line .ensures) (c .before .before .before .before .before .before .a .given .1) in
     let x = c .before .enum-told2 .given .1 in
-    subst (Headed _ _) (sym (c .refused-line2 .ensures _ _ x)) (refused-at (refused-signals _ a (answered says (c .before .before .before .ranged-line2 .ensures) x)))
+    subst (Headed _ _) (sym (taken-over says Refused (c .refused-line2 .ensures) x)) (refused-at (refused-signals _ a (answered says (c .before .before .before .ranged-line2 .ensures) x)))
 
 signals-at-requires : tie.Need-signals-at-requires
 signals-at-requires c κs =
@@ -78,7 +79,7 @@ returns-3 c =
     let a = answered says (c .before .before .before .before .before .before .before .before .before .before .before .before .before .before .before .ranged-line .ensures) (c .before .before .before .before .before .before .before .before .before .before .before .before .before .a .given .1) in
     let b = answered says (c .before .before .before .before .before .before .before .before .before .before .ranged-line2 .ensures) (c .before .before .before .before .before .before .before .before .b .given .1) in
     let x = c .before .enum-told3 .given .1 in
-    subst (Headed _ _) (sym (c .refused-line3 .ensures _ _ x)) (refused-at (refused-signal _ a b (answered (placesOf _ _) (c .before .before .before .before .before .signals-at .ensures) x)))
+    subst (Headed _ _) (sym (taken-over says Refused (c .refused-line3 .ensures) x)) (refused-at (refused-signal _ a b (answered (placesOf _ _) (c .before .before .before .before .before .signals-at .ensures) x)))
 
 slice-aggregate-ranged-line-3 : tie.Need-slice-aggregate-ranged-line-3
 slice-aggregate-ranged-line-3 c = search needs
@@ -107,7 +108,7 @@ returns-4 c =
     let b = answered says (c .before .before .before .before .before .before .before .before .before .before .before .before .before .before .before .ranged-line2 .ensures) (c .before .before .before .before .before .before .before .before .before .before .before .before .before .b .given .1) in
     let d = answered (placesOf _ _) (c .before .before .before .before .before .before .before .before .before .before .signals-at .ensures) (c .before .before .before .before .before .before .d .given .1) in
     let x = c .before .enum-told4 .given .1 in
-    subst (Headed _ _) (sym (c .refused-line4 .ensures _ _ x)) (refused-at (refused-rules _ a b d (answered says (c .before .before .before .ranged-line3 .ensures) x)))
+    subst (Headed _ _) (sym (taken-over says Refused (c .refused-line4 .ensures) x)) (refused-at (refused-rules _ a b d (answered says (c .before .before .before .ranged-line3 .ensures) x)))
 
 same-length-3 : tie.Need-same-length-3
 same-length-3 c = search needs

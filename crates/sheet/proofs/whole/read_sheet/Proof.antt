@@ -3,7 +3,9 @@ use borrow.Author.Needs.{needs}
 use native.Mathlib.Omega.{arith}
 use mathlib.Core.Path.{sym, subst}
 use lib.ListN.{length-take}
-use Rattle.sheet.specs.Reading.{SheetRead}
+use Rattle.text.proofs.Answers.{taken-over}
+use Rattle.sheet.specs.declared.whole.Outline.the-variants.{Refused}
+use Rattle.sheet.specs.Reading.{headSays, SheetRead}
 use Rattle.sheet.specs.Reading.SheetRead.{refused-at}
 use Rattle.sheet.proofs.Heads.{head-past}
 use Rattle.sheet.proofs.Answers.{when-headed, when-no-head, when-rules, when-no-rules}
@@ -32,7 +34,7 @@ same-length c = search needs
 returns-2 : tie.Need-returns-2
 returns-2 c =
     let x = c .before .enum-told .given .1 in
-    subst (SheetRead _ _) (sym (c .refused-head .ensures _ _ x)) (refused-at (refused-head _ (c .before .before .before .before .before .before .before .if1 .left) (when-no-head (c .before .before .before .before .before .head .ensures) x)))
+    subst (SheetRead _ _) (sym (taken-over headSays Refused (c .refused-head .ensures) x)) (refused-at (refused-head _ (c .before .before .before .before .before .before .before .if1 .left) (when-no-head (c .before .before .before .before .before .head .ensures) x)))
 
 slice-reshare-prefix-check-rules : tie.Need-slice-reshare-prefix-check-rules
 slice-reshare-prefix-check-rules c =
