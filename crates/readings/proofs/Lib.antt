@@ -4,3 +4,4 @@ pub mod Turns
 pub mod Outcomes
 pub mod Bounds
 pub mod Stays
+pub mod Cuts

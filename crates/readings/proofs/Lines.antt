@@ -1,6 +1,6 @@
 -- A reading's lines: each answer of the reader, and what an accepted reading is.
 -- Assumes nothing.
-use mathlib.Core.Path.{_≡_, sym}
+use mathlib.Core.Path.{_≡_, sym, ap, _∙_}
 use mathlib.Core.List.{List}
 use Prim.Native.Nat.{ℕ, _+_, _-_, _<_, _≤_}
 use native.Mathlib.Omega.{arith}
@@ -66,6 +66,18 @@ pub record Read-past (k W : ℕ) (r : List ℕ) (p : ℕ) (m : Mark) (q : ℕ) :
   pub past : Reach r (p + 1) q
   pub within : Within k W m
 
+-- The three lines of a reading from p to q, whose mark is m: what each holds, and where the second and the third start.
+pub record Three-lines (names : List (List ℕ)) (W : ℕ) (r : List ℕ) (p : ℕ) (m : Mark) (q : ℕ) : Type 0 where
+  pub tick : ℕ
+  pub row : ℕ
+  pub value : ℕ
+  pub second : ℕ
+  pub third : ℕ
+  pub at-line : rangedLine r p (bytes "at=") 11 13 0 (W - 1) ≡ got tick second
+  pub signal-line : knownLine names r second ≡ got row third
+  pub value-line : rangedLine r third (bytes "value=") 11 14 0 1 ≡ got value q
+  pub is : mark row tick (eqb value 1) ≡ m
+
 module _ (names : List (List ℕ)) (W : ℕ) (r : List ℕ) (p : ℕ) where
   -- The refusal of a line is the reading's, once those before it are accepted.
   pub refused-first : {n k : ℕ} → rangedLine r p (bytes "at=") 11 13 0 (W - 1) ≡ refused n k → refused n k ≡ reading names W r p
@@ -87,21 +99,41 @@ module _ (names : List (List ℕ)) (W : ℕ) (r : List ℕ) (p : ℕ) where
       unfolding reading
       reading-is d = rw (a, b, d)
 
-  -- Each accepted reading is so.
-  pub reading-past : 1 ≤ W → (m : Mark) {q : ℕ} → reading names W r p ≡ got m q → Read-past (length names) W r p m q
+  -- An accepted reading has three accepted lines.
+  pub three-lines : {m : Mark} {q : ℕ} → reading names W r p ≡ got m q → Three-lines names W r p m q
   unfolding reading
-  reading-past some (mark x t v) {q} e =
+  three-lines e =
       let a = came (rangedLine r p (bytes "at=") 11 13 0 (W - 1)) _ e in
       let b = came (knownLine names r (a .place)) _ (a .then) in
       let d = came (rangedLine r (b .place) (bytes "value=") 11 14 0 1) _ (b .then) in
-      let f = ranged-past r p (bytes "at=") 11 13 0 (W - 1) (a .first) in
-      let g = known-past names r (a .place) (b .first) in
-      let h = ranged-past r (b .place) (bytes "value=") 11 14 0 1 (d .first) in
-      let i : mark (b .value) (a .value) (eqb (d .value) 1) ≡ mark x t v = same-value (d .then) in
-      let j : d .place ≡ q = same-place (d .then) in
-      let k : b .value ≡ x = cc in
-      let l : a .value ≡ t = cc in
       record {
-        past = record { ahead = omega (arith, f .0 .ahead, g .0 .ahead, h .0 .ahead); inside = omega (arith, h .0 .inside) };
-        within = (omega (arith, g .1), omega (arith, f .2));
+        tick = a .value;
+        row = b .value;
+        value = d .value;
+        second = a .place;
+        third = b .place;
+        at-line = a .first;
+        signal-line = b .first;
+        value-line = d .first ∙ ap (got (d .value)) (same-place (d .then));
+        is = same-value (d .then);
       }
+
+  -- What follows it stands after it.
+  pub reading-ahead : {m : Mark} {q : ℕ} → reading names W r p ≡ got m q → Reach r (p + 1) q
+  reading-ahead e =
+      let l = three-lines e in
+      let f = ranged-past r p (bytes "at=") 11 13 0 (W - 1) (l .at-line) in
+      let g = known-past names r (l .second) (l .signal-line) in
+      let h = ranged-past r (l .third) (bytes "value=") 11 14 0 1 (l .value-line) in
+      record { ahead = omega (arith, f .0 .ahead, g .0 .ahead, h .0 .ahead); inside = h .0 .inside }
+
+  -- Its mark is within bounds.
+  pub reading-past : 1 ≤ W → (m : Mark) {q : ℕ} → reading names W r p ≡ got m q → Read-past (length names) W r p m q
+  reading-past some (mark x t v) e =
+      let l = three-lines e in
+      let f = ranged-past r p (bytes "at=") 11 13 0 (W - 1) (l .at-line) in
+      let g = known-past names r (l .second) (l .signal-line) in
+      let is : mark (l .row) (l .tick) (eqb (l .value) 1) ≡ mark x t v = l .is in
+      let i : l .row ≡ x = cc in
+      let j : l .tick ≡ t = cc in
+      record { past = reading-ahead e; within = (omega (arith, g .1), omega (arith, f .2)) }

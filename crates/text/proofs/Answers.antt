@@ -46,3 +46,8 @@ pub record Came {A B : Type 0} (R : Read A) (K : A → ℕ → Read B) (b : B) (
 pub came : {A B : Type 0} (R : Read A) (K : A → ℕ → Read B) {b : B} {r : ℕ} → andThen R K ≡ got b r → Came R K b r
 came (got a q) K e = record { value = a; place = q; first = refl; then = e }
 came (refused n p) K e = absurd (not-both (sym e))
+
+-- What goes on alike from what was read comes to the same.
+pub then-same : {A B : Type 0} (R : Read A) (K J : A → ℕ → Read B) → ((a : A) (q : ℕ) → R ≡ got a q → K a q ≡ J a q) → andThen R K ≡ andThen R J
+then-same (got a q) K J h = h a q refl
+then-same (refused n p) K J h = refl

@@ -9,4 +9,7 @@ pub mod Values
 pub mod Answers
 pub mod Keyed
 pub mod Loops
+pub mod Later
+pub mod LinesLater
+pub mod Prefix
 pub mod Stays

@@ -1,6 +1,6 @@
 -- Loops over a text: a number of things in turn, and things up to an end.
 -- Assumes nothing.
-use mathlib.Core.Path.{_≡_, refl, sym, ap, _∙_}
+use mathlib.Core.Path.{_≡_, refl, sym, ap, subst, _∙_}
 use mathlib.Core.Bool.{Bool, true, false}
 use mathlib.Core.List.{List, [], _∷_, _++_}
 use Prim.Native.Nat.{ℕ, zero, suc, _+_, _-_, _<_, _≤_}
@@ -14,7 +14,7 @@ use Rattle.text.specs.Read.{Read}
 use Rattle.text.specs.Read.Read.{got, refused}
 use Rattle.text.specs.Lines.{inTurn, upTo}
 use Rattle.text.proofs.Places.{Reach}
-use Rattle.text.proofs.Answers.{same-value, same-place, came}
+use Rattle.text.proofs.Answers.{same-value, same-place, came, then-same}
 
 module _ {A : Type 0} (P : List A → ℕ → Read A) where
   pub turn-end : (n : ℕ) (t : List A) (p : ℕ) → n ≡ 0 → inTurn P n t p ≡ got t p
@@ -48,6 +48,17 @@ module _ {A : Type 0} (P : List A → ℕ → Read A) where
   pub turn-done : (n i : ℕ) (T : List A) (p : ℕ) → i ≡ n → inTurn P (n - i) (take i T) p ≡ got (take n T) p
   turn-done n i T p e = turn-end (n - i) (take i T) p (omega arith) ∙ ap (λ (k : ℕ). got (take k T) p) e
 
+  -- Parts that J reads as P does, as long as Q holds of those before, are read in turn alike, and Q holds of them all.
+  module _ (J : List A → ℕ → Read A) (Q : List A → Type 0) (part : (t : List A) (p : ℕ) (a : A) (q : ℕ) → Q t → P t p ≡ got a q → (J t p ≡ got a q) × Q (t ++ (a ∷ []))) where
+    pub turn-alike : (n : ℕ) (t : List A) (p : ℕ) {u : List A} {q : ℕ} → Q t → inTurn P n t p ≡ got u q → (inTurn J n t p ≡ got u q) × Q u
+    unfolding inTurn
+    turn-alike zero t p h e = (e, subst Q (same-value e) h)
+    turn-alike (suc n) t p h e =
+        let d = came (P t p) (λ a q. inTurn P n (t ++ (a ∷ [])) q) e in
+        let w = part t p (d .value) (d .place) h (d .first) in
+        let r = turn-alike n (t ++ (d .value ∷ [])) (d .place) (w .1) (d .then) in
+        (rw (w .0) (r .0), r .1)
+
   -- What is read in turn is as long as it is said to be, and ends inside the text if each part does.
   module _ (s : List ℕ) (part : (t : List A) (p : ℕ) (a : A) (q : ℕ) → P t p ≡ got a q → Reach s p q) where
     pub turn-reach : (n : ℕ) (t : List A) (p : ℕ) {u : List A} {q : ℕ} → p ≤ length s → inTurn P n t p ≡ got u q → Reach s p q × (length u ≡ length t + n)
@@ -78,6 +89,16 @@ module _ {A : Type 0} (P : ℕ → Read A) (end : ℕ) where
   unfolding upTo
   up-off zero t p h l e = let w : ⊥ = omega arith in absurd w
   up-off (suc n) t p h l e = rw (lt-ltb p end l, e)
+
+  -- A bound that lets all be read changes nothing, if each part takes up a place.
+  pub up-enough : ((p : ℕ) (a : A) (q : ℕ) → P p ≡ got a q → p + 1 ≤ q) → (n m : ℕ) (t : List A) (p : ℕ) → end ≤ p + n → end ≤ p + m → upTo P end n t p ≡ upTo P end m t p
+  unfolding upTo
+  up-enough part zero m t p h k = sym (up-end m t p (omega arith))
+  up-enough part (suc n) zero t p h k = up-end (suc n) t p (omega arith)
+  up-enough part (suc n) (suc m) t p h k =
+      let e = then-same (P p) (λ a q. upTo P end n (t ++ (a ∷ [])) q) (λ a q. upTo P end m (t ++ (a ∷ [])) q)
+      (λ a q f. up-enough part n m (t ++ (a ∷ [])) q (omega (arith, part p a q f)) (omega (arith, part p a q f))) in
+      rw e
 
   pub up-reach : (s : List ℕ) → ((p : ℕ) (a : A) (q : ℕ) → P p ≡ got a q → Reach s p q) → (n : ℕ) (t : List A) (p : ℕ) {u : List A} {q : ℕ} → p ≤ length s → upTo P end n t p ≡ got u q → Reach s p q
   unfolding upTo

@@ -3,7 +3,7 @@
 use mathlib.Core.Path.{_≡_, refl, sym, ap}
 use mathlib.Core.Logic.{_↔_}
 use mathlib.Core.Bool.{Bool, true, false, false≢true, not, and-eq-true-iff}
-use mathlib.Core.List.{List, [], _∷_, List·Memᴰ}
+use mathlib.Core.List.{List, [], _∷_, _++_, List·Memᴰ}
 use Prim.Native.Nat.{ℕ, zero, suc, _+_, _-_, _<_, _≤_}
 use native.Mathlib.Omega.{arith}
 use borrow.Author.Tests.{eqb-true, eq-eqb, le-leb, lt-leb, leb-true, not-true}
@@ -93,6 +93,11 @@ unfolding namesAt
 names-at s [] i h = let z : ⊥ = omega arith in absurd z
 names-at s (p ∷ ps) zero h = refl
 names-at s (p ∷ ps) (suc i) h = let k : i < length ps = omega arith in names-at s ps i k
+
+pub names-append : (s ps qs : List ℕ) → namesAt s (ps ++ qs) ≡ namesAt s ps ++ namesAt s qs
+unfolding namesAt
+names-append s [] qs = refl
+names-append s (p ∷ ps) qs = rw (names-append s ps qs)
 
 -- The search from the place i on.
 module _ (s ps w : List ℕ) (i : ℕ) where

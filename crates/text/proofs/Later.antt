@@ -1,0 +1,102 @@
+-- What stands before a text changes only the places: in u ++ t, from the place length u + i on, is read what t has from i on, and every place that
+-- is given is length u later. Here bytes, words and numbers; lines are in LinesLater.
+-- Assumes nothing.
+use mathlib.Core.Path.{_≡_, refl, ap}
+use mathlib.Core.Bool.{Bool, true, false, not, _&&_}
+use mathlib.Core.List.{List, [], _∷_, _++_}
+use Prim.Native.Nat.{ℕ, zero, suc, _+_, _-_, _*_}
+use native.Mathlib.Omega.{arith}
+use lib.Dec.{leb, eqb}
+use lib.ListN.{length}
+use lib.Seq.{drop-append-add, getD-append-add}
+use Rattle.text.specs.declared.words.Word.{Word}
+use Rattle.text.specs.declared.words.Word.the-variants.{Name, Other}
+use Rattle.text.specs.declared.numbers.Number.{Number}
+use Rattle.text.specs.declared.numbers.Number.the-variants.{Value, Missing}
+use Rattle.text.specs.Read.{Read}
+use Rattle.text.specs.Read.Read.{got, refused}
+use Rattle.text.specs.Bytes.{bytes, byte, peek, pick, between, letter, digit, nameByte, starts, run, runAt, runEnd}
+use Rattle.text.specs.Words.{wordAt, wordEnd, isWord, nameAt}
+use Rattle.text.specs.Numbers.{digits, number}
+
+-- An answer whose place is d later, and whose value is f of what it was.
+abbrev pub moved : {A B : Type 0} → (A → B) → ℕ → Read A → Read B
+moved f d (got a q) = got (f a) (d + q)
+moved f d (refused n p) = refused n (d + p)
+
+-- An answer whose place is d later.
+abbrev pub later : {A : Type 0} → ℕ → Read A → Read A
+later d = moved (λ a. a) d
+
+-- The same of a word that is read.
+abbrev pub laterWord : ℕ → Word → Word
+laterWord d (Name q) = Name (d + q)
+laterWord d Other = Other
+
+-- The same of a number.
+abbrev pub laterNumber : ℕ → Number → Number
+laterNumber d (Value v q) = Value v (d + q)
+laterNumber d Missing = Missing
+
+-- What is made of one of two is one of what is made of them.
+pub pick-map : {A B : Type 0} (f : A → B) (b : Bool) (x y : A) → pick b (λ _. f x) (f y) ≡ f (pick b (λ _. x) y)
+pick-map f true x y = refl
+pick-map f false x y = refl
+
+module _ (u t : List ℕ) where
+  -- bytes
+  pub peek-later : (i : ℕ) → peek (u ++ t) (length u + i) ≡ peek t i
+  unfolding peek
+  peek-later i = getD-append-add u t i (byte "\n")
+
+  -- the bytes of a key
+  pub starts-later : (i : ℕ) (w : List ℕ) → starts (u ++ t) (length u + i) w ≡ starts t i w
+  unfolding starts
+  starts-later i [] = refl
+  starts-later i (x ∷ w) =
+      let n : length u + i + 1 ≡ length u + (i + 1) = omega arith in
+      rw (n, peek-later i, starts-later (i + 1) w)
+
+  -- runs
+  pub runAt-later : (i : ℕ) (P : ℕ → Bool) → runAt P (u ++ t) (length u + i) ≡ runAt P t i
+  unfolding runAt
+  runAt-later i P = ap (run P) (drop-append-add u t i)
+
+  pub runEnd-later : (i : ℕ) (P : ℕ → Bool) → runEnd P (u ++ t) (length u + i) ≡ length u + runEnd P t i
+  unfolding runEnd
+  runEnd-later i P = rw (runAt-later i P) (omega arith)
+
+  -- words
+  pub isWord-later : (i : ℕ) (w : List ℕ) → isWord (u ++ t) (length u + i) w ≡ isWord t i w
+  unfolding isWord
+  isWord-later i w =
+      let n : length u + i + length w ≡ length u + (i + length w) = omega arith in
+      rw (n, starts-later i w, peek-later (i + length w))
+
+  -- names
+  pub nameAt-later : (i : ℕ) → nameAt (u ++ t) (length u + i) ≡ laterWord (length u) (nameAt t i)
+  unfolding nameAt
+  nameAt-later i =
+      rw (peek-later i, runAt-later i nameByte, isWord-later i (bytes "since"), isWord-later i (bytes "until"), runEnd-later i nameByte)
+      (pick-map (laterWord (length u)) (letter (peek t i) && leb (length (wordAt t i)) 16 && not (isWord t i (bytes "since")) && not (isWord t i (bytes "until"))) (Name (wordEnd t i)) Other)
+
+  -- numbers
+  pub digits-later : (i k v : ℕ) → digits (u ++ t) k (length u + i) v ≡ laterNumber (length u) (digits t k i v)
+  unfolding digits
+  digits-later i zero v = refl
+  digits-later i (suc k) v =
+      let n : length u + i + 1 ≡ length u + (i + 1) = omega arith in
+      rw (n, peek-later i, digits-later (i + 1) k (10 * v + (peek t i - byte "0")))
+      (pick-map (laterNumber (length u)) (digit (peek t i)) (digits t k (i + 1) (10 * v + (peek t i - byte "0"))) (Value v i))
+
+  pub number-later : (i : ℕ) → number (u ++ t) (length u + i) ≡ laterNumber (length u) (number t i)
+  unfolding number
+  number-later i =
+      let n : length u + i + 1 ≡ length u + (i + 1) = omega arith in
+      rw (n, peek-later i, digits-later i 5 0)
+      (go (eqb (peek t i) (byte "0")) (between (byte "1") (byte "9") (peek t i)))
+    where
+      go : (b c : Bool) → pick b (λ _. Value 0 (length u + (i + 1))) (pick c (λ _. laterNumber (length u) (digits t 5 i 0)) Missing) ≡ laterNumber (length u) (pick b (λ _. Value 0 (i + 1)) (pick c (λ _. digits t 5 i 0) Missing))
+      go true c = refl
+      go false true = refl
+      go false false = refl
