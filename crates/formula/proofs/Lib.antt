@@ -5,3 +5,5 @@ pub mod Levels
 pub mod Rooms
 pub mod Steps
 pub mod Timed
+pub mod SpansLater
+pub mod Later

@@ -10,3 +10,5 @@ pub mod Stays
 pub mod Formulas
 pub mod Accepted
 pub mod Examples
+pub mod Bodies
+pub mod Shuffled

@@ -31,7 +31,8 @@ ltb-later d a b = go (ltb a b) refl
     go true e = lt-ltb (d + a) (d + b) (omega (arith, ltb-true a b e))
     go false e = le-ltb (d + a) (d + b) (omega (arith, ltb-false a b e))
 
-eqb-later : (d a b : ℕ) → eqb (d + a) (d + b) ≡ eqb a b
+-- Two places are one, later by as much.
+pub eqb-later : (d a b : ℕ) → eqb (d + a) (d + b) ≡ eqb a b
 eqb-later d a b = go (eqb a b) refl
   where
     go : (c : Bool) → eqb a b ≡ c → eqb (d + a) (d + b) ≡ c
