@@ -8,4 +8,5 @@ pub mod Sweeping
 pub mod Finishing
 pub mod Crowning
 pub mod Clashing
+pub mod Window
 pub mod Outcomes

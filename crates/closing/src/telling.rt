@@ -1,4 +1,5 @@
-// What a table tells: its facts, and whether a row has both marks at one tick. Assumes that the table has the rows.
+// What a table tells: its facts, whether a row has both marks at one tick, and whether every mark is in the window.
+// Assumes that the table has the rows.
 use crate::words::word_at;
 ghost use mathlib.Core.Path.{_≡_};
 ghost use mathlib.Core.Bool.{true};
@@ -6,7 +7,7 @@ ghost use mathlib.Core.Logic.{_↔_};
 ghost use Prim.Native.Nat.{_*_, _^_, _<_, _≤_};
 ghost use lib.ListN.{length};
 ghost use Rattle.tilco.specs.Inference.{Clash};
-ghost use Rattle.tilco.specs.Table.{Stands, facts};
+ghost use Rattle.tilco.specs.Table.{words, Stands, Inside, facts};
 ghost use Rattle.closing.specs.Gains.{HasRow};
 ghost use Rattle.closing.specs.Closes.{ClashAt};
 
@@ -56,4 +57,25 @@ pub fn clash_in(marks: &[u64], count: usize, n: usize) -> bool
         row += 1;
     }
     false
+}
+
+// Is every mark in the window? Only the last word of a row and value can have a tick past it.
+pub fn inside_window(marks: &[u64], count: usize, n: usize, window: usize) -> bool
+    requires { ⌜ (length (now marks) ≡ 2 * count * n) × (1 ≤ window) × (n ≡ words window) × (2 * count * n < 2 ^ 32) ⌝ }
+    ensures { λ v. ⌜ (v ≡ true) ↔ Inside window (Stands n (now (marks .entry))) ⌝ }
+{
+    let last = n - 1;
+    let ticks = window - 64 * last;
+    if ticks == 64 {
+        return true;
+    }
+    let blocks = 2 * count;
+    let mut k: usize = 0;
+    while k < blocks {
+        if marks[k * n + last] >> ticks != 0 {
+            return false;
+        }
+        k += 1;
+    }
+    true
 }

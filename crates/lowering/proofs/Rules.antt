@@ -23,7 +23,6 @@ use Rattle.rows.specs.declared.rules.AllLowered.the-variants.{Next, Full}
 use Rattle.rows.proofs.Spelled.{definings-length}
 use Rattle.rows.proofs.InTurn.{WentAll, went-all, all-none, all-full, all-then}
 use Rattle.lowering.specs.Lines.{Legible}
-use Rattle.lowering.specs.declared.line.LineLowered.the-variants as line
 
 -- What the rules ws of a sheet with n signals come to.
 abbrev pub spelledAll : List Written → ℕ → List BTL
@@ -41,7 +40,7 @@ spelled-rest ws vs n =
     ap lows (laid-append hiddens spelled ws vs n (n + total hiddens ws) refl) ∙ map-append (lowered true) (laid hiddens spelled ws n) (laid hiddens spelled vs (n + total hiddens ws))
 
 -- How many formulas they are.
-spelled-many : (ws : List Written) (n : ℕ) → length (laid hiddens spelled ws n) ≡ length ws + total hiddens ws
+pub spelled-many : (ws : List Written) (n : ℕ) → length (laid hiddens spelled ws n) ≡ length ws + total hiddens ws
 spelled-many [] n = refl
 spelled-many (w ∷ ws) n =
     omega (arith, length-append (spelled w n) (laid hiddens spelled ws (n + hiddens w)), definings-length n w, spelled-many ws (n + hiddens w))

@@ -1,11 +1,12 @@
--- A whole sheet that is lowered: that its rules can be, and each answer.
+-- A whole sheet that is lowered: that its rules can be, how many tops it has, and each answer.
 -- Assumes nothing.
 use mathlib.Core.Path.{_≡_, sym, ap, subst, _∙_}
+use mathlib.Core.Bool.{true}
 use mathlib.Core.Logic.{inl, inr}
 use mathlib.Core.List.{List, []}
 use Prim.Native.Nat.{ℕ, _+_, _<_, _≤_}
 use native.Mathlib.Omega.{arith}
-use lib.ListN.{length, take}
+use lib.ListN.{length, take, length-map}
 use lib.Seq.{take-length}
 use Rattle.text.specs.Read.Read.{got}
 use Rattle.text.specs.Words.{namesAt}
@@ -13,7 +14,7 @@ use Rattle.text.proofs.Answers.{same-value}
 use Rattle.text.proofs.Loops.{turn-reach}
 use Rattle.tilco.specs.Lists.{All, total}
 use Rattle.tilco.specs.Formula.{Written, hiddens, Sheet, signalRows, formulas}
-use Rattle.tilco.specs.Lowering.{lows, rowCount}
+use Rattle.tilco.specs.Lowering.{lowered, lows, rowCount}
 use Rattle.sheet.specs.Sheet.{ruleLine, rules, Contents, contents, sheetOf, meant}
 use Rattle.sheet.proofs.Heads.{head-past}
 use Rattle.sheet.proofs.Ruled.{rule-past}
@@ -24,13 +25,18 @@ use Rattle.rows.proofs.Sheets.{sheet-used, sheet-full}
 use Rattle.lowering.specs.Sheets.{Outlined, Lowerable, RulesLower, SheetLowers}
 use Rattle.lowering.specs.Sheets.SheetLowers.{fits, over}
 use Rattle.lowering.specs.declared.whole.SheetLowered.the-variants.{Rows, Over}
+use Rattle.lowering.proofs.Rules.{spelled-many}
 
 -- As many rules are read as there are lines.
-rules-many : (names : List (List ℕ)) (s : List ℕ) (m p : ℕ) {ws : List Written} {q : ℕ} → p ≤ length s → rules names s m p ≡ got ws q → length ws ≡ m
+pub rules-many : (names : List (List ℕ)) (s : List ℕ) (m p : ℕ) {ws : List Written} {q : ℕ} → p ≤ length s → rules names s m p ≡ got ws q → length ws ≡ m
 unfolding rules
 rules-many names s m p h e =
     let r = turn-reach (λ _ x. ruleLine names s x) s (λ t x a y g. let w = rule-past names s x g in record { ahead = omega (arith, w .ahead); inside = w .inside }) m [] p h e in
     omega (arith, r .1)
+
+-- A top for each rule and each defining rule.
+pub tops-many : (s : Sheet) → length (lows (formulas s)) ≡ length (s .rules) + total hiddens (s .rules)
+tops-many s = length-map (formulas s) (lowered true) ∙ spelled-many (s .rules) (s .signals)
 
 module _ (s places : List ℕ) (m h p : ℕ) (o : Outlined s places m h p) where
   abbrev all : List Written

@@ -24,7 +24,7 @@ use Rattle.rows.specs.declared.rules.AllLowered.the-variants.{Next, Full
 use Rattle.rows.proofs.Runs.{sets-append}
 
 -- As many tops as formulas.
-tops-length : (cs : List BTL) (b : ℕ) → length (topsAll cs b) ≡ length cs
+pub tops-length : (cs : List BTL) (b : ℕ) → length (topsAll cs b) ≡ length cs
 tops-length [] b = refl
 tops-length (c ∷ cs) b = ap suc (tops-length cs (b + size c))
 

@@ -19,12 +19,12 @@ use Rattle.tilco.specs.Formula.{Named, Declared}
 use Rattle.tilco.specs.Lists.{All}
 use Rattle.tilco.proofs.Lists.{all-weaker}
 use Rattle.formula.specs.Grammar.{rule}
-use Rattle.sheet.specs.Sheet.{signalLine, headOf, head, ruleTo, ruleLine, rules, Contents, contents, sheetOf, meant, Near}
+use Rattle.sheet.specs.Sheet.{signalLine, headOf, head, ruleTo, ruleLine, rules, Contents, contents, sheetOf, meant}
 use Rattle.sheet.proofs.Stays.{turn-stays}
 use Rattle.sheet.proofs.Formulas.{Fits, rule-reads}
 
 -- The rules fit the names.
-abbrev FitsAll : Contents → Type 0
+abbrev pub FitsAll : Contents → Type 0
 FitsAll k = All (Fits (length (k .places))) (k .rules)
 
 module _ (s : List ℕ) where
@@ -88,15 +88,12 @@ module _ (s : List ℕ) where
       (λ _. (subst (λ (n : ℕ). All (Fits n) ws) (names-many s (h .places)) f, j)) j)))
       (omega arith)
 
-  -- Of an accepted sheet every name is declared (refusal 6),
-  pub sheet-declared : {k : Contents} {q : ℕ} → sheetOf s ≡ got k q → Declared (meant k)
-  sheet-declared {k} e =
-      let n : ℕ = length (k .places) in
-      all-weaker (Fits n) (Named n) (λ w f. f .0) (k .rules) (stays-got FitsAll (length s) sheet-stays e .0)
+  -- Of an accepted sheet every name is declared (refusal 6) and every interval is near (refusal 7).
+  pub sheet-fits : {k : Contents} {q : ℕ} → sheetOf s ≡ got k q → FitsAll k
+  sheet-fits e = stays-got FitsAll (length s) sheet-stays e .0
 
-  -- and every interval is near (refusal 7).
-  pub sheet-near : {k : Contents} {q : ℕ} → sheetOf s ≡ got k q → All Near (k .rules)
-  sheet-near {k} e = all-weaker (Fits (length (k .places))) Near (λ w f. f .1) (k .rules) (stays-got FitsAll (length s) sheet-stays e .0)
+  pub sheet-declared : {k : Contents} {q : ℕ} → sheetOf s ≡ got k q → Declared (meant k)
+  sheet-declared {k} e = let n : ℕ = length (k .places) in all-weaker (Fits n) (Named n) (λ w f. f .0) (k .rules) (sheet-fits e)
 
   -- A refusal's place is at most the text's length.
   pub refusal-inside : {n p : ℕ} → sheetOf s ≡ refused n p → p ≤ length s

@@ -15,12 +15,12 @@ use Rattle.sheet.specs.declared.head.Heading.{Heading}
 use Rattle.sheet.specs.declared.head.Heading.the-variants as heading
 use Rattle.sheet.specs.declared.whole.Outline.{Outline}
 use Rattle.sheet.specs.declared.whole.Outline.the-variants as outline
-use Rattle.sheet.specs.Sheet.{headOf, head}
+use Rattle.sheet.specs.Sheet.{headOf, head, sheetOf}
 use Rattle.sheet.specs.Reading.{Sizes, Headed, Rule, RuleRead, Rules, RulesRead, Whole, SheetRead}
 use Rattle.sheet.specs.Reading.Headed.{headed, refused-at as no-head}
 use Rattle.sheet.specs.Reading.RuleRead.{read as rule-read, refused-at as no-rule}
 use Rattle.sheet.specs.Reading.RulesRead.{read as rules-read, refused-at as no-rules}
-use Rattle.sheet.specs.Reading.SheetRead.{read as sheet-read}
+use Rattle.sheet.specs.Reading.SheetRead.{read as sheet-read, refused-at as no-sheet}
 
 -- of the head's
 of-head : {s T : List ℕ} {w n m p : ℕ} → Headed s T (heading.Lines w n m p) → (head s ≡ got (headOf w (take n T) m) p) × Sizes w n m
@@ -74,6 +74,14 @@ module _ {R : Read (List Written)} {r : Step} (x : RulesRead R r) where
 of-sheet : {s T : List ℕ} {w n m h p : ℕ} → SheetRead s T (outline.Sheet w n m h p) → Whole s T w n m h p
 of-sheet (sheet-read x) = x
 
--- The sheet was read.
-pub when-sheet : {s T : List ℕ} {r : Outline} {w n m h p : ℕ} → SheetRead s T r → r ≡ outline.Sheet w n m h p → Whole s T w n m h p
-when-sheet {s} {T} x e = of-sheet (subst (SheetRead s T) e x)
+of-no-sheet : {s T : List ℕ} {k p : ℕ} → SheetRead s T (outline.Refused k p) → sheetOf s ≡ refused k p
+of-no-sheet (no-sheet e) = e
+
+module _ {s T : List ℕ} {r : Outline} (x : SheetRead s T r) where
+  -- the sheet was read
+  pub when-sheet : {w n m h p : ℕ} → r ≡ outline.Sheet w n m h p → Whole s T w n m h p
+  when-sheet e = of-sheet (subst (SheetRead s T) e x)
+
+  -- the sheet is refused
+  pub when-no-sheet : {k p : ℕ} → r ≡ outline.Refused k p → sheetOf s ≡ refused k p
+  when-no-sheet e = of-no-sheet (subst (SheetRead s T) e x)

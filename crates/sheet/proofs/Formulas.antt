@@ -66,7 +66,7 @@ module _ (n : ℕ) (s : List ℕ) where
       (λ e.
       let i = inside-test s p (λ b. oneOf b (bytes "@?")) refl e in
       span-stays (p + 1) (interval s (p + 1)) (λ first more q. times s k (Written.time u first more f) q) (omega arith) (interval-sound s (p + 1))
-      (λ first more q a b l. times-stay k (Written.time u first more f) q (w .0, (a, b, w .1)) l))
+      (λ first more q a b l. times-stay k (Written.time u first more f) q (w .0, ((a, b), w .1)) l))
       (w, h)
 
   timed-reads : (P : Reader) → Reads n s P → Reads n s (timedPart P s)

@@ -1,23 +1,27 @@
--- A whole sheet: each answer of its reader, and that two answers for one text coincide.
+-- A whole sheet: each answer of its reader, what an accepted one has, and that two answers for one text coincide.
 -- Assumes nothing.
-use mathlib.Core.Path.{_≡_, sym, ap, _∙_}
+use mathlib.Core.Path.{_≡_, sym, ap, ap₂, _∙_}
+use mathlib.Core.Bool.{Bool, true, false}
 use mathlib.Core.List.{List}
 use Prim.Native.Nat.{ℕ, _<_, _≤_}
 use native.Mathlib.Omega.{arith}
 use borrow.Author.Tests.{eq-eqb, ne-eqb, le-leb, lt-leb}
+use lib.Dec.{leb, eqb}
 use lib.ListN.{length, take}
 use lib.Seq.{length-take-le}
-use Rattle.text.specs.Read.{Read}
+use Rattle.text.specs.Read.{Read, andThen}
 use Rattle.text.specs.Read.Read.{got, refused}
+use Rattle.text.specs.Bytes.{pick}
 use Rattle.text.specs.Words.{namesAt}
-use Rattle.text.proofs.Answers.{not-both, same-value, same-place}
+use Rattle.text.proofs.Answers.{not-both, same-value, same-place, through, came}
 use Rattle.tilco.specs.Formula.{Written, hiddens}
 use Rattle.tilco.specs.Lists.{total}
 use Rattle.sheet.specs.declared.whole.Outline.{Outline}
 use Rattle.sheet.specs.declared.whole.Outline.the-variants.{Sheet}
-use Rattle.sheet.specs.Sheet.{Head, headOf, head, rules, Contents, contents, sheetOf}
+use Rattle.sheet.specs.Sheet.{Head, headOf, head, rules, Contents, contents, atEnd, sheetOf}
 use Rattle.sheet.specs.Reading.{Sizes, Rules, Whole, SheetRead}
 use Rattle.sheet.specs.Reading.SheetRead.{read, refused-at}
+use Rattle.sheet.proofs.Heads.{head-past}
 
 -- A sheet over its length is refused.
 pub sheet-long : (s : List ℕ) → 32768 < length s → sheetOf s ≡ refused 1 0
@@ -47,6 +51,25 @@ module _ (s : List ℕ) (short : length s ≤ 32768) where
       pub sheet-is : q ≡ length s → sheetOf s ≡ got (contents w t ws) q
       unfolding sheetOf
       sheet-is h = rw (le-leb (length s) 32768 short, a, b, eq-eqb q (length s) h)
+
+-- An accepted sheet's head is accepted, and its numbers are in their ranges.
+pub sheet-head : (s : List ℕ) {k : Contents} {q : ℕ} → sheetOf s ≡ got k q → (m : ℕ) × (p : ℕ) × (head s ≡ got (headOf (k .window) (k .places) m) p)
+unfolding sheetOf
+sheet-head s {k} {q} e = go (leb (length s) 32768) e
+  where
+    go : (b : Bool) → pick b (λ _. andThen (head s) (λ h p. andThen (rules (namesAt s (h .places)) s (h .count) p) (λ ws x. atEnd s (contents (h .window) (h .places) ws) x))) (refused 1 0) ≡ got k q
+        → (m : ℕ) × (p : ℕ) × (head s ≡ got (headOf (k .window) (k .places) m) p)
+    go true f =
+        let a = came (head s) _ f in
+        let d = came (rules (namesAt s (a .value .places)) s (a .value .count) (a .place)) _ (a .then) in
+        let g = through (eqb (d .place) (length s)) (contents (a .value .window) (a .value .places) (d .value)) (d .place) 2 (d .place) (d .then) .1 in
+        let w : a .value .window ≡ k .window = ap (λ (c : Contents). c .window) g in
+        let t : a .value .places ≡ k .places = ap (λ (c : Contents). c .places) g in
+        (a .value .count, a .place, a .first ∙ ap₂ (λ (i : ℕ) (l : List ℕ). got (headOf i l (a .value .count)) (a .place)) w t)
+    go false f = absurd (not-both (sym f))
+
+pub sheet-sizes : (s : List ℕ) {k : Contents} {q : ℕ} → sheetOf s ≡ got k q → (m : ℕ) × Sizes (k .window) (length (k .places)) m
+sheet-sizes s e = let h = sheet-head s e in (h .0, head-past s (h .2) .sizes)
 
 -- What an accepted sheet's answer says.
 pub sheet-read : (s T : List ℕ) {w n m h p q : ℕ} → length s ≤ 32768 → head s ≡ got (headOf w (take n T) m) p → Sizes w n m

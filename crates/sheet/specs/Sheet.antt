@@ -75,10 +75,10 @@ sheetOf s =
 abbrev pub meant : Contents → tilco.Sheet
 meant k = record { window = k .window; signals = length (k .places); rules = k .rules }
 
--- Every interval in the rule has whole numbers from -63 to 63 only, as reading it ensures (refusal 7).
+-- The interval has whole numbers from -63 to 63 only (refusal 7).
+abbrev pub near : ℕ → ℕ → Type 0
+near first more = (1 ≤ first) × (first + more ≤ 127)
+
+-- Every interval in the rule has, as reading it ensures.
 abbrev pub Near : Written → Type 0
-Near (Written.name x) = Unit {0}
-Near (Written.neg f) = Near f
-Near (Written.pair o f g) = Near f × Near g
-Near (Written.time u first more f) = (1 ≤ first) × (first + more ≤ 127) × Near f
-Near (Written.keep b f g) = Near f × Near g
+Near = tilco.Spans near

@@ -1,19 +1,21 @@
--- Marks put into a table: none, one after others, and one by its word.
+-- Marks put into a table: none, one after others, and one by its word; and whether a mark stands there.
 -- Assumes nothing.
 use mathlib.Core.Path.{_≡_, refl, sym, ap, _∙_, subst}
-use mathlib.Core.Bool.{Bool}
+use mathlib.Core.Bool.{Bool, true}
 use mathlib.Core.List.{List, [], _∷_, _++_, List·Memᴰ·head, List·Memᴰ·not-nil, List·Memᴰ·append-cases, List·Memᴰ·eq-of-singleton, Memᴰ·append-left, Memᴰ·append-right}
 use mathlib.Core.Logic.{_⊎_, _↔_, inl, inr, ⊎-elim}
 use Prim.Native.Nat.{ℕ, suc, _+_, _*_, _/_, _%_, _^_, _<_, _≤_}
 use native.Mathlib.Decide.{ℕ-discrete}
 use native.Mathlib.Nat.{mod-eq-of-lt, one-mul, mul-le-mul-left, mul-le-mul-right, suc-mul}
 use native.Mathlib.Omega.{arith}
+use borrow.Author.Tests.{eqb-true, eq-eqb}
 use lib.Arith.{digits-div, digits-mod}
 use lib.Bits.{bitOr}
+use lib.Dec.{eqb}
 use lib.ListN.{length, getD, set, length-set}
 use lib.Pow.{pow-lt}
 use lib.Seq.{getD-set-same, getD-set-other}
-use Rattle.ticks.specs.Ticks.{Has, block}
+use Rattle.ticks.specs.Ticks.{bit, Has, block}
 use Rattle.ticks.proofs.Bits.{or-left, or-right, or-out}
 use Rattle.ticks.proofs.Shifts.{one-has, one-only}
 use Rattle.ticks.proofs.Tables.{block-apart, block-high}
@@ -143,3 +145,11 @@ puts-made n T row t v h l k e =
     puts-word n T row t v h (k * n + t / 64) (bitOr (getD T (k * n + t / 64) 0) ((1 * 2 ^ (t % 64)) % 2 ^ 64))
     (ap (λ (z : ℕ). z * n + t / 64) e) (word-inside n row t v (length T) h l k e)
     (ap (bitOr (getD T (k * n + t / 64) 0)) (one-word (t % 64) (omega arith)))
+
+-- A mark stands exactly if its bit, as the code reads it in block k, is one.
+pub stands-made : (n : ℕ) (T : List ℕ) (row t : ℕ) (v : Bool) → t < n * 64 → (k : ℕ) → k ≡ block row v
+    → (eqb (getD T (k * n + t / 64) 0 / 2 ^ (t % 64) % 2) 1 ≡ true) ↔ Stands n T (mark row t v)
+unfolding bit
+stands-made n T row t v h k e =
+    let d = ap (λ (z : ℕ). getD T (z * n + t / 64) 0 / 2 ^ (t % 64) % 2) e in
+    (λ a. record { within = h; set-at = sym d ∙ eqb-true _ 1 a }, λ m. eq-eqb _ 1 (d ∙ m .set-at))

@@ -1,11 +1,22 @@
-// Marks in a lent table of words: a row has `n` words for each value, 64 ticks in each. Assumes nothing of the words.
+// Marks in a lent table of words, put and looked up: a row has `n` words for each value, 64 ticks in each. Assumes nothing of the words.
 ghost use mathlib.Core.Path.{_≡_};
+ghost use mathlib.Core.Bool.{true};
 ghost use mathlib.Core.List.{[], _∷_};
+ghost use mathlib.Core.Logic.{_↔_};
 ghost use Prim.Native.Nat.{_+_, _*_, _^_, _<_, _≤_};
 ghost use lib.ListN.{length};
 ghost use Rattle.ticks.specs.Ticks.{block};
 ghost use Rattle.tilco.specs.Inference.{mark};
+ghost use Rattle.tilco.specs.Table.{words, Stands};
 ghost use Rattle.table.specs.Puts.{Puts};
+
+// The words that a row has for each value.
+pub fn words_of(window: usize) -> usize
+    requires { ⌜ window ≤ 4096 ⌝ }
+    ensures { λ n. ⌜ n ≡ words window ⌝ }
+{
+    (window + 63) / 64
+}
 
 // The number of the block of words that holds a row's marks of one value.
 pub fn block_of(row: usize, value: bool) -> usize
@@ -25,4 +36,16 @@ pub fn put_mark(table: &mut [u64], n: usize, row: usize, tick: usize, value: boo
     let t = tick % 64;
     let w = table[i];
     table[i] = w | (1 << t);
+}
+
+// Does one mark stand in the table?
+pub fn has_mark(table: &[u64], n: usize, row: usize, tick: usize, value: bool) -> bool
+    requires { ⌜ (tick < n * 64) × (2 * (row + 1) * n ≤ length (now table)) ⌝ }
+    ensures { λ r. ⌜ (r ≡ true) ↔ Stands n (now (table .entry)) (mark row tick value) ⌝ }
+{
+    let k = block_of(row, value);
+    let i = k * n + tick / 64;
+    let b = tick % 64;
+    let w = table[i];
+    (w >> b) % 2 == 1
 }

@@ -1,4 +1,4 @@
--- Children stand before parents, a not-row turns a signal's row, and every top is a row.
+-- Children stand before parents, a not-row turns a signal's row, a look's offset is of an interval, and every top is a row.
 -- Assumes a sheet in which every name is declared.
 use mathlib.Core.Path.{_≡_, refl, sym, _∙_, subst}
 use mathlib.Core.Bool.{Bool, true, false, not}
@@ -8,68 +8,94 @@ use Prim.Native.Nat.{ℕ, zero, suc, _+_, _<_, _≤_}
 use native.Mathlib.Omega.{arith}
 use lib.ListN.{length-append, replicate, length-replicate, getD-replicate, List·getD-append}
 use Rattle.tilco.specs.Lists.{All, total, laid}
-use Rattle.tilco.specs.Formula.{Op, And, Or, Implies, Iff, Written, Formula, hiddens, plain, defining, definings, spelled, Sheet, signalRows, formulas, Named, Declared}
+use Rattle.tilco.specs.Formula.{Op, And, Or, Implies, Iff, Written, Formula, hiddens, plain, stepOf, defining, definings, spelled, Sheet, signalRows, formulas, Named, Spans, Declared}
 use Rattle.tilco.specs.Inference.{Node, signal, notOf, gate, look, node}
 use Rattle.tilco.specs.Lowering.{BTL, lit, join, timed, paired, lowered, size, joined, topOf, rowsAll, topsAll, lows, program, rowCount}
-use Rattle.tilco.proofs.Lists.{all-append}
+use Rattle.tilco.proofs.Lists.{all-append, all-weaker}
 use Rattle.tilco.proofs.Rows.{Along, Each, all-along, every-row, length-rowsAll}
 
--- ---- the signals of a sheet's formulas have rows of their own
+-- ---- the signals of a sheet's formulas have rows of their own, and its intervals are those of the rules and of since and until
+
+-- its signals are below m, and its intervals pass S
+abbrev pub Within : (ℕ → ℕ → Type 0) → ℕ → BTL → Type 0
+Within S m (lit s x) = x < m
+Within S m (join u a b) = Within S m a × Within S m b
+Within S m (timed u lo n a) = S lo n × Within S m a
+
+-- Any interval passes.
+abbrev AnyInterval : ℕ → ℕ → Type 0
+AnyInterval lo n = Unit {0}
 
 -- its signals are below m
 abbrev pub Below : ℕ → BTL → Type 0
-Below m (lit s x) = x < m
-Below m (join u a b) = Below m a × Below m b
-Below m (timed u lo n a) = Below m a
+Below = Within AnyInterval
 
-paired-below : (m : ℕ) (o : Op) (s : Bool) (f g : Bool → BTL) → ((z : Bool) → Below m (f z)) → ((z : Bool) → Below m (g z)) → Below m (paired o s f g)
-paired-below m And s f g p q = (p s, q s)
-paired-below m Or s f g p q = (p s, q s)
-paired-below m Implies s f g p q = (p (not s), q s)
-paired-below m Iff s f g p q = ((p (not s), q s), (q (not s), p s))
+any-spans : (w : Written) → Spans AnyInterval w
+any-spans (Written.name x) = tt
+any-spans (Written.neg f) = any-spans f
+any-spans (Written.pair o f g) = (any-spans f, any-spans g)
+any-spans (Written.time u lo n f) = (tt, any-spans f)
+any-spans (Written.keep b f g) = (any-spans f, any-spans g)
 
-module _ (n m : ℕ) (le : n ≤ m) where
-  -- in either sense
-  abbrev Low : Formula → Type 0
-  Low f = (z : Bool) → Below m (lowered z f)
+module _ (S : ℕ → ℕ → Type 0) (steps : (b : Bool) → S (stepOf b) 0) where
+  paired-within : (m : ℕ) (o : Op) (s : Bool) (f g : Bool → BTL) → ((z : Bool) → Within S m (f z)) → ((z : Bool) → Within S m (g z)) → Within S m (paired o s f g)
+  paired-within m And s f g p q = (p s, q s)
+  paired-within m Or s f g p q = (p s, q s)
+  paired-within m Implies s f g p q = (p (not s), q s)
+  paired-within m Iff s f g p q = ((p (not s), q s), (q (not s), p s))
 
-  plain-low : (x : ℕ) (w : Written) → Named n w → x + hiddens w ≤ m → Low (plain x w)
-  plain-low x (Written.name y) d h s = omega arith
-  plain-low x (Written.neg f) d h s = plain-low x f d h (not s)
-  plain-low x (Written.pair o f g) d h s =
-      paired-below m o s (λ z. lowered z (plain x f)) (λ z. lowered z (plain (x + hiddens f) g)) (plain-low x f (d .0) (omega arith)) (plain-low (x + hiddens f) g (d .1) (omega arith))
-  plain-low x (Written.time u lo k f) d h s = plain-low x f d h s
-  plain-low x (Written.keep b f g) d h s = omega arith
+  -- The rule's names are declared, and its intervals pass.
+  abbrev Fit : ℕ → Written → Type 0
+  Fit n w = Named n w × Spans S w
 
-  defining-low : (b : Bool) (x : ℕ) (f g : Formula) → x < m → Low f → Low g → Low (defining b x f g)
-  defining-low b x f g h p q s = ((h, (p s, (q s, h))), ((p (not s), (q (not s), h)), h))
+  module _ (n m : ℕ) (le : n ≤ m) where
+    -- in either sense
+    abbrev Low : Formula → Type 0
+    Low f = (z : Bool) → Within S m (lowered z f)
 
-  abbrev AllBelow : List Formula → Type 0
-  AllBelow fs = All (Below m) (lows fs)
+    plain-low : (x : ℕ) (w : Written) → Fit n w → x + hiddens w ≤ m → Low (plain x w)
+    plain-low x (Written.name y) d h s = omega (arith, d .0)
+    plain-low x (Written.neg f) d h s = plain-low x f d h (not s)
+    plain-low x (Written.pair o f g) d h s =
+        paired-within m o s (λ z. lowered z (plain x f)) (λ z. lowered z (plain (x + hiddens f) g)) (plain-low x f (d .0 .0, d .1 .0) (omega arith)) (plain-low (x + hiddens f) g (d .0 .1, d .1 .1) (omega arith))
+    plain-low x (Written.time u lo k f) d h s = (d .1 .0, plain-low x f (d .0, d .1 .1) h s)
+    plain-low x (Written.keep b f g) d h s = omega arith
 
-  append-below : (fs gs : List Formula) → AllBelow fs → AllBelow gs → AllBelow (fs ++ gs)
-  append-below fs gs p q = subst (All (Below m)) (sym (map-append (lowered true) fs gs)) (all-append (Below m) (lows fs) (lows gs) p q)
+    defining-low : (b : Bool) (x : ℕ) (f g : Formula) → x < m → Low f → Low g → Low (defining b x f g)
+    defining-low b x f g h p q s = ((h, (p s, (q s, (steps b, h)))), ((p (not s), (q (not s), (steps b, h))), h))
 
-  definings-below : (x : ℕ) (w : Written) → Named n w → x + hiddens w ≤ m → AllBelow (definings x w)
-  definings-below x (Written.name y) d h = tt
-  definings-below x (Written.neg f) d h = definings-below x f d h
-  definings-below x (Written.pair o f g) d h =
-      append-below (definings x f) (definings (x + hiddens f) g) (definings-below x f (d .0) (omega arith)) (definings-below (x + hiddens f) g (d .1) (omega arith))
-  definings-below x (Written.time u lo k f) d h = definings-below x f d h
-  definings-below x (Written.keep b f g) d h = (
-    defining-low b x (plain (suc x) f) (plain (suc x + hiddens f) g) (omega arith) (plain-low (suc x) f (d .0) (omega arith)) (plain-low (suc x + hiddens f) g (d .1) (omega arith)) true,
-    append-below (definings (suc x) f) (definings (suc x + hiddens f) g) (definings-below (suc x) f (d .0) (omega arith)) (definings-below (suc x + hiddens f) g (d .1) (omega arith)),
-  )
+    abbrev AllWithin : List Formula → Type 0
+    AllWithin fs = All (Within S m) (lows fs)
 
-  rules-below : (x : ℕ) (ws : List Written) → All (Named n) ws → x + total hiddens ws ≤ m → AllBelow (laid hiddens spelled ws x)
-  rules-below x [] d h = tt
-  rules-below x (w ∷ ws) d h =
-      append-below (spelled w x) (laid hiddens spelled ws (x + hiddens w))
-      (plain-low x w (d .0) (omega arith) true, definings-below x w (d .0) (omega arith))
-      (rules-below (x + hiddens w) ws (d .1) (omega arith))
+    append-within : (fs gs : List Formula) → AllWithin fs → AllWithin gs → AllWithin (fs ++ gs)
+    append-within fs gs p q = subst (All (Within S m)) (sym (map-append (lowered true) fs gs)) (all-append (Within S m) (lows fs) (lows gs) p q)
+
+    definings-within : (x : ℕ) (w : Written) → Fit n w → x + hiddens w ≤ m → AllWithin (definings x w)
+    definings-within x (Written.name y) d h = tt
+    definings-within x (Written.neg f) d h = definings-within x f d h
+    definings-within x (Written.pair o f g) d h =
+        append-within (definings x f) (definings (x + hiddens f) g) (definings-within x f (d .0 .0, d .1 .0) (omega arith)) (definings-within (x + hiddens f) g (d .0 .1, d .1 .1) (omega arith))
+    definings-within x (Written.time u lo k f) d h = definings-within x f (d .0, d .1 .1) h
+    definings-within x (Written.keep b f g) d h =
+        let l : Fit n f = (d .0 .0, d .1 .0) in
+        let r : Fit n g = (d .0 .1, d .1 .1) in (
+          defining-low b x (plain (suc x) f) (plain (suc x + hiddens f) g) (omega arith) (plain-low (suc x) f l (omega arith)) (plain-low (suc x + hiddens f) g r (omega arith)) true,
+          append-within (definings (suc x) f) (definings (suc x + hiddens f) g) (definings-within (suc x) f l (omega arith)) (definings-within (suc x + hiddens f) g r (omega arith)),
+        )
+
+    rules-within : (x : ℕ) (ws : List Written) → All (Fit n) ws → x + total hiddens ws ≤ m → AllWithin (laid hiddens spelled ws x)
+    rules-within x [] d h = tt
+    rules-within x (w ∷ ws) d h =
+        append-within (spelled w x) (laid hiddens spelled ws (x + hiddens w))
+        (plain-low x w (d .0) (omega arith) true, definings-within x w (d .0) (omega arith))
+        (rules-within (x + hiddens w) ws (d .1) (omega arith))
+
+  -- Where the names are declared and the intervals pass, so they do in each formula of the sheet.
+  pub sheet-within : (s : Sheet) → All (Fit (s .signals)) (s .rules) → All (Within S (signalRows s)) (lows (formulas s))
+  sheet-within s d = rules-within (s .signals) (signalRows s) (omega arith) (s .signals) (s .rules) d (omega arith)
 
 pub sheet-below : (s : Sheet) → Declared s → All (Below (signalRows s)) (lows (formulas s))
-sheet-below s d = rules-below (s .signals) (signalRows s) (omega arith) (s .signals) (s .rules) d (omega arith)
+sheet-below s d = sheet-within AnyInterval (λ b. tt) s (all-weaker (Named (s .signals)) (Fit AnyInterval (λ b. tt) (s .signals)) (λ w e. (e, any-spans w)) (s .rules) d)
 
 -- ---- children before parents
 
@@ -98,10 +124,10 @@ module _ (m : ℕ) where
   ordered-along = record {
     left = λ u a c b k. (k .0, k .1 .0);
     right = λ u a c b k. (omega (arith, k .0), k .1 .1);
-    child = λ u lo n a b k. k;
+    child = λ u lo n a b k. (k .0, k .1 .1);
     nots = λ x b k. (k .1, omega (arith, k .0, k .1));
     joins = λ u a c b k. (omega (arith, top-before a b (k .0) (k .1 .0)), omega (arith, top-before c (b + size a) (omega (arith, k .0)) (k .1 .1)));
-    looks = λ u lo n a b k j h. omega (arith, top-before a b (k .0) (k .1));
+    looks = λ u lo n a b k j h. omega (arith, top-before a b (k .0) (k .1 .1));
     ties = λ u lo n a b k j h. (joined-before (b + size a) (b + size a + suc n) j n refl (omega arith), omega arith);
   }
 
@@ -117,6 +143,31 @@ module _ (m : ℕ) where
       go (inl e) k = omega (arith, top-before c b h (w .0))
       go (inr j) k = omega (arith, k j)
 
+-- ---- looks
+
+-- A look's offset is one of an interval that passes S.
+abbrev pub LooksWithin : (ℕ → ℕ → Type 0) → ℕ → Node → Type 0
+LooksWithin S r signal = Unit {0}
+LooksWithin S r (notOf x) = Unit {0}
+LooksWithin S r (gate u a b) = Unit {0}
+LooksWithin S r (look k c) = (lo : ℕ) × (n : ℕ) × S lo n × (lo ≤ k) × (k ≤ lo + n)
+
+module _ (S : ℕ → ℕ → Type 0) (m : ℕ) where
+  looks-along : Along (λ c b. Within S m c) (LooksWithin S)
+  looks-along = record {
+    left = λ u a c b k. k .0;
+    right = λ u a c b k. k .1;
+    child = λ u lo n a b k. k .1;
+    nots = λ x b k. tt;
+    joins = λ u a c b k. tt;
+    looks = λ u lo n a b k j h. (lo, n, k .0, omega arith, omega arith);
+    ties = λ u lo n a b k j h. tt;
+  }
+
+  each-within : (cs : List BTL) (b : ℕ) → All (Within S m) cs → Each (λ c i. Within S m c) cs b
+  each-within [] b w = tt
+  each-within (c ∷ cs) b w = (w .0, each-within cs (b + size c) (w .1))
+
 module _ (s : Sheet) where
   abbrev m : ℕ
   m = signalRows s
@@ -131,6 +182,10 @@ module _ (s : Sheet) where
   -- The first rows are the signals'.
   pub signal-row : (x : ℕ) → x < m → node (program s) x ≡ signal
   signal-row x h = List·getD-append (replicate m signal) (rowsAll cs m) signal x (omega (arith, length-replicate m signal)) ∙ getD-replicate m x signal signal h
+
+  -- Each look is one of an interval that passes, where those of the rules and of since and until do.
+  pub looks-within : (S : ℕ → ℕ → Type 0) (steps : (b : Bool) → S (stepOf b) 0) → All (Fit S steps (s .signals)) (s .rules) → (r : ℕ) → LooksWithin S r (node (program s) r)
+  looks-within S steps d = every-row (LooksWithin S) (λ r. tt) m cs (all-along (looks-along S m) cs m (each-within S m cs m (sheet-within S steps s d)))
 
   module _ (declared : Declared s) where
     -- Each row's children are rows before it.

@@ -100,7 +100,7 @@ module _ (m : ℕ) (F : ℕ → BTL) (own : (x : ℕ) → x < m → F x ≡ lit 
   right-stood u a c b k = (k .0 .1, at-joined (Is F) b (size a) (size c) (parts a) (parts c) (join u a c) (length-parts a) (length-parts c) (k .1) .right)
 
   child-stood : (u : Bool) (lo n : ℕ) (a : BTL) (b : ℕ) → Stood m F (timed u lo n a) b → Stood m F a b
-  child-stood u lo n a b k = (k .0, looked u lo n a b (k .1) .child)
+  child-stood u lo n a b k = (k .0 .1, looked u lo n a b (k .1) .child)
 
   module _ (h : History) where
     worthy-along : Along (Stood m F) (Worthy (λ r t. worth h (F r) t))

@@ -108,3 +108,11 @@ Named n (Written.keep b f g) = Named n f × Named n g
 -- A sheet in which every name is declared, as reading it ensures (refusal 6).
 abbrev pub Declared : Sheet → Type 0
 Declared s = All (Named (s .signals)) (s .rules)
+
+-- Every interval in the rule passes S, which is of its first offset and how many more follow.
+abbrev pub Spans : (ℕ → ℕ → Type 0) → Written → Type 0
+Spans S (Written.name x) = Unit {0}
+Spans S (Written.neg f) = Spans S f
+Spans S (Written.pair o f g) = Spans S f × Spans S g
+Spans S (Written.time u lo k f) = S lo k × Spans S f
+Spans S (Written.keep b f g) = Spans S f × Spans S g
