@@ -1,0 +1,87 @@
+// What comes before a reading or a question: the sheet is read and lowered, and the lent table compared with it.
+// Assumes nothing of the sheet and the table; the other buffers are the operation's own.
+use closing::telling::inside_window;
+use lowering::whole::SheetLowered;
+use lowering::whole::lower_sheet;
+use sheet::whole::Outline;
+use sheet::whole::read_sheet;
+use table::words_of;
+ghost use mathlib.Core.Path.{_≡_};
+ghost use lib.ListN.{length};
+ghost use Rattle.rows.specs.Words.{Blank};
+ghost use Rattle.reader.specs.Opening.{SheetOpens, TableOpens};
+
+// An accepted sheet: its window, and how many signals, top rows and rows it has. Or a refusal's number and place.
+pub enum Opening {
+    Sheet {
+        window: usize,
+        signals: usize,
+        tops: usize,
+        count: usize,
+    },
+    Refused(usize, usize),
+}
+
+// Reads and lowers the sheet: the places of its names, the words of its rows and its top rows.
+pub fn open_sheet(s: &[u8], places: &mut [u64], rows: &mut [u64], tops: &mut [u16]) -> Opening
+    requires { ⌜ (length (now places) ≡ 64) × (length (now rows) ≡ 1024) × Blank (now rows) × (length (now tops) ≡ 96) ⌝ }
+    ensures { λ r. ⌜ SheetOpens (now (s .entry)) (now (places .exit)) (now (rows .exit)) (now (tops .exit)) r ⌝ }
+{
+    let o = read_sheet(s, places);
+    match o {
+        Outline::Sheet {
+            window,
+            signals,
+            rules,
+            hidden,
+            first,
+        } => {
+            let l = lower_sheet(s, &places[..signals], rules, hidden, first, tops, rows);
+            match l {
+                SheetLowered::Rows(count) => {
+                    let k = rules + hidden;
+                    Opening::Sheet {
+                        window,
+                        signals,
+                        tops: k,
+                        count,
+                    }
+                }
+                SheetLowered::Over => Opening::Refused(9, 0),
+            }
+        }
+        Outline::Refused(n, p) => Opening::Refused(n, p),
+    }
+}
+
+// Opens the sheet, and compares the lent table with it.
+pub fn open_table(
+    s: &[u8],
+    places: &mut [u64],
+    rows: &mut [u64],
+    tops: &mut [u16],
+    table: &[u64],
+) -> Opening
+    requires { ⌜ (length (now places) ≡ 64) × (length (now rows) ≡ 1024) × Blank (now rows) × (length (now tops) ≡ 96) ⌝ }
+    ensures { λ r. ⌜ TableOpens (now (s .entry)) (now (table .entry)) (now (places .exit)) (now (rows .exit)) (now (tops .exit)) r ⌝ }
+{
+    let o = open_sheet(s, places, rows, tops);
+    let Opening::Sheet {
+        window,
+        signals: _,
+        tops: _,
+        count,
+    } = o
+    else {
+        return o;
+    };
+    let n = words_of(window);
+    if table.len() != 2 * count * n {
+        return Opening::Refused(15, 0);
+    }
+    let inside = inside_window(table, count, n, window);
+    if !inside {
+        return Opening::Refused(16, 0);
+    }
+    o
+}
