@@ -109,10 +109,10 @@ module _ {s T places B tops : List ℕ} {w t count : ℕ} (h : AtHand s T places
   tick-past x y l = out-of-range (h .1) (λ r. absurd (omega (arith, r .1, k .window-is)))
 
   module _ (x y : ℕ) (i : x < length places) (j : y < w) where
-    pub cell-in : (length T ≡ 2 * count * n) × (2 * (x + 1) * n ≤ length T) × (y < n * 64)
+    pub cell-in : (2 * (x + 1) * n ≤ length T) × (y < n * 64)
     cell-in =
         let b : 2 * (x + 1) * n ≤ 2 * length places * n = mul-le-mul-right n (omega arith) in
-        (table-length, omega (arith, signals-fit .0), omega (arith, some-words .1))
+        (omega (arith, signals-fit .0), omega (arith, some-words .1))
 
     pub answers : {a : Answer} → Asked (Stands n T) x y a → Asks s T x y (accepted a)
     answers {a} q =

@@ -3,13 +3,11 @@
 use mathlib.Core.Bool.{Bool}
 use Prim.Native.Nat.{ℕ}
 use Rattle.tilco.specs.Table.{Answer}
-use Rattle.tilco.specs.Table as tilco
+use Rattle.table.specs.Values.{valueSays}
 use Rattle.reader.specs.declared.checking.Checking.{Checking}
 use Rattle.reader.specs.declared.checking.Checking.the-variants as checking
 use Rattle.reader.specs.declared.adding.Adding.{Adding}
 use Rattle.reader.specs.declared.adding.Adding.the-variants as adding
-use Rattle.reader.specs.declared.asking.Value.{Value}
-use Rattle.reader.specs.declared.asking.Value.the-variants as value
 use Rattle.reader.specs.declared.asking.Asking.{Asking}
 use Rattle.reader.specs.declared.asking.Asking.the-variants as asking
 
@@ -36,13 +34,6 @@ checkingSays (checking.Refused n p) = refused n p
 abbrev pub addingSays : Adding → Result Gain
 addingSays (adding.Added new clash) = accepted (gain new clash)
 addingSays (adding.Refused n p) = refused n p
-
--- What each value that ask gives says.
-abbrev pub valueSays : Value → Answer
-valueSays value.Unsettled = tilco.Unsettled
-valueSays value.True = tilco.True
-valueSays value.False = tilco.False
-valueSays value.Contradiction = tilco.Contradiction
 
 -- What each case of ask's answer says.
 abbrev pub askingSays : Asking → Result Answer

@@ -2,22 +2,11 @@
 use crate::opening::Opening;
 use crate::opening::open_table;
 use closing::telling::clash_in;
-use table::has_mark;
+use table::Value;
+use table::value_at;
 use table::words_of;
-ghost use mathlib.Core.Path.{_≡_};
-ghost use Prim.Native.Nat.{_+_, _*_, _<_, _≤_};
-ghost use lib.ListN.{length};
-ghost use Rattle.tilco.specs.Table.{Stands, Asked};
-ghost use Rattle.reader.specs.Results.{valueSays, askingSays};
+ghost use Rattle.reader.specs.Results.{askingSays};
 ghost use Rattle.reader.specs.Operations.{Asks};
-
-// What a cell says.
-pub enum Value {
-    Unsettled,
-    True,
-    False,
-    Contradiction,
-}
 
 // The value of the cell, or a refusal's number and place.
 pub enum Asking {
@@ -25,27 +14,7 @@ pub enum Asking {
     Refused(usize, usize),
 }
 
-// What a table of so many rows says of one of them at a tick.
-pub fn value_at(table: &[u64], count: usize, n: usize, row: usize, tick: usize) -> Value
-    requires { ⌜ (length (now table) ≡ 2 * count * n) × (2 * (row + 1) * n ≤ length (now table)) × (tick < n * 64) ⌝ }
-    ensures { λ v. ⌜ Asked (Stands n (now (table .entry))) row tick (valueSays v) ⌝ }
-{
-    let clash = clash_in(table, count, n);
-    if clash {
-        return Value::Contradiction;
-    }
-    let holds = has_mark(table, n, row, tick, true);
-    if holds {
-        return Value::True;
-    }
-    let fails = has_mark(table, n, row, tick, false);
-    if fails {
-        return Value::False;
-    }
-    Value::Unsettled
-}
-
-// Asks the table for a signal's value at a tick.
+// Asks the table, as it was lent, for a signal's value at a tick.
 pub fn ask(s: &[u8], table: &[u64], signal: usize, tick: usize) -> Asking
     ensures { λ r. ⌜ Asks (now (s .entry)) (now (table .entry)) signal tick (askingSays r) ⌝ }
 {
@@ -67,7 +36,8 @@ pub fn ask(s: &[u8], table: &[u64], signal: usize, tick: usize) -> Asking
                 return Asking::Refused(17, 0);
             }
             let n = words_of(window);
-            let v = value_at(table, count, n, signal, tick);
+            let clash = clash_in(table, count, n);
+            let v = value_at(table, n, signal, tick, clash);
             Asking::Given(v)
         }
         Opening::Refused(n, p) => Asking::Refused(n, p),

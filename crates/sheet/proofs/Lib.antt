@@ -3,6 +3,7 @@ pub mod Cut
 pub mod Signals
 pub mod Heads
 pub mod HeadPrefix
+pub mod ShortNames
 pub mod Ruled
 pub mod Answers
 pub mod Wholes

@@ -1,2 +1,3 @@
--- The definition that the contracts cite.
+-- The definitions that the contracts cite.
 pub mod Puts
+pub mod Values

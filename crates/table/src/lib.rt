@@ -6,9 +6,10 @@ ghost use mathlib.Core.Logic.{_↔_};
 ghost use Prim.Native.Nat.{_+_, _*_, _^_, _<_, _≤_};
 ghost use lib.ListN.{length};
 ghost use Rattle.ticks.specs.Ticks.{block};
-ghost use Rattle.tilco.specs.Inference.{mark};
-ghost use Rattle.tilco.specs.Table.{words, Stands};
+ghost use Rattle.tilco.specs.Inference.{mark, Clash};
+ghost use Rattle.tilco.specs.Table.{words, Stands, Asked};
 ghost use Rattle.table.specs.Puts.{Puts};
+ghost use Rattle.table.specs.Values.{valueSays};
 
 // The words that a row has for each value.
 pub fn words_of(window: usize) -> usize
@@ -48,4 +49,31 @@ pub fn has_mark(table: &[u64], n: usize, row: usize, tick: usize, value: bool) -
     let b = tick % 64;
     let w = table[i];
     (w >> b) % 2 == 1
+}
+
+// What a cell says.
+pub enum Value {
+    Unsettled,
+    True,
+    False,
+    Contradiction,
+}
+
+// What the table says of a row at a tick, where `clash` tells whether any row clashes.
+pub fn value_at(table: &[u64], n: usize, row: usize, tick: usize, clash: bool) -> Value
+    requires { ⌜ (tick < n * 64) × (2 * (row + 1) * n ≤ length (now table)) × ((clash ≡ true) ↔ Clash (Stands n (now table))) ⌝ }
+    ensures { λ v. ⌜ Asked (Stands n (now (table .entry))) row tick (valueSays v) ⌝ }
+{
+    if clash {
+        return Value::Contradiction;
+    }
+    let holds = has_mark(table, n, row, tick, true);
+    if holds {
+        return Value::True;
+    }
+    let fails = has_mark(table, n, row, tick, false);
+    if fails {
+        return Value::False;
+    }
+    Value::Unsettled
 }

@@ -4,7 +4,7 @@ use mathlib.Core.Path.{refl}
 use lib.ListN.{length-take}
 use Rattle.reader.specs.Operations.Asks.{not-opened}
 use Rattle.reader.proofs.Tables.{when-hand, when-not}
-use Rattle.reader.proofs.Outcomes.{blank, some-window, signal-past, tick-past, cell-in, answers}
+use Rattle.reader.proofs.Outcomes.{blank, some-window, table-length, signal-past, tick-past, cell-in, answers}
 use borrow.Author.Needs.{needs}
 use Rattle.reader.proofs.asking.ask.Statement.{statement}
 use Rattle.reader.proofs.asking.ask.Tie as tie
@@ -33,14 +33,20 @@ returns-2 c = let h = when-hand (c .before .before .before .before .before .befo
 words-of-requires : tie.Need-words-of-requires
 words-of-requires c κs = let h = when-hand (c .before .before .before .before .before .before .before .before .open-table .ensures) (c .before .before .before .o .given .1) in omega (arith, some-window (h .1) _ refl .1)
 
+clash-in-requires : tie.Need-clash-in-requires
+clash-in-requires c κs = let h = when-hand (c .before .before .before .before .before .before .before .before .before .open-table .ensures) (c .before .before .before .before .o .given .1) in table-length (h .1) _ (c .words-of .ensures)
+
 value-at-requires : tie.Need-value-at-requires
-value-at-requires c κs = let h = when-hand (c .before .before .before .before .before .before .before .before .before .open-table .ensures) (c .before .before .before .before .o .given .1) in cell-in (h .1) _ (c .words-of .ensures) _ _ (simp length-take (omega (arith, h .0))) (omega arith)
+value-at-requires c κs =
+    let h = when-hand (c .before .before .before .before .before .before .before .before .before .before .open-table .ensures) (c .before .before .before .before .before .o .given .1) in
+    let i = cell-in (h .1) _ (c .before .words-of .ensures) (c .before .before .before .before .before .before .before .before .before .before .before .before .before .before .before .before .args .signal) (c .before .before .before .before .before .before .before .before .before .before .before .before .before .before .before .before .args .tick) (simp length-take (omega (arith, h .0))) (omega arith) in
+    (i .1, i .0, c .clash-in .ensures)
 
 enum-known-o-2 : tie.Need-enum-known-o-2
 enum-known-o-2 c = search needs
 
 returns-3 : tie.Need-returns-3
-returns-3 c = let h = when-hand (c .before .before .before .before .before .before .before .before .before .before .open-table .ensures) (c .before .before .before .before .before .o .given .1) in answers (h .1) _ (c .before .words-of .ensures) _ _ (simp length-take (omega (arith, h .0))) (omega arith) (c .value-at .ensures)
+returns-3 c = let h = when-hand (c .before .before .before .before .before .before .before .before .before .before .before .open-table .ensures) (c .before .before .before .before .before .before .o .given .1) in answers (h .1) _ (c .before .before .words-of .ensures) _ _ (simp length-take (omega (arith, h .0))) (omega arith) (c .value-at .ensures)
 
 returns-4 : tie.Need-returns-4
 returns-4 c = not-opened (when-not (c .before .before .before .before .before .before .open-table .ensures) (c .before .o2 .given .1))
@@ -57,6 +63,7 @@ ask-spec =
     returns
     returns-2
     words-of-requires
+    clash-in-requires
     value-at-requires
     enum-known-o-2
     returns-3

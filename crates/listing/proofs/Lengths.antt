@@ -1,0 +1,77 @@
+-- How long a listing is at the most, so that a buffer with room for it can be lent.
+-- Assumes nothing.
+use mathlib.Core.Path.{_≡_, refl, ap}
+use mathlib.Core.Bool.{Bool, true, false}
+use mathlib.Core.List.{List, [], _∷_, _++_}
+use Prim.Native.Nat.{ℕ, zero, suc, _+_, _*_, _^_, _<_, _≤_}
+use native.Mathlib.Omega.{arith}
+use lib.ListN.{length, length-append}
+use Rattle.text.specs.Bytes.{bytes}
+use Rattle.tilco.specs.Lists.{All}
+use Rattle.tilco.specs.Table.{Answer}
+use Rattle.writing.specs.Writes.{decimalText}
+use Rattle.writing.proofs.Decimals.{decimal-most}
+use Rattle.listing.specs.Listing.{lineText, numberText, signs, signalText, signalsText, oneIf, headText, listingText, refusalText}
+
+line-length : (key value : List ℕ) → length (lineText key value) ≡ length key + length value + 1
+unfolding lineText
+line-length key value = omega (arith, length-append key (value ++ bytes "\n"), length-append value (bytes "\n"))
+
+number-most : (j : ℕ) (key : List ℕ) (n : ℕ) → n < 10 ^ suc j → length (numberText key n) ≤ length key + suc j + 1
+number-most j key n h = omega (arith, line-length key (decimalText n), decimal-most j n h)
+
+signs-length : (f : ℕ → Answer) (t n : ℕ) → length (signs f t n) ≡ n
+unfolding signs
+signs-length f t zero = refl
+signs-length f t (suc n) = ap suc (signs-length f (suc t) n)
+
+signal-length : (name marks : List ℕ) → length (signalText name marks) ≡ length name + length marks + 15
+unfolding signalText
+signal-length name marks =
+    omega (arith, length-append (lineText (bytes "signal=") name) (lineText (bytes "marks=") marks), line-length (bytes "signal=") name, line-length (bytes "marks=") marks)
+
+-- A signal takes at most 95 bytes.
+signals-most : (W : ℕ) (f : ℕ → ℕ → Answer) (x : ℕ) (names : List (List ℕ)) → W ≤ 64 → All (λ w. length w ≤ 16) names → length (signalsText W f x names) ≤ 95 * length names
+unfolding signalsText
+signals-most W f x [] h a = omega arith
+signals-most W f x (name ∷ names) h a =
+    let l = signal-length name (signs (f x) 0 W) in
+    let k = signs-length (f x) 0 W in
+    let i = signals-most W f (suc x) names h (a .1) in
+    let s = a .0 in
+    omega (arith, length-append (signalText name (signs (f x) 0 W)) (signalsText W f (suc x) names))
+
+one-small : (b : Bool) → oneIf b < 10
+one-small true = omega arith
+one-small false = omega arith
+
+head-most : (rows facts : ℕ) (clash : Bool) → rows < 100000 → facts < 100000 → length (headText rows facts clash) ≤ 40
+unfolding headText
+head-most rows facts clash h k =
+    let a = number-most 0 (bytes "answer=") 0 (omega arith) in
+    let b = number-most 4 (bytes "rows=") rows h in
+    let c = number-most 4 (bytes "facts=") facts k in
+    let d = number-most 0 (bytes "clash=") (oneIf clash) (one-small clash) in
+    omega (
+      arith,
+      length-append (numberText (bytes "answer=") 0) (numberText (bytes "rows=") rows ++ (numberText (bytes "facts=") facts ++ numberText (bytes "clash=") (oneIf clash))),
+      length-append (numberText (bytes "rows=") rows) (numberText (bytes "facts=") facts ++ numberText (bytes "clash=") (oneIf clash)),
+      length-append (numberText (bytes "facts=") facts) (numberText (bytes "clash=") (oneIf clash)),
+    )
+
+-- A listing fits a buffer of 8,192 bytes.
+pub listing-most : (names : List (List ℕ)) (W rows facts : ℕ) (clash : Bool) (f : ℕ → ℕ → Answer)
+    → All (λ w. length w ≤ 16) names → length names ≤ 64 → W ≤ 64 → rows < 100000 → facts < 100000 → length (listingText names W rows facts clash f) ≤ 8192
+unfolding listingText
+listing-most names W rows facts clash f a n w r k =
+    let h = head-most rows facts clash r k in
+    let l = signals-most W f 0 names w a in
+    omega (arith, length-append (headText rows facts clash) (signalsText W f 0 names))
+
+-- A refusal's listing fits one of 64 bytes.
+pub refusal-most : (number place : ℕ) → number < 2 ^ 64 → place < 2 ^ 64 → length (refusalText number place) ≤ 64
+unfolding refusalText
+refusal-most number place h k =
+    let a = number-most 19 (bytes "answer=") number (omega arith) in
+    let b = number-most 19 (bytes "place=") place (omega arith) in
+    omega (arith, length-append (numberText (bytes "answer=") number) (numberText (bytes "place=") place))

@@ -1,0 +1,66 @@
+// The listing of a closed table, and that of a refusal, from the buffer's first place on.
+use crate::lines::write_number_line;
+use crate::marks::write_signals;
+use writing::Next;
+ghost use mathlib.Core.Path.{_≡_};
+ghost use Prim.Native.Nat.{ℕ};
+ghost use lib.ListN.{length};
+ghost use Rattle.text.specs.Words.{namesAt};
+ghost use Rattle.tilco.specs.Table.{Stands, Answer};
+ghost use Rattle.writing.specs.Writes.{Wrote};
+ghost use Rattle.listing.specs.Listing.{Listable, Answers, oneIf, headText, listingText, refusalText};
+
+// 1 for yes and 0 for no.
+fn one_if(yes: bool) -> usize
+    ensures { λ r. ⌜ r ≡ oneIf yes ⌝ }
+{
+    if yes { 1 } else { 0 }
+}
+
+// The lines before those of the signals.
+fn write_head(rows: usize, facts: usize, clash: bool, out: &mut [u8]) -> Next
+    ensures { λ r. ⌜ Wrote (headText rows facts clash) 0 (now (out .entry)) (now (out .exit)) r ⌝ }
+{
+    let Next::Place(a) = write_number_line(b"answer=", 0, out, 0) else {
+        return Next::Full;
+    };
+    let Next::Place(b) = write_number_line(b"rows=", rows, out, a) else {
+        return Next::Full;
+    };
+    let Next::Place(c) = write_number_line(b"facts=", facts, out, b) else {
+        return Next::Full;
+    };
+    let digit = one_if(clash);
+    write_number_line(b"clash=", digit, out, c)
+}
+
+// The listing of a table of `n` words a row and value. The signals' names stand at these places of the sheet text.
+pub fn write_listing(
+    s: &[u8],
+    places: &[u64],
+    window: usize,
+    n: usize,
+    table: &[u64],
+    rows: usize,
+    facts: usize,
+    clash: bool,
+    out: &mut [u8],
+) -> Next
+    requires { ⌜ Listable (length (now places)) window n (now table) clash ⌝ }
+    ensures { λ r. ⌜ ((f : ℕ → ℕ → Answer) → Answers (Stands n (now (table .entry))) (length (now (places .entry))) window f → Wrote (listingText (namesAt (now (s .entry)) (now (places .entry))) window rows facts clash f) 0 (now (out .entry)) (now (out .exit)) r) ⌝ }
+{
+    let Next::Place(signals) = write_head(rows, facts, clash, out) else {
+        return Next::Full;
+    };
+    write_signals(s, places, window, n, table, clash, out, signals)
+}
+
+// The listing of a refusal: its number and its place.
+pub fn write_refusal(number: usize, place: usize, out: &mut [u8]) -> Next
+    ensures { λ r. ⌜ Wrote (refusalText number place) 0 (now (out .entry)) (now (out .exit)) r ⌝ }
+{
+    let Next::Place(next) = write_number_line(b"answer=", number, out, 0) else {
+        return Next::Full;
+    };
+    write_number_line(b"place=", place, out, next)
+}

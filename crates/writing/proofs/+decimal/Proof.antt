@@ -1,0 +1,88 @@
+-- `decimal` meets its contract: each call writes a number with one digit fewer. Assumes nothing.
+use Prim.Native.Nat.{ℕ, _<_}
+use borrow.Author.Needs.{needs}
+use borrow.Fn.Kinds.{In}
+use borrow.Fn.PlainCycle.{Measures, is, falls, and}
+use native.Mathlib.Omega.{arith}
+use Rattle.writing.proofs.Writing.{and-then, no-room, like}
+use Rattle.writing.proofs.Decimals.{decimal-one, decimal-more}
+use Rattle.writing.proofs.decimal.Reads as decimal
+use Rattle.writing.proofs.decimal.Kinds as decimal-kinds
+use Rattle.writing.proofs.+decimal.Lts-decimal as decimal-lts
+use Rattle.writing.proofs.push.Reads as push-reads
+use Rattle.writing.proofs.+decimal.{statement}
+use Rattle.writing.proofs.+decimal.Tie.{close}
+
+abbrev μ-decimal : Measures 1 decimal-kinds.ps ℕ
+μ-decimal κs a = a .0
+
+module _ (t : ℕ) where
+  abbrev decimal-at : In 1 decimal-kinds.ps
+  decimal-at = and 1 decimal-kinds.ps (is 1 decimal-kinds.ps μ-decimal t) decimal.Pre
+
+  abbrev decimal-below : In 1 decimal-kinds.ps
+  decimal-below = and 1 decimal-kinds.ps (falls 1 decimal-kinds.ps _<_ μ-decimal t) decimal.Pre
+
+  abbrev decimal-calls : decimal-lts.Claims
+  decimal-calls = (push-reads.Asked, push-reads.Learnt, decimal-below, decimal.Post)
+
+  decimal-add-last : decimal-lts.Need-add-last decimal-calls decimal-at decimal.Post
+  decimal-add-last c = search needs
+
+  decimal-cast-last : decimal-lts.Need-cast-last decimal-calls decimal-at decimal.Post
+  decimal-cast-last c = search needs
+
+  decimal-push-requires : decimal-lts.Need-push-requires decimal-calls decimal-at decimal.Post
+  decimal-push-requires c κs = search needs
+
+  decimal-same-length : decimal-lts.Need-same-length decimal-calls decimal-at decimal.Post
+  decimal-same-length c = search needs
+
+  decimal-returns : decimal-lts.Need-returns decimal-calls decimal-at decimal.Post
+  decimal-returns c = like (decimal-one _ (c .before .before .before .before .if1 .taken)) (c .before .before .push .ensures)
+
+  decimal-decimal-requires : decimal-lts.Need-decimal-requires decimal-calls decimal-at decimal.Post
+  decimal-decimal-requires c κs = search needs
+
+  decimal-enum-known-next : decimal-lts.Need-enum-known-next decimal-calls decimal-at decimal.Post
+  decimal-enum-known-next c = search needs
+
+  decimal-enum-told : decimal-lts.Need-enum-told decimal-calls decimal-at decimal.Post
+  decimal-enum-told c = search needs
+
+  decimal-same-length-2 : decimal-lts.Need-same-length-2 decimal-calls decimal-at decimal.Post
+  decimal-same-length-2 c = search needs
+
+  decimal-returns-2 : decimal-lts.Need-returns-2 decimal-calls decimal-at decimal.Post
+  decimal-returns-2 c = like (decimal-more _ (omega arith) (omega arith)) (no-room _ (c .before .before .before .before .decimal .ensures) (c .enum-told .given .1))
+
+  decimal-push-requires-2 : decimal-lts.Need-push-requires-2 decimal-calls decimal-at decimal.Post
+  decimal-push-requires-2 c κs = search needs
+
+  decimal-same-length-3 : decimal-lts.Need-same-length-3 decimal-calls decimal-at decimal.Post
+  decimal-same-length-3 c = search needs
+
+  decimal-returns-3 : decimal-lts.Need-returns-3 decimal-calls decimal-at decimal.Post
+  decimal-returns-3 c = like (decimal-more _ (omega arith) (omega arith)) (and-then (c .before .before .before .before .before .before .before .before .before .decimal .ensures) (c .before .before .before .before .before .next .given .1) (c .before .before .push2 .ensures))
+
+pub +decimal-spec : {M : Type 1} → statement M
++decimal-spec =
+    close
+    μ-decimal
+    (λ t. decimal-lts.spec
+    (decimal-calls t)
+    (decimal-at t)
+    decimal.Post
+    (decimal-add-last t)
+    (decimal-cast-last t)
+    (decimal-push-requires t)
+    (decimal-same-length t)
+    (decimal-returns t)
+    (decimal-decimal-requires t)
+    (decimal-enum-known-next t)
+    (decimal-enum-told t)
+    (decimal-same-length-2 t)
+    (decimal-returns-2 t)
+    (decimal-push-requires-2 t)
+    (decimal-same-length-3 t)
+    (decimal-returns-3 t))

@@ -1,0 +1,5 @@
+-- The laws, one idea a file.
+pub mod Writing
+pub mod Leaves
+pub mod Decimals
+pub mod ReadBack
