@@ -1,24 +1,24 @@
 -- How long a listing is at the most, so that a buffer with room for it can be lent.
 -- Assumes nothing.
 use mathlib.Core.Path.{_≡_, refl, ap}
-use mathlib.Core.Bool.{Bool, true, false}
+use mathlib.Core.Bool.{Bool}
 use mathlib.Core.List.{List, [], _∷_, _++_}
-use Prim.Native.Nat.{ℕ, zero, suc, _+_, _*_, _^_, _<_, _≤_}
+use Prim.Native.Nat.{ℕ, zero, suc, _+_, _*_, _≤_}
 use native.Mathlib.Omega.{arith}
 use lib.ListN.{length, length-append}
 use Rattle.text.specs.Bytes.{bytes}
 use Rattle.tilco.specs.Lists.{All}
 use Rattle.tilco.specs.Table.{Answer}
 use Rattle.writing.specs.Writes.{decimalText}
-use Rattle.writing.proofs.Decimals.{decimal-most}
+use Rattle.writing.proofs.Decimals.{decimal-few}
 use Rattle.listing.specs.Listing.{lineText, numberText, signs, signalText, signalsText, oneIf, headText, listingText, refusalText}
 
 line-length : (key value : List ℕ) → length (lineText key value) ≡ length key + length value + 1
 unfolding lineText
 line-length key value = omega (arith, length-append key (value ++ bytes "\n"), length-append value (bytes "\n"))
 
-number-most : (j : ℕ) (key : List ℕ) (n : ℕ) → n < 10 ^ suc j → length (numberText key n) ≤ length key + suc j + 1
-number-most j key n h = omega (arith, line-length key (decimalText n), decimal-most j n h)
+number-most : (key : List ℕ) (n : ℕ) → length (numberText key n) ≤ length key + 21
+number-most key n = omega (arith, line-length key (decimalText n), decimal-few n)
 
 signs-length : (f : ℕ → Answer) (t n : ℕ) → length (signs f t n) ≡ n
 unfolding signs
@@ -41,17 +41,13 @@ signals-most W f x (name ∷ names) h a =
     let s = a .0 in
     omega (arith, length-append (signalText name (signs (f x) 0 W)) (signalsText W f (suc x) names))
 
-one-small : (b : Bool) → oneIf b < 10
-one-small true = omega arith
-one-small false = omega arith
-
-head-most : (rows facts : ℕ) (clash : Bool) → rows < 100000 → facts < 100000 → length (headText rows facts clash) ≤ 40
+head-most : (rows facts : ℕ) (clash : Bool) → length (headText rows facts clash) ≤ 108
 unfolding headText
-head-most rows facts clash h k =
-    let a = number-most 0 (bytes "answer=") 0 (omega arith) in
-    let b = number-most 4 (bytes "rows=") rows h in
-    let c = number-most 4 (bytes "facts=") facts k in
-    let d = number-most 0 (bytes "clash=") (oneIf clash) (one-small clash) in
+head-most rows facts clash =
+    let a = number-most (bytes "answer=") 0 in
+    let b = number-most (bytes "rows=") rows in
+    let c = number-most (bytes "facts=") facts in
+    let d = number-most (bytes "clash=") (oneIf clash) in
     omega (
       arith,
       length-append (numberText (bytes "answer=") 0) (numberText (bytes "rows=") rows ++ (numberText (bytes "facts=") facts ++ numberText (bytes "clash=") (oneIf clash))),
@@ -59,19 +55,19 @@ head-most rows facts clash h k =
       length-append (numberText (bytes "facts=") facts) (numberText (bytes "clash=") (oneIf clash)),
     )
 
--- A listing fits a buffer of 8,192 bytes.
+-- A listing fits a buffer of 8,192 bytes,
 pub listing-most : (names : List (List ℕ)) (W rows facts : ℕ) (clash : Bool) (f : ℕ → ℕ → Answer)
-    → All (λ w. length w ≤ 16) names → length names ≤ 64 → W ≤ 64 → rows < 100000 → facts < 100000 → length (listingText names W rows facts clash f) ≤ 8192
+    → All (λ w. length w ≤ 16) names → length names ≤ 64 → W ≤ 64 → length (listingText names W rows facts clash f) ≤ 8192
 unfolding listingText
-listing-most names W rows facts clash f a n w r k =
-    let h = head-most rows facts clash r k in
+listing-most names W rows facts clash f a n w =
+    let h = head-most rows facts clash in
     let l = signals-most W f 0 names w a in
     omega (arith, length-append (headText rows facts clash) (signalsText W f 0 names))
 
--- A refusal's listing fits one of 64 bytes.
-pub refusal-most : (number place : ℕ) → number < 2 ^ 64 → place < 2 ^ 64 → length (refusalText number place) ≤ 64
+-- and so does a refusal's.
+pub refusal-most : (number place : ℕ) → length (refusalText number place) ≤ 8192
 unfolding refusalText
-refusal-most number place h k =
-    let a = number-most 19 (bytes "answer=") number (omega arith) in
-    let b = number-most 19 (bytes "place=") place (omega arith) in
+refusal-most number place =
+    let a = number-most (bytes "answer=") number in
+    let b = number-most (bytes "place=") place in
     omega (arith, length-append (numberText (bytes "answer=") number) (numberText (bytes "place=") place))

@@ -3,3 +3,4 @@ pub mod Signs
 pub mod Answered
 pub mod Lengths
 pub mod Examples
+pub mod Printing

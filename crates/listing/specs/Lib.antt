@@ -1,2 +1,3 @@
--- The definitions that the contracts cite.
+-- The definitions that the contracts cite, lowest layer first.
 pub mod Listing
+pub mod Prints

@@ -61,3 +61,17 @@ digits-most (suc k) j n h = go (decLt n 10) j h (digits-most k)
 pub decimal-most : (j n : ℕ) → n < 10 ^ suc j → length (decimalText n) ≤ suc j
 unfolding decimalText
 decimal-most j n h = digits-most 20 j n h
+
+last-digits-few : (k n : ℕ) → length (lastDigits k n) ≤ k
+unfolding lastDigits
+last-digits-few zero n = omega arith
+last-digits-few (suc k) n = go (decLt n 10) (last-digits-few k (n / 10))
+  where
+    go : Dec (n < 10) → length (lastDigits k (n / 10)) ≤ k → length (lastDigits (suc k) n) ≤ suc k
+    go (yes l) h = rw (digits-one k n l) (omega arith)
+    go (no l) h = rw (digits-then k n (omega arith)) (omega (arith, length-append (lastDigits k (n / 10)) ((byte "0" + n % 10) ∷ [])))
+
+-- No number has more than twenty.
+pub decimal-few : (n : ℕ) → length (decimalText n) ≤ 20
+unfolding decimalText
+decimal-few n = last-digits-few 20 n
