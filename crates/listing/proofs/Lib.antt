@@ -4,3 +4,4 @@ pub mod Answered
 pub mod Lengths
 pub mod Examples
 pub mod Printing
+pub mod OneListing

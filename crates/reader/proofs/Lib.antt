@@ -2,3 +2,4 @@
 pub mod Sheets
 pub mod Tables
 pub mod Outcomes
+pub mod Determined
