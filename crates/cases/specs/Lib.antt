@@ -1,0 +1,2 @@
+-- The definitions that the theorem cites.
+pub mod Texts
