@@ -25,11 +25,11 @@ use Rattle.sheet.specs.Sheet.{Contents, meant}
 use Rattle.readings.specs.Readings.{readings}
 use Rattle.listing.specs.Listing.{signalsText, headText, listingText}
 use Rattle.reader.specs.Results.{Result, accepted, refused, gain}
-use Rattle.reader.specs.Opening.{sheetIn, namesIn, Opens}
+use Rattle.reader.specs.Opening.{sheetIn, namesIn, Opens, blank}
 use Rattle.reader.specs.Opening.Opens.{both}
 use Rattle.reader.specs.Operations.{Adds}
 use Rattle.reader.specs.Operations.Adds.{added}
-use Rattle.listing.specs.Prints.{blank, Prints}
+use Rattle.listing.specs.Prints.{Prints}
 use Rattle.listing.specs.Prints.Prints.{listed}
 use Rattle.listing.proofs.OneListing.{AnswersIn, prints-one}
 use Rattle.cases.specs.Texts.{TextCase, Settled}

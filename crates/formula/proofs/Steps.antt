@@ -30,14 +30,10 @@ use Rattle.formula.specs.declared.interval.Span.{Span}
 use Rattle.formula.specs.declared.interval.Span.the-variants.{Over}
 use Rattle.formula.specs.Interval.{interval}
 use Rattle.formula.proofs.Spans.{one-of, none-of, interval-reach}
+use Rattle.text.specs.Lines.{InLine}
 use Rattle.formula.specs.Grammar.{Reader, declared, spanThen, times, signText, repeats, more, below, formula, negated, closed, inParens, second, kept, worded, plainIn, inside, plain}
 
 -- ---- signs
-
--- no byte of w is LF
-abbrev pub InLine : List ℕ → Type 0
-InLine [] = Unit {0}
-InLine (x ∷ w) = (x ≡ byte "\n" → ⊥) × InLine w
 
 -- Such bytes stand inside the text.
 pub starts-inside : (s : List ℕ) (p : ℕ) (w : List ℕ) → InLine w → p ≤ length s → starts s p w ≡ true → p + length w ≤ length s

@@ -12,12 +12,12 @@ use Rattle.tilco.specs.Table.{Standing, factsOf, Answer}
 use Rattle.tilco.proofs.Demand1.{asked-one}
 use Rattle.sheet.specs.Sheet.{Contents, meant}
 use Rattle.reader.specs.Results.{Result, accepted, refused, Gain, gain}
-use Rattle.reader.specs.Opening.{sheetIn, namesIn}
+use Rattle.reader.specs.Opening.{sheetIn, namesIn, blank}
 use Rattle.reader.specs.Operations.{Adds}
 use Rattle.reader.proofs.Tables.{accepted-one, accepted-refused}
 use Rattle.reader.proofs.Determined.{adds-one}
 use Rattle.listing.specs.Listing.{signByte, signs, signalText, signalsText, headText, listingText, refusalText, Answers}
-use Rattle.listing.specs.Prints.{blank, Prints}
+use Rattle.listing.specs.Prints.{Prints}
 use Rattle.listing.specs.Prints.Prints.{no-sheet, not-added, listed}
 
 -- ---- the same answers give the same listing

@@ -24,13 +24,13 @@ use Rattle.writing.specs.declared.Next.{Next}
 use Rattle.reader.specs.declared.adding.Adding.{Adding}
 use Rattle.reader.specs.declared.adding.Adding.the-variants as adding
 use Rattle.reader.specs.Results.{accepted, refused, gain, addingSays}
-use Rattle.reader.specs.Opening.{sheetIn, namesIn, Ready}
+use Rattle.reader.specs.Opening.{sheetIn, namesIn, Ready, blank}
 use Rattle.reader.specs.Operations.{Adds}
 use Rattle.reader.specs.Operations.Adds.{added}
 use Rattle.reader.proofs.Tables.{accepted-one, InSheet, in-sheet, one-word}
 use Rattle.reader.proofs.Outcomes.{fitting}
 use Rattle.listing.specs.Listing.{Listable, Answers, listingText, refusalText}
-use Rattle.listing.specs.Prints.{blank, Prints, Printed, lengthOf, PrintedWhole, Begun}
+use Rattle.listing.specs.Prints.{Prints, Printed, lengthOf, PrintedWhole, Begun}
 use Rattle.listing.specs.Prints.Prints.{no-sheet, not-added, listed}
 use Rattle.writing.proofs.Writing.{fitted, placed}
 use Rattle.listing.proofs.Lengths.{listing-most, refusal-most}

@@ -6,21 +6,16 @@ use mathlib.Core.List.{List}
 use Prim.Native.Nat.{ℕ, _≤_}
 use lib.ListN.{length}
 use lib.Seq.{sets}
-use Rattle.ticks.specs.Ticks.{empty}
 use Rattle.tilco.specs.Lowering.{rowCount}
-use Rattle.tilco.specs.Table.{Standing, tableWords, factsOf, Answer}
+use Rattle.tilco.specs.Table.{Standing, factsOf, Answer}
 use Rattle.sheet.specs.Sheet.{Contents, meant}
 use Rattle.writing.specs.Writes.{Wrote}
 use Rattle.writing.specs.declared.Next.{Next}
 use Rattle.writing.specs.declared.Next.the-variants.{Place, Full}
 use Rattle.reader.specs.Results.{accepted, refused, gain}
-use Rattle.reader.specs.Opening.{sheetIn, namesIn}
+use Rattle.reader.specs.Opening.{sheetIn, namesIn, blank}
 use Rattle.reader.specs.Operations.{Adds}
 use Rattle.listing.specs.Listing.{Answers, listingText, refusalText}
-
--- The empty table of a sheet.
-abbrev pub blank : Contents → List ℕ
-blank k = empty (tableWords (meant k))
 
 -- The text printed: the listing of what one add makes of the empty table, or the refusal.
 pub data Prints (s r : List ℕ) : List ℕ → Type 0 where

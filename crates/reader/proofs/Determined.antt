@@ -38,7 +38,7 @@ unread-alike {A} {B} {n} {p} e = ap go e
     go (got x i) = refused n p
     go (unread m q) = refused m q
 
--- What check may answer.
+-- Two answers of check coincide.
 pub checked-one : (s : List ℕ) {a b : Result ℕ} → a ≡ checked s → b ≡ checked s → a ≡ b
 checked-one s e f = e ∙ sym f
 
@@ -50,10 +50,11 @@ Long T k = length T ≡ tableWords (meant k)
 abbrev Fits : List ℕ → Contents → Type 0
 Fits T k = Inside (k .window) (Standing (meant k) T)
 
-pub one-sheet : {r : Result Contents} {k l : Contents} → r ≡ accepted k → r ≡ accepted l → k ≡ l
+one-sheet : {r : Result Contents} {k l : Contents} → r ≡ accepted k → r ≡ accepted l → k ≡ l
 one-sheet e f = accepted-one (sym e ∙ f)
 
 module _ {s T : List ℕ} where
+  -- Two outcomes of the opening coincide.
   pub opens-one : {a b : Result Contents} → Opens s T a → Opens s T b → a ≡ b
   opens-one (both e l i) (both f m j) = ap accepted (one-sheet e f)
   opens-one (both e l i) (not-the-sheet f) = absurd (accepted-refused (sym e ∙ f))
@@ -72,6 +73,7 @@ module _ {s T : List ℕ} where
   opens-one (not-inside e l i) (not-the-length f m) = absurd (m (subst (Long T) (one-sheet e f) l))
   opens-one (not-inside e l i) (not-inside f m j) = refl
 
+  -- So there is one sheet behind it, or a refusal.
   pub opens-same : {k l : Contents} → Opens s T (accepted k) → Opens s T (accepted l) → k ≡ l
   opens-same o x = accepted-one (opens-one o x)
 
@@ -82,7 +84,7 @@ module _ {s T : List ℕ} where
   pub opens-sheet : {k : Contents} → Opens s T (accepted k) → sheetIn s ≡ accepted k
   opens-sheet (both e l i) = e
 
-  pub opens-window : {k : Contents} → Opens s T (accepted k) → 1 ≤ k .window
+  opens-window : {k : Contents} → Opens s T (accepted k) → 1 ≤ k .window
   opens-window o = in-sheet s (opens-sheet o) .sizes .window-low
 
 -- One Bool stands for a fact.
@@ -108,6 +110,7 @@ gained-one k {T} {U} {U′} {ms} {c = c} {c′ = c′} some e A B f g t u =
     (z, rw (n, b))
 
 module _ {s r T : List ℕ} where
+  -- Two outcomes of add coincide: the table word by word, and the answer.
   pub adds-one : {U U′ : List ℕ} {a a′ : Result Gain} → Adds s r T U a → Adds s r T U′ a′ → (U ≡ U′) × (a ≡ a′)
   adds-one (not-opened o e) (not-opened x f) = (e ∙ sym f, refused-alike (opens-one o x))
   adds-one (not-opened o e) (not-read x f g) = opens-or-not x o
@@ -126,6 +129,7 @@ module _ {s r T : List ℕ} where
 -- ---- ask
 
 module _ {s T : List ℕ} {x t : ℕ} where
+  -- Two answers of ask coincide.
   pub asks-one : {a b : Result Answer} → Asks s T x t a → Asks s T x t b → a ≡ b
   asks-one (not-asked o) (not-asked y) = refused-alike (opens-one o y)
   asks-one (not-asked o) (out-of-range y i) = opens-or-not y o

@@ -36,10 +36,10 @@ use Rattle.reader.specs.Operations.Asks.{out-of-range, asked}
 use Rattle.reader.proofs.Tables.{InSheet, in-sheet, one-word}
 
 -- A buffer of zeros has no rows.
-pub blank : (n : ℕ) → Blank (replicate n 0)
-blank zero i = refl
-blank (suc n) zero = refl
-blank (suc n) (suc i) = blank n i
+pub no-rows : (n : ℕ) → Blank (replicate n 0)
+no-rows zero i = refl
+no-rows (suc n) zero = refl
+no-rows (suc n) (suc i) = no-rows n i
 
 -- What an opened table has.
 pub record Fitting (s T : List ℕ) (k : Contents) : Type 0 where

@@ -10,6 +10,7 @@ use Rattle.text.specs.Read.{Read}
 use Rattle.text.specs.Read.Read.{got, refused as unread}
 use Rattle.text.specs.Bytes.{pick}
 use Rattle.text.specs.Words.{namesAt}
+use Rattle.ticks.specs.Ticks.{empty}
 use Rattle.tilco.specs.Lists.{total}
 use Rattle.tilco.specs.Formula.{hiddens, Sheet}
 use Rattle.tilco.specs.Lowering.{program, rowCount}
@@ -36,6 +37,10 @@ sheetIn s = sized (sheetOf s)
 -- The declared names of a sheet's text.
 abbrev pub namesIn : List ℕ → Contents → List (List ℕ)
 namesIn s k = namesAt s (k .places)
+
+-- The sheet's table without a mark.
+abbrev pub blank : Contents → List ℕ
+blank k = empty (tableWords (meant k))
 
 -- The sheet and the table are accepted, or refused: the sheet; 15; 16.
 pub data Opens (s T : List ℕ) : Result Contents → Type 0 where

@@ -13,29 +13,15 @@ use lib.Seq.{take-at}
 use Rattle.text.specs.Read.{Read, andThen}
 use Rattle.text.specs.Read.Read.{got, refused}
 use Rattle.text.specs.Bytes.{byte, bytes, pick, between, peek, starts, run, runAt, runEnd}
-use Rattle.text.specs.Lines.{inLine, lineEnd, inTurn}
+use Rattle.text.specs.Lines.{inLine, lineEnd, inTurn, InLine}
 use Rattle.text.proofs.Answers.{not-both, same-value, same-place}
 use Rattle.text.proofs.Keyed.{line-is}
 use Rattle.text.proofs.Later.{later, starts-later, runEnd-later}
 use Rattle.tilco.specs.Formula.{Written}
 use Rattle.tilco.specs.Lists.{All}
 use Rattle.formula.specs.Grammar.{rule}
-use Rattle.formula.proofs.Steps.{InLine}
 use Rattle.formula.proofs.Later.{rule-later}
-use Rattle.sheet.specs.Sheet.{ruleTo, ruleLine, rules}
-
--- The line of a rule with this text.
-unfoldable pub ruleLineOf : List ℕ → List ℕ
-ruleLineOf body = bytes "rule=" ++ (body ++ (byte "\n" ∷ []))
-
--- The lines of rules with these texts.
-unfoldable pub ruleLines : List (List ℕ) → List ℕ
-ruleLines [] = []
-ruleLines (body ∷ bodies) = ruleLineOf body ++ ruleLines bodies
-
--- A sheet's text, of its head's text and its rules' texts.
-abbrev pub sheetText : List ℕ → List (List ℕ) → List ℕ
-sheetText h bodies = h ++ ruleLines bodies
+use Rattle.sheet.specs.Sheet.{ruleTo, ruleLine, rules, ruleLineOf, ruleLines, sheetText}
 
 -- A rule read by itself: "A rule has 1 to 256 bytes", else 5 at its start, before its formula is read.
 unfoldable pub ruleText : List (List ℕ) → List ℕ → Read Written

@@ -24,7 +24,8 @@ use Rattle.formula.specs.declared.interval.Span.the-variants as span
 use Rattle.formula.specs.Interval.{interval}
 use Rattle.formula.specs.Grammar.{Reader, declared, spanThen, times, timedPart, signText, repeats, more, level, formula, negated, closed, inParens, second, arguments, kept, worded, plainBy, plainIn, inside, plain, rule}
 use Rattle.formula.proofs.Spans.{Sound, interval-sound}
-use Rattle.formula.proofs.Steps.{InLine, starts-inside, sign-inside}
+use Rattle.formula.proofs.Steps.{starts-inside, sign-inside}
+use Rattle.text.specs.Lines.{InLine}
 use Rattle.sheet.specs.Sheet.{Near}
 
 -- Each name is one of n, and each interval is near.

@@ -17,10 +17,10 @@ use Rattle.text.proofs.Answers.{not-both, through, came}
 use Rattle.tilco.specs.Formula.{Written, withRules}
 use Rattle.tilco.specs.Lists.{All, total}
 use Rattle.tilco.proofs.Lists.{total-stays, all-stays}
-use Rattle.formula.proofs.Steps.{InLine}
-use Rattle.sheet.specs.Sheet.{Head, head, rules, Contents, contents, atEnd, sheetOf, meant}
+use Rattle.sheet.specs.Sheet.{Head, head, rules, Contents, contents, atEnd, sheetOf, meant, ruleLineOf, ruleLines, sheetText}
 use Rattle.sheet.proofs.HeadPrefix.{head-kept, head-names-kept}
-use Rattle.sheet.proofs.Bodies.{ruleLineOf, ruleLines, sheetText, ruleText, Each, rules-exactly}
+use Rattle.sheet.proofs.Bodies.{ruleText, Each, rules-exactly}
+use Rattle.text.specs.Lines.{InLine}
 use Rattle.sheet.proofs.Bodies.Each.{none, one}
 
 -- ---- texts in another order

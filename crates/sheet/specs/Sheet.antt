@@ -1,12 +1,12 @@
 -- A sheet, from its first line to its last (01, "The sheet" and "Numbers of refusal" 1 to 8).
 -- Assumes nothing. `s` is the sheet's text and p a place in it; `names` are the declared names in sheet order.
 use Prim.Native.Nat.{ℕ, _+_, _-_, _≤_}
-use mathlib.Core.List.{List, []}
+use mathlib.Core.List.{List, [], _∷_, _++_}
 use lib.ListN.{length, take}
 use lib.Dec.{leb, eqb}
 use Rattle.text.specs.Read.{Read, andThen}
 use Rattle.text.specs.Read.Read.{got, refused}
-use Rattle.text.specs.Bytes.{bytes, pick, between}
+use Rattle.text.specs.Bytes.{byte, bytes, pick, between}
 use Rattle.text.specs.Words.{wordAt, namesAt, findName}
 use Rattle.text.specs.Lines.{line, rangedLine, nameLine, inTurn}
 use Rattle.tilco.specs.Formula as tilco
@@ -74,6 +74,19 @@ sheetOf s =
 -- The sheet that is meant: each signal by its number.
 abbrev pub meant : Contents → tilco.Sheet
 meant k = record { window = k .window; signals = length (k .places); rules = k .rules }
+
+-- The line of a rule with this text.
+unfoldable pub ruleLineOf : List ℕ → List ℕ
+ruleLineOf body = bytes "rule=" ++ (body ++ (byte "\n" ∷ []))
+
+-- The lines of rules with these texts.
+unfoldable pub ruleLines : List (List ℕ) → List ℕ
+ruleLines [] = []
+ruleLines (body ∷ bodies) = ruleLineOf body ++ ruleLines bodies
+
+-- A sheet's text, of its head's text and its rules' texts.
+abbrev pub sheetText : List ℕ → List (List ℕ) → List ℕ
+sheetText h bodies = h ++ ruleLines bodies
 
 -- The interval has whole numbers from -63 to 63 only (refusal 7).
 abbrev pub near : ℕ → ℕ → Type 0

@@ -1,5 +1,6 @@
 -- Lines with a key and a value, and lines one after another (01, "The sheet", "Readings" and "Numbers of refusal").
 -- Assumes nothing. `form` is the number of the refusal for a line's form, and `content` that for its content.
+use mathlib.Core.Path.{_≡_}
 use Prim.Native.Nat.{ℕ, zero, suc, _+_}
 use mathlib.Core.List.{List, [], _∷_, _++_}
 use mathlib.Core.Bool.{Bool, not, _&&_}
@@ -18,6 +19,11 @@ use Rattle.text.specs.Numbers.{number}
 -- Is b no LF?
 unfoldable pub inLine : ℕ → Bool
 inLine b = not (eqb b (byte "\n"))
+
+-- No byte of the text is LF.
+abbrev pub InLine : List ℕ → Type 0
+InLine [] = Unit {0}
+InLine (x ∷ w) = (x ≡ byte "\n" → ⊥) × InLine w
 
 -- The place of the first LF from p on, or the text's length.
 abbrev pub lineEnd : List ℕ → ℕ → ℕ

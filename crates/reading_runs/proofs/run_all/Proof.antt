@@ -6,10 +6,10 @@ use Rattle.reading_runs.proofs.run_all.Statement.{statement}
 use Rattle.reading_runs.proofs.run_all.Tie as tie
 
 abbrev Inv-loop : tie.InvT-loop
-Inv-loop table above₀ at₀ t6 above at = (above ≤ at) × (at ≤ length table)
+Inv-loop cases above₀ at₀ t6 above at = (above ≤ at) × (at ≤ length cases)
 
 abbrev μ-loop : tie.MeasureT-loop
-μ-loop table above₀ at₀ t6 above at = length table - at
+μ-loop cases above₀ at₀ t6 above at = length cases - at
 
 heading-requires : tie.Need-heading-requires Inv-loop μ-loop
 heading-requires c κs = search needs
@@ -23,17 +23,17 @@ next-line-requires c κs = search needs
 heading-requires-2 : tie.Need-heading-requires-2 Inv-loop μ-loop
 heading-requires-2 c κs = search needs
 
-sub-write-all : tie.Need-sub-write-all Inv-loop μ-loop
-sub-write-all c = search needs
+sub-print : tie.Need-sub-print Inv-loop μ-loop
+sub-print c = search needs
 
-part-write-all-start : tie.Need-part-write-all-start Inv-loop μ-loop
-part-write-all-start c = search needs
+part-print-start : tie.Need-part-print-start Inv-loop μ-loop
+part-print-start c = search needs
 
-part-write-all-end : tie.Need-part-write-all-end Inv-loop μ-loop
-part-write-all-end c = search needs
+part-print-end : tie.Need-part-print-end Inv-loop μ-loop
+part-print-end c = search needs
 
-write-all-requires : tie.Need-write-all-requires Inv-loop μ-loop
-write-all-requires c κs = search needs
+print-requires : tie.Need-print-requires Inv-loop μ-loop
+print-requires c κs = search needs
 
 slice-aggregate-starts-at : tie.Need-slice-aggregate-starts-at Inv-loop μ-loop
 slice-aggregate-starts-at c = search needs
@@ -72,10 +72,10 @@ run-all-spec =
     loop-holds
     next-line-requires
     heading-requires-2
-    sub-write-all
-    part-write-all-start
-    part-write-all-end
-    write-all-requires
+    sub-print
+    part-print-start
+    part-print-end
+    print-requires
     slice-aggregate-starts-at
     starts-at-requires
     run-sheet-requires

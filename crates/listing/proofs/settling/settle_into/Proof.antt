@@ -3,7 +3,7 @@ use native.Mathlib.Omega.{arith}
 use mathlib.Core.Path.{refl}
 use lib.ListN.{length-take}
 use Rattle.reader.proofs.Tables.{when-ready, when-refused}
-use Rattle.reader.proofs.Outcomes.{blank}
+use Rattle.reader.proofs.Outcomes.{no-rows}
 use Rattle.listing.proofs.Printing.{take-empty, take-empty-length, words-most, begun, prints-no-sheet}
 use borrow.Author.Needs.{needs}
 use Rattle.listing.proofs.settling.settle_into.Statement.{statement}
@@ -19,7 +19,7 @@ slice-aggregate-open-sheet-3 : tie.Need-slice-aggregate-open-sheet-3
 slice-aggregate-open-sheet-3 c = search needs
 
 open-sheet-requires : tie.Need-open-sheet-requires
-open-sheet-requires c κs = (refl, refl, blank 1024, refl)
+open-sheet-requires c κs = (refl, refl, no-rows 1024, refl)
 
 enum-known-o : tie.Need-enum-known-o
 enum-known-o c = search needs

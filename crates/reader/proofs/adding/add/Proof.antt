@@ -4,7 +4,7 @@ use mathlib.Core.Path.{refl}
 use lib.ListN.{length-take}
 use Rattle.reader.specs.Operations.Adds.{not-opened}
 use Rattle.reader.proofs.Tables.{when-hand, when-not}
-use Rattle.reader.proofs.Outcomes.{blank}
+use Rattle.reader.proofs.Outcomes.{no-rows}
 use borrow.Author.Needs.{needs}
 use Rattle.reader.proofs.adding.add.Statement.{statement}
 use Rattle.reader.proofs.adding.add.Tie as tie
@@ -19,7 +19,7 @@ slice-aggregate-open-table-3 : tie.Need-slice-aggregate-open-table-3
 slice-aggregate-open-table-3 c = search needs
 
 open-table-requires : tie.Need-open-table-requires
-open-table-requires c κs = (refl, refl, blank 1024, refl)
+open-table-requires c κs = (refl, refl, no-rows 1024, refl)
 
 enum-known-o : tie.Need-enum-known-o
 enum-known-o c = search needs

@@ -3,7 +3,7 @@ use mathlib.Core.Path.{refl, sym, ap, _∙_}
 use Rattle.reader.specs.Results.{accepted}
 use Rattle.reader.specs.Operations.{counted}
 use Rattle.reader.proofs.Tables.{when-ready, when-refused}
-use Rattle.reader.proofs.Outcomes.{blank}
+use Rattle.reader.proofs.Outcomes.{no-rows}
 use borrow.Author.Needs.{needs}
 use Rattle.reader.proofs.checking.check.Statement.{statement}
 use Rattle.reader.proofs.checking.check.Tie as tie
@@ -18,7 +18,7 @@ slice-aggregate-open-sheet-3 : tie.Need-slice-aggregate-open-sheet-3
 slice-aggregate-open-sheet-3 c = search needs
 
 open-sheet-requires : tie.Need-open-sheet-requires
-open-sheet-requires c κs = (refl, refl, blank 1024, refl)
+open-sheet-requires c κs = (refl, refl, no-rows 1024, refl)
 
 enum-known-o : tie.Need-enum-known-o
 enum-known-o c = search needs

@@ -4,15 +4,15 @@ use native.Mathlib.Omega.{arith}
 use Prim.Native.Nat.{_-_, _≤_}
 use mathlib.Core.Path.{_≡_}
 use lib.ListN.{length, length-set}
-use Rattle.reading_runs.proofs.Places.{counted}
-use Rattle.reading_runs.proofs.append.Statement.{statement}
-use Rattle.reading_runs.proofs.append.Tie as tie
+use Rattle.run_cases.proofs.Places.{counted}
+use Rattle.run_cases.proofs.append.Statement.{statement}
+use Rattle.run_cases.proofs.append.Tie as tie
 
 abbrev Inv-loop : tie.InvT-loop
-Inv-loop table from to out₀ used n₀ p₀ out n p = (n ≤ length out) × (length out ≡ length out₀)
+Inv-loop cases from to out₀ used n₀ p₀ out n p = (n ≤ length out) × (length out ≡ length out₀)
 
 abbrev μ-loop : tie.MeasureT-loop
-μ-loop table from to out₀ used n₀ p₀ out n p = to - p
+μ-loop cases from to out₀ used n₀ p₀ out n p = to - p
 
 loop-holds : tie.Need-loop-holds Inv-loop μ-loop
 loop-holds c = search needs

@@ -1,9 +1,9 @@
--- `next_line` meets its contract: the line's end lies in the table. Assumes nothing.
+-- `next_line` meets its contract: the line's end lies in the cases. Assumes nothing.
 use borrow.Author.Needs.{needs}
 use native.Mathlib.Omega.{arith}
-use Rattle.reading_runs.proofs.Places.{line-reach}
-use Rattle.reading_runs.proofs.next_line.Statement.{statement}
-use Rattle.reading_runs.proofs.next_line.Tie as tie
+use Rattle.run_cases.proofs.Places.{line-reach}
+use Rattle.run_cases.proofs.next_line.Statement.{statement}
+use Rattle.run_cases.proofs.next_line.Tie as tie
 
 line-end-requires : tie.Need-line-end-requires
 line-end-requires c κs = search needs

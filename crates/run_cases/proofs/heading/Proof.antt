@@ -2,14 +2,14 @@
 use borrow.Author.Needs.{needs}
 use Prim.Native.Nat.{_-_, _≤_}
 use lib.ListN.{length}
-use Rattle.reading_runs.proofs.heading.Statement.{statement}
-use Rattle.reading_runs.proofs.heading.Tie as tie
+use Rattle.run_cases.proofs.heading.Statement.{statement}
+use Rattle.run_cases.proofs.heading.Tie as tie
 
 abbrev Inv-loop : tie.InvT-loop
-Inv-loop table at p₀ t4 p = (at ≤ p) × (p ≤ length table)
+Inv-loop cases at p₀ t4 p = (at ≤ p) × (p ≤ length cases)
 
 abbrev μ-loop : tie.MeasureT-loop
-μ-loop table at p₀ t4 p = length table - p
+μ-loop cases at p₀ t4 p = length cases - p
 
 loop-holds : tie.Need-loop-holds Inv-loop μ-loop
 loop-holds c = search needs

@@ -3,15 +3,15 @@ use borrow.Author.Needs.{needs}
 use Prim.Native.Nat.{_-_, _≤_}
 use mathlib.Core.Path.{_≡_}
 use lib.ListN.{length}
-use Rattle.reading_runs.proofs.Places.{counted}
-use Rattle.reading_runs.proofs.repeat.Statement.{statement}
-use Rattle.reading_runs.proofs.repeat.Tie as tie
+use Rattle.run_cases.proofs.Places.{counted}
+use Rattle.run_cases.proofs.repeat.Statement.{statement}
+use Rattle.run_cases.proofs.repeat.Tie as tie
 
 abbrev Inv-loop : tie.InvT-loop
-Inv-loop table from to times out₀ n₀ i₀ out n i = (n ≤ length out) × (length out ≡ length out₀)
+Inv-loop cases from to times out₀ n₀ i₀ out n i = (n ≤ length out) × (length out ≡ length out₀)
 
 abbrev μ-loop : tie.MeasureT-loop
-μ-loop table from to times out₀ n₀ i₀ out n i = times - i
+μ-loop cases from to times out₀ n₀ i₀ out n i = times - i
 
 loop-holds : tie.Need-loop-holds Inv-loop μ-loop
 loop-holds c = search needs

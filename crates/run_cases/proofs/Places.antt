@@ -1,4 +1,4 @@
--- Places in the table and in a buffer.
+-- Places in the cases and in a buffer.
 -- Assumes nothing.
 use mathlib.Core.Path.{_≡_, sym}
 use mathlib.Core.List.{List}

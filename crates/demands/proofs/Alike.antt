@@ -1,0 +1,73 @@
+-- A sheet's text with its rules' lines shuffled is alike: accepted, with the same window and names and the same rules in some order.
+-- Assumes nothing.
+use mathlib.Core.Path.{_≡_, sym, ap, _∙_}
+use mathlib.Core.List.{List, List·Permᴰ, Permᴰ·symm}
+use Prim.Native.Nat.{ℕ}
+use native.Mathlib.Omega.{arith}
+use Rattle.text.specs.Words.{namesAt}
+use Rattle.text.proofs.Answers.{same-value}
+use Rattle.tilco.specs.Formula.{hiddens, Sheet, withRules}
+use Rattle.tilco.specs.Lowering.{rowCount}
+use Rattle.tilco.proofs.Lists.{total-stays}
+use Rattle.tilco.proofs.Demand3.{shuffle-keeps-rows}
+use Rattle.sheet.specs.Sheet.{Head, Contents, meant, ruleLines, sheetText}
+use Rattle.sheet.proofs.Wholes.{sheet-head}
+use Rattle.sheet.proofs.HeadPrefix.{head-kept, head-names-kept}
+use Rattle.sheet.proofs.Shuffled.{ShuffledFrom, shuffled, shuffled-meant}
+use Rattle.reader.specs.Results.{accepted}
+use Rattle.reader.specs.Opening.{sheetIn, namesIn}
+use Rattle.reader.specs.Operations.{counted, checked}
+use Rattle.reader.proofs.Sheets.{in-fits}
+use Rattle.reader.proofs.Tables.{InSheet, in-sheet}
+use Rattle.demands.specs.Shuffles.{Parted}
+
+-- Two accepted texts with the same window and names, and the same rules in some order.
+pub record Alike (s s′ : List ℕ) (k k′ : Contents) : Type 0 where
+  pub first : sheetIn s ≡ accepted k
+  pub second : sheetIn s′ ≡ accepted k′
+  pub names : namesIn s k ≡ namesIn s′ k′
+  pub rules : List·Permᴰ (k .rules) (k′ .rules)
+  pub means : meant k′ ≡ withRules (meant k) (k′ .rules)
+
+-- The other way round.
+pub alike-back : {s s′ : List ℕ} {k k′ : Contents} → Alike s s′ k k′ → Alike s′ s k′ k
+alike-back {k = k} x = record {
+  first = x .second;
+  second = x .first;
+  names = sym (x .names);
+  rules = Permᴰ·symm (x .rules);
+  means = sym (ap (λ (z : Sheet). withRules z (k .rules)) (x .means));
+}
+
+-- ---- shuffled texts
+
+module _ {h : List ℕ} {bodies bodies′ : List (List ℕ)} (y : Parted h bodies) (p : List·Permᴰ bodies bodies′) {k : Contents} (e : sheetIn (sheetText h bodies) ≡ accepted k) where
+  abbrev known : InSheet (sheetText h bodies) k
+  known = in-sheet (sheetText h bodies) e
+
+  abbrev found : ShuffledFrom k (known .place) (sheetText h bodies′)
+  found = shuffled h (y .reads) p (y .in-lines) (y .counts) (known .reads)
+
+  -- As many rows.
+  rows-stay : rowCount (meant k) ≡ rowCount (meant (found .sheet))
+  rows-stay = shuffle-keeps-rows (meant k) (found .sheet .rules) (found .rules) ∙ ap rowCount (sym (shuffled-meant found))
+
+  -- The head's names stand where the sheet's do.
+  places-are : y .says .places ≡ k .places
+  places-are = let x = sheet-head (sheetText h bodies) (known .reads) in ap (λ (d : Head). d .places) (same-value (sym (head-kept h (ruleLines bodies) (y .reads)) ∙ x .2))
+
+  -- Shuffled texts are alike,
+  pub shuffled-alike : Alike (sheetText h bodies) (sheetText h bodies′) k (found .sheet)
+  shuffled-alike = record {
+    first = e;
+    second = in-fits (sheetText h bodies′) (found .reads) (omega (arith, known .hidden, total-stays hiddens (found .rules))) (omega (arith, known .rows, rows-stay));
+    names =
+        ap (namesAt (sheetText h bodies)) (sym places-are) ∙ head-names-kept h (ruleLines bodies) (y .reads) ∙ sym (head-names-kept h (ruleLines bodies′) (y .reads))
+        ∙ ap (namesAt (sheetText h bodies′)) (places-are ∙ sym (found .places));
+    rules = found .rules;
+    means = shuffled-meant found;
+  }
+
+  -- and check answers alike.
+  pub check-alike : checked (sheetText h bodies) ≡ checked (sheetText h bodies′)
+  check-alike = ap counted e ∙ ap (λ (n : ℕ). accepted n) rows-stay ∙ sym (ap counted (shuffled-alike .second))

@@ -1,0 +1,105 @@
+-- Every input gets an answer: for every sheet text, readings text, table and question there is one that the contract allows.
+-- Assumes of add's table that its words have 64 bits.
+use mathlib.Core.Path.{_≡_, refl, sym, subst}
+use mathlib.Core.Bool.{Bool, true, false, true≢false}
+use mathlib.Core.List.{List, [], _∷_}
+use mathlib.Core.Logic.{⊎-elim, _↔_}
+use Prim.Native.Nat.{ℕ, _-_, _<_}
+use native.Mathlib.Decide.{ℕ-discrete, decLt}
+use native.Mathlib.Omega.{arith}
+use lib.ListN.{length}
+use Rattle.text.specs.Read.{Read}
+use Rattle.text.specs.Read.Read.{got, refused as unread}
+use Rattle.ticks.specs.Ticks.{Small}
+use Rattle.tilco.specs.Inference.{Mark, mark, Clash}
+use Rattle.tilco.specs.Table.{words, Stands, Standing, tableWords, factsOf, Answer, Unsettled, True, False, Contradiction, Asked, clashes, holds, fails, neither}
+use Rattle.sheet.specs.Sheet.{Contents, meant}
+use Rattle.readings.specs.Readings.{readings}
+use Rattle.reader.specs.Results.{Result, accepted, refused, Gain, gain}
+use Rattle.reader.specs.Opening.{sheetIn, namesIn, Opens}
+use Rattle.reader.specs.Opening.Opens.{both, not-the-sheet, not-the-length, not-inside}
+use Rattle.reader.specs.Operations.{Adds, Asks}
+use Rattle.reader.specs.Operations.Adds.{not-opened, not-read, added}
+use Rattle.reader.specs.Operations.Asks.{not-opened as not-asked, out-of-range, asked}
+use Rattle.demands.specs.Runs.{RunTexts}
+use Rattle.demands.specs.Runs.RunTexts.{done, call}
+use Rattle.demands.proofs.Deciding.{stands-told, inside-told, clash-told}
+use Rattle.demands.proofs.Runs.{all-declared, marks-within}
+use Rattle.demands.proofs.Closable.{can-be-added}
+
+-- ---- the sheet and the table
+
+opens-some : (s T : List ℕ) → (r : Result Contents) × Opens s T r
+opens-some s T = go (sheetIn s) refl
+  where
+    fitting : (k : Contents) → sheetIn s ≡ accepted k → Dec (length T ≡ tableWords (meant k)) → (r : Result Contents) × Opens s T r
+    fitting k e (yes l) =
+        ⊎-elim (λ i. (accepted k, both e l i)) (λ o. (refused 16 0, not-inside e l (λ f. absurd (omega (arith, o .is .1, f (o .row) (o .tick) (o .value) (o .is .0))))))
+        (inside-told (words (k .window)) T (k .window))
+    fitting k e (no l) = (refused 15 0, not-the-length e l)
+
+    go : (r : Result Contents) → sheetIn s ≡ r → (r : Result Contents) × Opens s T r
+    go (accepted k) e = fitting k e (ℕ-discrete (length T) (tableWords (meant k)))
+    go (refused n p) e = (refused n p, not-the-sheet e)
+
+-- ---- add
+
+module _ (s r T : List ℕ) (small : Small 64 T) where
+  read-in : {k : Contents} → Opens s T (accepted k) → {ms : List Mark} {q : ℕ} → readings (namesIn s k) (k .window) r ≡ got ms q → (U : List ℕ) × (a : Result Gain) × Adds s r T U a
+  read-in {k} (both e l i) {ms} f =
+      let x = can-be-added (meant k) (all-declared s k e) T ms l i (marks-within s k e r f) small in
+      with-clash (x .0) (λ new clash g c. (x .0, accepted (gain new clash), added (both e l i) f (x .1) g c)) (clash-told (words (k .window)) (x .0))
+    where
+      with-clash : {A : Type 0} (U : List ℕ) → ((new : ℕ) (clash : Bool) → new ≡ factsOf (meant k) U - factsOf (meant k) T → (clash ≡ true) ↔ Clash (Standing (meant k) U) → A) → Dec (Clash (Standing (meant k) U)) → A
+      with-clash U f (yes c) = f (factsOf (meant k) U - factsOf (meant k) T) true refl (λ z. c, λ z. refl)
+      with-clash U f (no c) = f (factsOf (meant k) U - factsOf (meant k) T) false refl (λ z. absurd (true≢false (sym z)), λ z. absurd (c z))
+
+  -- Every call of add gets an answer and a table.
+  pub add-some : (U : List ℕ) × (a : Result Gain) × Adds s r T U a
+  add-some = let x = opens-some s T in go (x .0) (x .1)
+    where
+      by-text : {k : Contents} → Opens s T (accepted k) → (R : Read (List Mark)) → readings (namesIn s k) (k .window) r ≡ R → (U : List ℕ) × (a : Result Gain) × Adds s r T U a
+      by-text o (got ms q) f = read-in o f
+      by-text o (unread n p) f = (T, refused n p, not-read o f refl)
+
+      go : (R : Result Contents) → Opens s T R → (U : List ℕ) × (a : Result Gain) × Adds s r T U a
+      go (accepted k) o = by-text o (readings (namesIn s k) (k .window) r) refl
+      go (refused n p) o = (T, refused n p, not-opened o refl)
+
+adds-small : {s r T U : List ℕ} {a : Result Gain} → Small 64 T → Adds s r T U a → Small 64 U
+adds-small small (not-opened o e) = subst (Small 64) (sym e) small
+adds-small small (not-read o f e) = subst (Small 64) (sym e) small
+adds-small small (added o f A g c) = A .small
+
+-- And so do calls one after the other.
+pub run-some : (s : List ℕ) (rs : List (List ℕ)) (T : List ℕ) → Small 64 T → (U : List ℕ) × (answers : List (Result Gain)) × RunTexts s T rs U answers
+run-some s [] T small = (T, [], done)
+run-some s (r ∷ rs) T small =
+    let x = add-some s r T small in
+    let y = run-some s rs (x .0) (adds-small small (x .2)) in
+    (y .0, x .1 ∷ y .1, call (x .2) (y .2))
+
+-- ---- ask
+
+module _ (s T : List ℕ) (x t : ℕ) where
+  asked-some : (n : ℕ) → (a : Answer) × Asked (Stands n T) x t a
+  asked-some n = go (clash-told n T) (stands-told n T x t true) (stands-told n T x t false)
+    where
+      go : Dec (Clash (Stands n T)) → Dec (Stands n T (mark x t true)) → Dec (Stands n T (mark x t false)) → (a : Answer) × Asked (Stands n T) x t a
+      go (yes c) i j = (Contradiction, clashes c)
+      go (no c) (yes i) j = (True, holds c i)
+      go (no c) (no i) (yes j) = (False, fails c j)
+      go (no c) (no i) (no j) = (Unsettled, neither c i j)
+
+  -- Every question gets an answer.
+  pub ask-some : (a : Result Answer) × Asks s T x t a
+  ask-some = let y = opens-some s T in go (y .0) (y .1)
+    where
+      in-range : {k : Contents} → Opens s T (accepted k) → Dec (x < length (k .places)) → Dec (t < k .window) → (a : Result Answer) × Asks s T x t a
+      in-range {k} o (yes i) (yes j) = let z = asked-some (words (k .window)) in (accepted (z .0), asked o (i, j) (z .1))
+      in-range o (yes i) (no j) = (refused 17 0, out-of-range o (λ z. j (z .1)))
+      in-range o (no i) d = (refused 17 0, out-of-range o (λ z. i (z .0)))
+
+      go : (R : Result Contents) → Opens s T R → (a : Result Answer) × Asks s T x t a
+      go (accepted k) o = in-range o (decLt x (length (k .places))) (decLt t (k .window))
+      go (refused n p) o = (refused n p, not-asked o)

@@ -1,0 +1,47 @@
+-- The last table of calls of add from the table without a mark: which calls end in one table, and that the new facts reported add up.
+-- Assumes nothing. s is the sheet's text and k its contents.
+use mathlib.Core.Path.{_≡_, sym, _∙_, subst}
+use mathlib.Core.List.{List, flatten, List·Memᴰ}
+use mathlib.Core.Logic.{_↔_, ⊎-elim}
+use Prim.Native.Nat.{ℕ}
+use Rattle.tilco.specs.Lists.{total}
+use Rattle.tilco.specs.Inference.{Mark}
+use Rattle.tilco.specs.Table.{Standing, tableWords, factsOf, Taken, Leads}
+use Rattle.tilco.specs.Calls.{Some}
+use Rattle.tilco.proofs.Demand3.{table-only, table-every, reports-add-up, cuts-change-nothing}
+use Rattle.sheet.specs.Sheet.{Contents, meant}
+use Rattle.reader.specs.Results.{Result, Gain}
+use Rattle.demands.specs.Runs.{FromBlank, calls, marksIn, newIn, acceptedOf}
+use Rattle.demands.proofs.Runs.{AsCalls, as-calls, window-some, blank-opens, run-none, some-told}
+use Rattle.reader.specs.Opening.{blank}
+use Rattle.demands.proofs.Texts.{marks-among, some-among, cut-anywhere}
+
+-- The calls as `tilco` speaks of them.
+pub as-run : {s : List ℕ} {k : Contents} {rs : List (List ℕ)} {U : List ℕ} {answers : List (Result Gain)} → FromBlank s k rs U answers → AsCalls s k (blank k) rs U answers
+as-run {s} {k} x = as-calls s k (x .sheet) (blank-opens s k (x .sheet)) (x .run)
+
+module _ {s : List ℕ} {k : Contents} {rs : List (List ℕ)} {U : List ℕ} {answers : List (Result Gain)} (x : FromBlank s k rs U answers) where
+  -- The table has exactly what the rules lead to from the readings.
+  pub last-exactly : Some (calls s k rs) → (m : Mark) → Standing (meant k) U m ↔ Leads (meant k) (Taken (marksIn s k rs)) m
+  last-exactly c m = (table-only (meant k) (tableWords (meant k)) (as-run x .run) m, table-every (meant k) (tableWords (meant k)) (as-run x .run) c m)
+
+  -- The new facts reported add up to its facts.
+  pub news-add-up : total newIn answers ≡ factsOf (meant k) U
+  news-add-up = sym (as-run x .sum) ∙ reports-add-up (meant k) (tableWords (meant k)) (as-run x .run) (window-some s k (x .sheet))
+
+  module _ {rs′ : List (List ℕ)} {U′ : List ℕ} {answers′ : List (Result Gain)} (x′ : FromBlank s k rs′ U′ answers′) where
+    -- Accepted texts that hold the same marks,
+    pub by-marks : Some (calls s k rs) → Some (calls s k rs′) → ((m : Mark) → Taken (marksIn s k rs) m ↔ Taken (marksIn s k rs′) m) → U ≡ U′
+    by-marks c c′ same = cuts-change-nothing (meant k) (window-some s k (x .sheet)) (tableWords (meant k)) (as-run x .run) c (as-run x′ .run) c′ same
+
+    -- the same texts in any order and number,
+    pub by-texts : ((r : List ℕ) → List·Memᴰ r rs ↔ List·Memᴰ r rs′) → U ≡ U′
+    by-texts same =
+        ⊎-elim
+        (λ c. by-marks c (some-among s k rs rs′ (λ r. same r .0) c) (λ m. (marks-among s k rs rs′ (λ r. same r .0) m, marks-among s k rs′ rs (λ r. same r .1) m)))
+        (λ f. run-none (meant k) (as-run x .run) f ∙ sym (run-none (meant k) (as-run x′ .run) (λ c. f (some-among s k rs′ rs (λ r. same r .1) c))))
+        (some-told (calls s k rs))
+
+    -- and one text cut in two ways: one table.
+    pub by-bytes : Some (calls s k rs) → Some (calls s k rs′) → flatten (acceptedOf s k rs) ≡ flatten (acceptedOf s k rs′) → U ≡ U′
+    by-bytes c c′ j = let w = cut-anywhere s k rs rs′ j in by-marks c c′ (λ m. (subst (λ (ms : List Mark). Taken ms m) w, subst (λ (ms : List Mark). Taken ms m) (sym w)))

@@ -1,0 +1,92 @@
+-- Which readings texts hold the same marks: the same texts in any order and number, and texts whose accepted ones make one text when joined.
+-- Assumes nothing. s is the sheet's text and k its contents.
+use mathlib.Core.Path.{_≡_, refl, sym, ap, _∙_, subst}
+use mathlib.Core.List.{List, [], _∷_, _++_, flatten, List·Memᴰ, List·Memᴰ·head, List·Memᴰ·tail, List·Memᴰ·not-nil, List·Memᴰ·cases-cons, List·Memᴰ·append-cases, Memᴰ·append-left, Memᴰ·append-right}
+use mathlib.Core.Logic.{⊎-elim}
+use Prim.Native.Nat.{ℕ}
+use Rattle.text.specs.Read.{Read}
+use Rattle.text.specs.Read.Read.{got, refused as unread}
+use Rattle.tilco.specs.Inference.{Mark}
+use Rattle.tilco.specs.Table.{Taken}
+use Rattle.tilco.specs.Calls.{Call, readingsOf, Some}
+use Rattle.tilco.specs.Calls as tilco
+use Rattle.sheet.specs.Sheet.{Contents}
+use Rattle.readings.specs.Readings.{readings}
+use Rattle.readings.proofs.Cuts.{AllAccepted, cuts-agree}
+use Rattle.readings.proofs.Cuts.AllAccepted.{none, one}
+use Rattle.reader.specs.Opening.{namesIn}
+use Rattle.demands.specs.Runs.{callOf, calls, marksIn, accepting, acceptedOf}
+
+-- ---- calls by what is among them
+
+-- An accepted call, and a mark that is one of its readings.
+call-taken : (cs : List Call) {R : List Mark} {m : Mark} → List·Memᴰ (tilco.add R) cs → Taken R m → Taken (readingsOf cs) m
+call-taken [] i j = absurd (List·Memᴰ·not-nil i)
+call-taken (c ∷ cs) {R} {m} i j = ⊎-elim (first c) (λ x. later c (call-taken cs x j)) (List·Memᴰ·cases-cons i)
+  where
+    first : (c : Call) → tilco.add R ≡ c → Taken (readingsOf (c ∷ cs)) m
+    first c e = subst (λ (d : Call). Taken (readingsOf (d ∷ cs)) m) e (Memᴰ·append-left (readingsOf cs) j)
+
+    later : (c : Call) → Taken (readingsOf cs) m → Taken (readingsOf (c ∷ cs)) m
+    later (tilco.add Q) x = Memᴰ·append-right Q x
+    later tilco.refused x = x
+
+taken-call : (cs : List Call) {m : Mark} → Taken (readingsOf cs) m → (R : List Mark) × List·Memᴰ (tilco.add R) cs × Taken R m
+taken-call [] i = absurd (List·Memᴰ·not-nil i)
+taken-call (tilco.add R ∷ cs) i =
+    ⊎-elim (λ j. (R, List·Memᴰ·head refl, j)) (λ j. let x = taken-call cs j in (x .0, List·Memᴰ·tail (x .1), x .2)) (List·Memᴰ·append-cases R i)
+taken-call (tilco.refused ∷ cs) i = let x = taken-call cs i in (x .0, List·Memᴰ·tail (x .1), x .2)
+
+call-some : (cs : List Call) {R : List Mark} → List·Memᴰ (tilco.add R) cs → Some cs
+call-some [] i = absurd (List·Memᴰ·not-nil i)
+call-some (tilco.add Q ∷ cs) i = tt
+call-some (tilco.refused ∷ cs) {R} i = ⊎-elim (λ e. absurd (not-so e)) (λ j. call-some cs j) (List·Memᴰ·cases-cons i)
+  where
+    not-so : tilco.add R ≡ tilco.refused → ⊥
+    not-so e = subst (λ (c : Call). Some (c ∷ [])) e tt
+
+some-call : (cs : List Call) → Some cs → (R : List Mark) × List·Memᴰ (tilco.add R) cs
+some-call [] x = absurd x
+some-call (tilco.add R ∷ cs) x = (R, List·Memᴰ·head refl)
+some-call (tilco.refused ∷ cs) x = let y = some-call cs x in (y .0, List·Memᴰ·tail (y .1))
+
+module _ (s : List ℕ) (k : Contents) where
+  -- ---- the same texts
+
+  text-call : (rs : List (List ℕ)) {r : List ℕ} → List·Memᴰ r rs → List·Memᴰ (callOf (readings (namesIn s k) (k .window) r)) (calls s k rs)
+  text-call [] i = absurd (List·Memᴰ·not-nil i)
+  text-call (t ∷ rs) i =
+      ⊎-elim (λ e. List·Memᴰ·head (ap (λ (x : List ℕ). callOf (readings (namesIn s k) (k .window) x)) e)) (λ j. List·Memᴰ·tail (text-call rs j)) (List·Memᴰ·cases-cons i)
+
+  call-text : (rs : List (List ℕ)) {c : Call} → List·Memᴰ c (calls s k rs) → (r : List ℕ) × List·Memᴰ r rs × (callOf (readings (namesIn s k) (k .window) r) ≡ c)
+  call-text [] i = absurd (List·Memᴰ·not-nil i)
+  call-text (t ∷ rs) i = ⊎-elim (λ e. (t, List·Memᴰ·head refl, sym e)) (λ j. let x = call-text rs j in (x .0, List·Memᴰ·tail (x .1), x .2)) (List·Memᴰ·cases-cons i)
+
+  module _ (rs qs : List (List ℕ)) (among : (r : List ℕ) → List·Memᴰ r rs → List·Memᴰ r qs) where
+    call-among : {c : Call} → List·Memᴰ c (calls s k rs) → List·Memᴰ c (calls s k qs)
+    call-among i = let x = call-text rs i in subst (λ (c : Call). List·Memᴰ c (calls s k qs)) (x .2) (text-call qs (among (x .0) (x .1)))
+
+    -- Texts that are among others: so are their marks,
+    pub marks-among : (m : Mark) → Taken (marksIn s k rs) m → Taken (marksIn s k qs) m
+    marks-among m i = let x = taken-call (calls s k rs) i in call-taken (calls s k qs) (call-among (x .1)) (x .2)
+
+    -- and their accepted calls.
+    pub some-among : Some (calls s k rs) → Some (calls s k qs)
+    some-among x = let y = some-call (calls s k rs) x in call-some (calls s k qs) (call-among (y .1))
+
+  -- ---- one text when joined
+
+  all-accepted : (rs : List (List ℕ)) → (mss : List (List Mark)) × AllAccepted (namesIn s k) (k .window) (acceptedOf s k rs) mss × (flatten mss ≡ marksIn s k rs)
+  unfolding flatten
+  all-accepted [] = ([], none, refl)
+  all-accepted (r ∷ rs) = go (readings (namesIn s k) (k .window) r) refl (all-accepted rs)
+    where
+      go : (R : Read (List Mark)) → readings (namesIn s k) (k .window) r ≡ R
+          → (mss : List (List Mark)) × AllAccepted (namesIn s k) (k .window) (acceptedOf s k rs) mss × (flatten mss ≡ marksIn s k rs)
+          → (mss : List (List Mark)) × AllAccepted (namesIn s k) (k .window) (accepting R r (acceptedOf s k rs)) mss × (flatten mss ≡ readingsOf (callOf R ∷ calls s k rs))
+      go (got ms q) e x = (ms ∷ x .0, one e (x .1), ap (λ (ns : List Mark). ms ++ ns) (x .2))
+      go (unread n p) e x = x
+
+  -- Where the accepted texts are one text when joined, cut at whatever places, the marks are the same and in the same order.
+  pub cut-anywhere : (rs qs : List (List ℕ)) → flatten (acceptedOf s k rs) ≡ flatten (acceptedOf s k qs) → marksIn s k rs ≡ marksIn s k qs
+  cut-anywhere rs qs e = let x = all-accepted rs in let y = all-accepted qs in sym (x .2) ∙ cuts-agree (x .1) (y .1) e ∙ y .2

@@ -1,0 +1,4 @@
+-- The definitions that the demands are stated with.
+pub mod Refusals
+pub mod Runs
+pub mod Shuffles
