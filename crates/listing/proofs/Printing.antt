@@ -24,7 +24,8 @@ use Rattle.writing.specs.declared.Next.{Next}
 use Rattle.reader.specs.declared.adding.Adding.{Adding}
 use Rattle.reader.specs.declared.adding.Adding.the-variants as adding
 use Rattle.reader.specs.Results.{accepted, refused, gain, addingSays}
-use Rattle.reader.specs.Opening.{sheetIn, namesIn, Ready, blank}
+use Rattle.reader.specs.Opening.{sheetIn, namesIn, blank}
+use Rattle.reader.specs.Ready.{Ready}
 use Rattle.reader.specs.Operations.{Adds}
 use Rattle.reader.specs.Operations.Adds.{added}
 use Rattle.reader.proofs.Tables.{accepted-one, InSheet, in-sheet, one-word}

@@ -28,7 +28,8 @@ use Rattle.closing.specs.Moves.{Sized}
 use Rattle.closing.specs.Closes.{SettlesAll}
 use Rattle.closing.proofs.Outcomes.{settles-added}
 use Rattle.reader.specs.Results.{accepted, refused, gain}
-use Rattle.reader.specs.Opening.{sheetIn, Opens, Ready, AtHand}
+use Rattle.reader.specs.Opening.{sheetIn, Opens}
+use Rattle.reader.specs.Ready.{Ready, AtHand}
 use Rattle.reader.specs.Opening.Opens.{both}
 use Rattle.reader.specs.Operations.{Adds, Asks}
 use Rattle.reader.specs.Operations.Adds.{not-read, added}

@@ -34,8 +34,9 @@ use Rattle.lowering.proofs.Sheets.{rules-many, tops-many}
 use Rattle.closing.specs.Codes.{Fine, TopsAre}
 use Rattle.reader.specs.Results.{accepted, refused}
 use Rattle.reader.specs.declared.opening.Opening.the-variants as opening
-use Rattle.reader.specs.Opening.{fits, sized, sheetIn, Ready, SheetOpens}
-use Rattle.reader.specs.Opening.SheetOpens.{ready, refused-at}
+use Rattle.reader.specs.Opening.{fits, sized, sheetIn}
+use Rattle.reader.specs.Ready.{Ready, SheetOpens}
+use Rattle.reader.specs.Ready.SheetOpens.{ready, refused-at}
 
 -- ---- what the text holds
 

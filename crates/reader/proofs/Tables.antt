@@ -22,10 +22,11 @@ use Rattle.sheet.proofs.Wholes.{sheet-sizes}
 use Rattle.reader.specs.declared.opening.Opening.{Opening}
 use Rattle.reader.specs.declared.opening.Opening.the-variants as opening
 use Rattle.reader.specs.Results.{accepted, refused}
-use Rattle.reader.specs.Opening.{fits, sized, sheetIn, Opens, Ready, AtHand, SheetOpens, TableOpens}
+use Rattle.reader.specs.Opening.{fits, sized, sheetIn, Opens}
+use Rattle.reader.specs.Ready.{Ready, AtHand, SheetOpens, TableOpens}
 use Rattle.reader.specs.Opening.Opens.{both, not-the-sheet, not-the-length, not-inside}
-use Rattle.reader.specs.Opening.SheetOpens.{ready, refused-at}
-use Rattle.reader.specs.Opening.TableOpens.{ready as at-hand, refused-at as not-opened}
+use Rattle.reader.specs.Ready.SheetOpens.{ready, refused-at}
+use Rattle.reader.specs.Ready.TableOpens.{ready as at-hand, refused-at as not-opened}
 
 pub accepted-one : {A : Type 0} {x y : A} → accepted x ≡ accepted y → x ≡ y
 accepted-one e = cc

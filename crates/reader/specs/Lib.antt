@@ -1,4 +1,5 @@
--- The definitions that the contracts cite, lowest layer first.
+-- The definitions that the contracts cite, lowest layer first; `Ready` serves the functions behind the public ones.
 pub mod Results
 pub mod Opening
 pub mod Operations
+pub mod Ready

@@ -3,9 +3,9 @@
 use mathlib.Core.Path.{_≡_}
 use mathlib.Core.Bool.{Bool, _&&_}
 use mathlib.Core.List.{List}
-use Prim.Native.Nat.{ℕ, _≤_}
+use Prim.Native.Nat.{ℕ}
 use lib.Dec.{leb}
-use lib.ListN.{length, take}
+use lib.ListN.{length}
 use Rattle.text.specs.Read.{Read}
 use Rattle.text.specs.Read.Read.{got, refused as unread}
 use Rattle.text.specs.Bytes.{pick}
@@ -13,12 +13,9 @@ use Rattle.text.specs.Words.{namesAt}
 use Rattle.ticks.specs.Ticks.{empty}
 use Rattle.tilco.specs.Lists.{total}
 use Rattle.tilco.specs.Formula.{hiddens, Sheet}
-use Rattle.tilco.specs.Lowering.{program, rowCount}
+use Rattle.tilco.specs.Lowering.{rowCount}
 use Rattle.tilco.specs.Table.{Standing, tableWords, Inside}
 use Rattle.sheet.specs.Sheet.{Contents, sheetOf, meant}
-use Rattle.closing.specs.Codes.{Codes, TopsAre}
-use Rattle.reader.specs.declared.opening.Opening.{Opening}
-use Rattle.reader.specs.declared.opening.Opening.the-variants as opening
 use Rattle.reader.specs.Results.{Result, accepted, refused}
 
 -- "At most 32 hidden signals and 1,024 rows."
@@ -48,28 +45,3 @@ pub data Opens (s T : List ℕ) : Result Contents → Type 0 where
   not-the-sheet : {n p : ℕ} → sheetIn s ≡ refused n p → Opens s T (refused n p)
   not-the-length : {k : Contents} → sheetIn s ≡ accepted k → (length T ≡ tableWords (meant k) → ⊥) → Opens s T (refused 15 0)
   not-inside : {k : Contents} → sheetIn s ≡ accepted k → length T ≡ tableWords (meant k) → (Inside (k .window) (Standing (meant k) T) → ⊥) → Opens s T (refused 16 0)
-
--- The sheet stands ready: the places of its names, its rows' words in B and its t top rows in `tops`.
-pub record Ready (s places B tops : List ℕ) (w t count : ℕ) : Type 0 where
-  pub contents : Contents
-  pub holds : sheetIn s ≡ accepted contents
-  pub window-is : w ≡ contents .window
-  pub names-are : places ≡ contents .places
-  pub rows : count ≡ rowCount (meant contents)
-  pub codes : Codes (program (meant contents)) count B
-  pub tops-are : TopsAre (program (meant contents)) tops t
-  pub few : t ≤ length tops
-
--- The same, and the table is accepted with it.
-abbrev pub AtHand : List ℕ → List ℕ → List ℕ → List ℕ → List ℕ → ℕ → ℕ → ℕ → Type 0
-AtHand s T places B tops w t count = (k : Ready s places B tops w t count) × Opens s T (accepted (k .contents))
-
--- What each case of the sheet's opening says: the names' places are the first n.
-pub data SheetOpens (s places B tops : List ℕ) : Opening → Type 0 where
-  ready : {w n t count : ℕ} → n ≤ length places → Ready s (take n places) B tops w t count → SheetOpens s places B tops (opening.Sheet w n t count)
-  refused-at : {n p : ℕ} → sheetIn s ≡ refused n p → SheetOpens s places B tops (opening.Refused n p)
-
--- What each case of the sheet's and the table's opening says.
-pub data TableOpens (s T places B tops : List ℕ) : Opening → Type 0 where
-  ready : {w n t count : ℕ} → n ≤ length places → AtHand s T (take n places) B tops w t count → TableOpens s T places B tops (opening.Sheet w n t count)
-  refused-at : {n p : ℕ} → Opens s T (refused n p) → TableOpens s T places B tops (opening.Refused n p)

@@ -8,7 +8,7 @@ use readings::whole::Outcome;
 use readings::whole::take_readings;
 use table::words_of;
 ghost use Rattle.reader.specs.Results.{addingSays};
-ghost use Rattle.reader.specs.Opening.{AtHand};
+ghost use Rattle.reader.specs.Ready.{AtHand};
 ghost use Rattle.reader.specs.Operations.{Adds};
 
 // How many facts are new, and whether there is a clash; or a refusal's number and place.

@@ -9,7 +9,7 @@ use table::words_of;
 ghost use mathlib.Core.Path.{_≡_};
 ghost use lib.ListN.{length};
 ghost use Rattle.rows.specs.Words.{Blank};
-ghost use Rattle.reader.specs.Opening.{SheetOpens, TableOpens};
+ghost use Rattle.reader.specs.Ready.{SheetOpens, TableOpens};
 
 // An accepted sheet: its window, and how many signals, top rows and rows it has. Or a refusal's number and place.
 pub enum Opening {

@@ -3,7 +3,7 @@ use native.Mathlib.Omega.{arith}
 use lib.ListN.{length-take}
 use Rattle.sheet.proofs.Answers.{when-sheet, when-no-sheet}
 use Rattle.lowering.proofs.Answers.{when-rows}
-use Rattle.reader.specs.Opening.SheetOpens.{refused-at}
+use Rattle.reader.specs.Ready.SheetOpens.{refused-at}
 use Rattle.reader.proofs.Sheets.{in-refused, outlined, not-fitting, fitting}
 use borrow.Author.Needs.{needs}
 use Rattle.reader.proofs.opening.open_sheet.Statement.{statement}
