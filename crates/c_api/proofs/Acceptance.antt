@@ -1,0 +1,87 @@
+-- A call answers 0 exactly if it is accepted: every refusal has a number from 1 to 17.
+-- Assumes nothing.
+use mathlib.Core.Path.{_≡_, refl, sym, subst}
+use mathlib.Core.Bool.{Bool, true, false}
+use mathlib.Core.List.{List}
+use mathlib.Core.Logic.{_↔_}
+use Prim.Native.Nat.{ℕ}
+use Rattle.text.specs.Read.{Read}
+use Rattle.text.specs.Read.Read.{got, refused as unread}
+use Rattle.text.specs.Bytes.{pick}
+use Rattle.tilco.specs.Table.{Answer}
+use Rattle.sheet.specs.Sheet.{Contents, sheetOf, meant}
+use Rattle.reader.specs.Results.{Result, accepted, refused, Gain}
+use Rattle.reader.specs.Opening.{fits, sized, sheetIn, namesIn, Opens}
+use Rattle.reader.specs.Opening.Opens.{both, not-the-sheet, not-the-length, not-inside}
+use Rattle.reader.specs.Operations.{counted, checked, Adds, Asks}
+use Rattle.reader.specs.Operations.Adds.{not-opened, not-read, added}
+use Rattle.reader.specs.Operations.Asks.{not-opened as not-asked, out-of-range, asked}
+use Rattle.c_api.specs.Leaves.{Left, left, leaves, rowValues, gainValues, answerValues, CheckLeaves, AddLeaves, AskLeaves}
+use Rattle.c_api.proofs.Numbers.{Listed, Numbered, sheet-numbered, readings-numbered}
+
+-- Accepted, or refused by a listed number.
+abbrev pub Told : {A : Type 0} → Result A → Type 0
+Told (accepted x) = Unit {0}
+Told (refused n p) = Listed n
+
+abbrev pub Accepted : {A : Type 0} → Result A → Type 0
+Accepted (accepted x) = Unit {0}
+Accepted (refused n p) = ⊥
+
+-- The number that a call answers.
+abbrev pub answerOf : Left → ℕ
+answerOf (left n place values) = n
+
+-- ---- every refusal has a listed number
+
+sized-told : (R : Read Contents) → Numbered R → Told (sized R)
+sized-told (got k q) h = go (fits (meant k))
+  where
+    go : (b : Bool) → Told (pick b (λ _. accepted k) (refused 9 0))
+    go true = tt
+    go false = tt
+sized-told (unread n p) h = h
+
+counted-told : (R : Result Contents) → Told R → Told (counted R)
+counted-told (accepted k) h = tt
+counted-told (refused n p) h = h
+
+module _ (s : List ℕ) where
+  sheet-told : Told (sheetIn s)
+  unfolding sheetIn
+  sheet-told = sized-told (sheetOf s) (sheet-numbered s)
+
+  pub check-told : Told (checked s)
+  check-told = counted-told (sheetIn s) sheet-told
+
+  opens-told : {T : List ℕ} {x : Result Contents} → Opens s T x → Told x
+  opens-told (both e l i) = tt
+  opens-told (not-the-sheet e) = subst Told e sheet-told
+  opens-told (not-the-length e l) = tt
+  opens-told (not-inside e l i) = tt
+
+  pub add-told : {r T U : List ℕ} {x : Result Gain} → Adds s r T U x → Told x
+  add-told (not-opened o e) = opens-told o
+  add-told {r} (not-read {k} o e u) = subst Numbered e (readings-numbered (namesIn s k) (k .window) r)
+  add-told (added o e A g c) = tt
+
+  pub ask-told : {T : List ℕ} {signal tick : ℕ} {x : Result Answer} → Asks s T signal tick x → Told x
+  ask-told (not-asked o) = opens-told o
+  ask-told (out-of-range o i) = tt
+  ask-told (asked o i a) = tt
+
+-- ---- so 0 tells acceptance
+
+zero-tells : {A : Type 0} (values : A → List ℕ) (place : ℕ) (before : List ℕ) (x : Result A) → Told x → (answerOf (leaves values place before x) ≡ 0) ↔ Accepted x
+zero-tells values place before (accepted x) h = (λ _. tt, λ _. refl)
+zero-tells values place before (refused n p) h = (λ e. subst Listed e h, λ b. absurd b)
+
+module _ (s : List ℕ) (place : ℕ) (before : List ℕ) {l : Left} where
+  pub check-zero : CheckLeaves s place before l → (answerOf l ≡ 0) ↔ Accepted (checked s)
+  check-zero e = subst (λ (k : Left). (answerOf k ≡ 0) ↔ Accepted (checked s)) (sym e) (zero-tells rowValues place before (checked s) (check-told s))
+
+  pub add-zero : {r T U : List ℕ} (c : AddLeaves s r T U place before l) → (answerOf l ≡ 0) ↔ Accepted (c .0)
+  add-zero (x, a, e) = subst (λ (k : Left). (answerOf k ≡ 0) ↔ Accepted x) (sym e) (zero-tells gainValues place before x (add-told s a))
+
+  pub ask-zero : {T : List ℕ} {signal tick : ℕ} (c : AskLeaves s T signal tick place before l) → (answerOf l ≡ 0) ↔ Accepted (c .0)
+  ask-zero (x, a, e) = subst (λ (k : Left). (answerOf k ≡ 0) ↔ Accepted x) (sym e) (zero-tells answerValues place before x (ask-told s a))

@@ -1,0 +1,17 @@
+-- Any two outcomes allowed for one call coincide: what check, add and ask leave, and add's table.
+-- Assumes nothing.
+use mathlib.Core.Path.{_≡_, sym, ap, _∙_}
+use mathlib.Core.List.{List}
+use Prim.Native.Nat.{ℕ}
+use Rattle.reader.proofs.Determined.{adds-one, asks-one}
+use Rattle.c_api.specs.Leaves.{Left, leaves, gainValues, answerValues, CheckLeaves, AddLeaves, AskLeaves}
+
+module _ (s : List ℕ) (place : ℕ) (before : List ℕ) {l l′ : Left} where
+  pub check-leaves-one : CheckLeaves s place before l → CheckLeaves s place before l′ → l ≡ l′
+  check-leaves-one e f = e ∙ sym f
+
+  pub add-leaves-one : {r T U U′ : List ℕ} → AddLeaves s r T U place before l → AddLeaves s r T U′ place before l′ → (U ≡ U′) × (l ≡ l′)
+  add-leaves-one (x, a, e) (y, b, f) = let o = adds-one a b in (o .0, e ∙ ap (leaves gainValues place before) (o .1) ∙ sym f)
+
+  pub ask-leaves-one : {T : List ℕ} {signal tick : ℕ} → AskLeaves s T signal tick place before l → AskLeaves s T signal tick place before l′ → l ≡ l′
+  ask-leaves-one (x, a, e) (y, b, f) = e ∙ ap (leaves answerValues place before) (asks-one a b) ∙ sym f

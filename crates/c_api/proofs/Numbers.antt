@@ -1,0 +1,279 @@
+-- Whatever is read, a sheet or readings, is read or refused by a number from 1 to 17.
+-- Assumes nothing.
+use mathlib.Core.Bool.{Bool, true, false, _&&_}
+use mathlib.Core.List.{List, [], _∷_, _++_}
+use mathlib.Core.Option.{Option, none, some}
+use Prim.Native.Nat.{ℕ, zero, suc, _+_, _-_}
+use lib.Dec.{T, ltb, leb, eqb}
+use lib.ListN.{length, take}
+use Rattle.text.specs.declared.bytes.Class.{Class}
+use Rattle.text.specs.declared.bytes.Class.the-variants.{Letter, Digit, Sign, Bracket, Other}
+use Rattle.text.specs.declared.words.Word.{Word}
+use Rattle.text.specs.declared.words.Word.the-variants as word
+use Rattle.text.specs.declared.numbers.Number.{Number}
+use Rattle.text.specs.declared.numbers.Number.the-variants.{Value, Missing}
+use Rattle.text.specs.Read.{Read, andThen}
+use Rattle.text.specs.Read.Read.{got, refused}
+use Rattle.text.specs.Bytes.{byte, bytes, peek, pick, between, oneOf, classOf, starts}
+use Rattle.text.specs.Words.{wordAt, wordEnd, namesAt, findName, isWord, nameAt}
+use Rattle.text.specs.Numbers.{number}
+use Rattle.text.specs.Lines.{lineEnd, line, wholeNumber, wholeName, numberLine, rangedLine, nameLine, inTurn, upTo}
+use Rattle.tilco.specs.Formula.{Op, And, Or, Implies, Iff, Written}
+use Rattle.formula.specs.declared.interval.Span.{Span}
+use Rattle.formula.specs.declared.interval.Span.the-variants as span
+use Rattle.formula.specs.Interval.{endAt, endThen, endAfter, near, leftOut, spanOf, closeAt, commaAt, interval}
+use Rattle.formula.specs.Grammar.{Reader, declared, spanThen, times, timedPart, signText, repeats, more, level, formula, negated, closed, inParens, second, arguments, kept, worded, plainBy, plainIn, inside, plain, rule}
+use Rattle.sheet.specs.Sheet.{signalLine, headOf, head, ruleTo, ruleLine, rules, contents, sheetOf}
+use Rattle.readings.specs.Readings.{knownLine, reading, readings}
+
+-- Is n a refusal's number?
+abbrev pub Listed : ℕ → Type 0
+Listed n = T (between 1 17 n)
+
+-- Something is read, or it is refused by a listed number.
+abbrev pub Numbered : {A : Type 0} → Read A → Type 0
+Numbered (got a q) = Unit {0}
+Numbered (refused n p) = Listed n
+
+then-numbered : {A B : Type 0} (R : Read B) (K : B → ℕ → Read A) → Numbered R → ((b : B) (q : ℕ) → Numbered (K b q)) → Numbered (andThen R K)
+then-numbered (got b q) K h f = f b q
+then-numbered (refused n p) K h f = h
+
+pick-numbered : {A : Type 0} (b : Bool) (X Y : Read A) → Numbered X → Numbered Y → Numbered (pick b (λ _. X) Y)
+pick-numbered true X Y x y = x
+pick-numbered false X Y x y = y
+
+turn-numbered : {A : Type 0} (P : List A → ℕ → Read A) → ((t : List A) (p : ℕ) → Numbered (P t p)) → (n : ℕ) (t : List A) (p : ℕ) → Numbered (inTurn P n t p)
+unfolding inTurn
+turn-numbered P part zero t p = tt
+turn-numbered P part (suc n) t p =
+    then-numbered (P t p) (λ a q. inTurn P n (t ++ (a ∷ [])) q) (part t p) (λ a q. turn-numbered P part n (t ++ (a ∷ [])) q)
+
+up-numbered : {A : Type 0} (P : ℕ → Read A) (end : ℕ) → ((p : ℕ) → Numbered (P p)) → (m : ℕ) (t : List A) (p : ℕ) → Numbered (upTo P end m t p)
+unfolding upTo
+up-numbered P end part zero t p = tt
+up-numbered P end part (suc m) t p =
+    pick-numbered (ltb p end) (andThen (P p) (λ a q. upTo P end m (t ++ (a ∷ [])) q)) (got t p)
+    (then-numbered (P p) (λ a q. upTo P end m (t ++ (a ∷ [])) q) (part p) (λ a q. up-numbered P end part m (t ++ (a ∷ [])) q)) tt
+
+-- ---- lines
+
+module _ (s : List ℕ) (p : ℕ) (key : List ℕ) (form : ℕ) (f : Listed form) where
+  line-numbered : Numbered (line s p key form)
+  unfolding line
+  line-numbered =
+      pick-numbered (starts s p key && ltb (lineEnd s (p + length key)) (length s)) (got (p + length key) (lineEnd s (p + length key))) (refused form p) tt f
+
+  number-numbered : Numbered (numberLine s p key form)
+  unfolding numberLine
+  number-numbered = then-numbered (line s p key form) (λ v e. wholeNumber p form e (number s v)) line-numbered (λ v e. go e (number s v))
+    where
+      go : (e : ℕ) (x : Number) → Numbered (wholeNumber p form e x)
+      go e (Value x q) = pick-numbered (eqb q e) (got x (e + 1)) (refused form p) tt f
+      go e Missing = f
+
+  ranged-numbered : (content lo hi : ℕ) → Listed content → Numbered (rangedLine s p key form content lo hi)
+  unfolding rangedLine
+  ranged-numbered content lo hi c =
+      then-numbered (numberLine s p key form) (λ x q. pick (between lo hi x) (λ _. got x q) (refused content (p + length key))) number-numbered
+      (λ x q. pick-numbered (between lo hi x) (got x q) (refused content (p + length key)) tt c)
+
+  name-numbered : (content : ℕ) → Listed content → Numbered (nameLine s p key form content)
+  unfolding nameLine
+  name-numbered content c = then-numbered (line s p key form) (λ v e. wholeName v content e (nameAt s v)) line-numbered (λ v e. go v e (nameAt s v))
+    where
+      go : (v e : ℕ) (x : Word) → Numbered (wholeName v content e x)
+      go v e (word.Name q) = pick-numbered (eqb q e) (got v (e + 1)) (refused content v) tt c
+      go v e word.Other = c
+
+-- ---- intervals
+
+abbrev SpanNumbered : Span → Type 0
+SpanNumbered (span.Over first more q) = Unit {0}
+SpanNumbered (span.Refused n p) = Listed n
+
+pick-span : (b : Bool) (X Y : Span) → SpanNumbered X → SpanNumbered Y → SpanNumbered (pick b (λ _. X) Y)
+pick-span true X Y x y = x
+pick-span false X Y x y = y
+
+end-after : (b : Bool) (s : List ℕ) (p : ℕ) (k : ℕ → ℕ → Span) → ((v q : ℕ) → SpanNumbered (k v q)) → SpanNumbered (endAfter b s p k)
+unfolding endAfter
+end-after b s p k h = pick-span b (endThen (endAt s (p + 1)) (p + 1) k) (span.Refused 5 p) (go (endAt s (p + 1))) tt
+  where
+    go : (x : Number) → SpanNumbered (endThen x (p + 1) k)
+    go (Value v q) = h v q
+    go Missing = tt
+
+span-numbered : (p o v w c x : ℕ) → SpanNumbered (spanOf p o v w c x)
+unfolding spanOf
+span-numbered p o v w c x =
+    let lo = v + leftOut o (byte "(") in
+    let hi = w - leftOut c (byte ")") in
+    pick-span (near v && near w && leb lo hi) (span.Over (lo - 9936) (hi - lo) x) (span.Refused 7 p) tt tt
+
+interval-numbered : (s : List ℕ) (p : ℕ) → SpanNumbered (interval s p)
+unfolding interval commaAt closeAt
+interval-numbered s p =
+    end-after (oneOf (peek s p) (bytes "[(")) s p (commaAt s p (peek s p)) (λ v q.
+    end-after (eqb (peek s q) (byte ",")) s q (closeAt s p (peek s p) v) (λ w x.
+    pick-span (oneOf (peek s x) (bytes "])")) (spanOf p (peek s p) v w (peek s x) (x + 1)) (span.Refused 5 x) (span-numbered p (peek s p) v w (peek s x) (x + 1)) tt))
+
+-- ---- formulas
+
+abbrev Reads : Reader → Type 0
+Reads P = (p : ℕ) → Numbered (P p)
+
+abbrev ReadsIn : Option Reader → Type 0
+ReadsIn none = Unit {0}
+ReadsIn (some P) = Reads P
+
+module _ (s : List ℕ) where
+  times-numbered : (k : ℕ) (f : Written) → Reads (times s k f)
+  unfolding times
+  times-numbered zero f p = tt
+  times-numbered (suc k) f p =
+      pick-numbered (oneOf (peek s p) (bytes "@?")) (spanThen (interval s (p + 1)) K) (got f p)
+      (go (interval s (p + 1)) (interval-numbered s (p + 1)) (λ first more q. times-numbered k (Written.time (eqb (peek s p) (byte "@")) first more f) q)) tt
+    where
+      K : ℕ → ℕ → ℕ → Read Written
+      K first more q = times s k (Written.time (eqb (peek s p) (byte "@")) first more f) q
+
+      go : (x : Span) → SpanNumbered x → ((first more q : ℕ) → Numbered (K first more q)) → Numbered (spanThen x K)
+      go (span.Over first more q) h r = r first more q
+      go (span.Refused n q) h r = h
+
+  timed-numbered : (P : Reader) → Reads P → Reads (timedPart P s)
+  unfolding timedPart
+  timed-numbered P r p = then-numbered (P p) (λ f q. times s (length s) f q) (r p) (λ f q. times-numbered (length s) f q)
+
+  more-numbered : (o : Op) (P : Reader) → Reads P → (k : ℕ) (f : Written) → Reads (more o P s k f)
+  unfolding more
+  more-numbered o P r zero f p = tt
+  more-numbered o P r (suc k) f p =
+      pick-numbered (starts s p (signText o))
+      (andThen (P (p + length (signText o))) (λ g q. pick (repeats o) (λ _. more o P s k (Written.pair o f g) q) (got (Written.pair o f g) q))) (got f p)
+      (then-numbered (P (p + length (signText o))) _ (r (p + length (signText o)))
+      (λ g q. pick-numbered (repeats o) (more o P s k (Written.pair o f g) q) (got (Written.pair o f g) q) (more-numbered o P r k (Written.pair o f g) q) tt))
+      tt
+
+  level-numbered : (o : Op) (P : Reader) → Reads P → Reads (level o P s)
+  unfolding level
+  level-numbered o P r p = then-numbered (P p) (λ f q. more o P s (length s) f q) (r p) (λ f q. more-numbered o P r (length s) f q)
+
+  formula-numbered : (P : Reader) → Reads P → Reads (formula P s)
+  formula-numbered P r = level-numbered Iff _ (level-numbered Implies _ (level-numbered Or _ (level-numbered And _ (timed-numbered P r))))
+
+  negated-numbered : (inner : Option Reader) → ReadsIn inner → Reads (negated inner)
+  negated-numbered none r p = tt
+  negated-numbered (some P) r p = then-numbered (P (p + 1)) (λ f q. got (Written.neg f) q) (r (p + 1)) (λ f q. tt)
+
+  closed-numbered : (R : Read Written) → Numbered R → Numbered (closed s R)
+  closed-numbered R r =
+      then-numbered R (λ f q. pick (eqb (peek s q) (byte ")")) (λ _. got f (q + 1)) (refused 5 q)) r
+      (λ f q. pick-numbered (eqb (peek s q) (byte ")")) (got f (q + 1)) (refused 5 q) tt tt)
+
+  parens-numbered : (inner : Option Reader) → ReadsIn inner → Reads (inParens inner s)
+  parens-numbered none r p = tt
+  parens-numbered (some P) r p = closed-numbered (formula P s (p + 1)) (formula-numbered P r (p + 1))
+
+  second-numbered : (b : Bool) (F : Reader) → Reads F → (f : Written) → Reads (second b F s f)
+  unfolding second
+  second-numbered b F r f p =
+      pick-numbered (eqb (peek s p) (byte ",")) (closed s (andThen (F (p + 1)) (λ g q. got (Written.keep b f g) q))) (refused 5 p)
+      (closed-numbered (andThen (F (p + 1)) (λ g q. got (Written.keep b f g) q)) (then-numbered (F (p + 1)) (λ g q. got (Written.keep b f g) q) (r (p + 1)) (λ g q. tt))) tt
+
+  arguments-numbered : (inner : Option Reader) → ReadsIn inner → (b : Bool) → Reads (arguments inner b s)
+  arguments-numbered none r b p = tt
+  arguments-numbered (some P) r b p =
+      then-numbered (formula P s (p + 1)) (λ f q. second b (formula P s) s f q) (formula-numbered P r (p + 1)) (λ f q. second-numbered b (formula P s) (formula-numbered P r) f q)
+
+  kept-numbered : (inner : Option Reader) → ReadsIn inner → (b : Bool) → Reads (kept inner b s)
+  unfolding kept
+  kept-numbered inner r b p = pick-numbered (eqb (peek s p) (byte "(")) (arguments inner b s p) (refused 5 p) (arguments-numbered inner r b p) tt
+
+module _ (names : List (List ℕ)) (s : List ℕ) where
+  declared-numbered : Reads (declared names s)
+  unfolding declared
+  declared-numbered p =
+      pick-numbered (ltb (findName (wordAt s p) names) (length names)) (got (Written.name (findName (wordAt s p) names)) (wordEnd s p)) (refused 6 p) tt tt
+
+  worded-numbered : (inner : Option Reader) → ReadsIn inner → Reads (worded inner names s)
+  unfolding worded
+  worded-numbered inner r p =
+      pick-numbered (isWord s p (bytes "since")) (kept inner true s (p + 5)) (pick (isWord s p (bytes "until")) (λ _. kept inner false s (p + 5)) (declared names s p))
+      (kept-numbered s inner r true (p + 5))
+      (pick-numbered (isWord s p (bytes "until")) (kept inner false s (p + 5)) (declared names s p) (kept-numbered s inner r false (p + 5)) (declared-numbered p))
+
+  plain-by : (k : Class) (inner : Option Reader) → ReadsIn inner → Reads (plainBy k inner names s)
+  plain-by Letter inner r p = worded-numbered inner r p
+  plain-by Digit inner r p = tt
+  plain-by Sign inner r p = pick-numbered (eqb (peek s p) (byte "!")) (negated inner p) (refused 5 p) (negated-numbered s inner r p) tt
+  plain-by Bracket inner r p = pick-numbered (eqb (peek s p) (byte "(")) (inParens inner s p) (refused 5 p) (parens-numbered s inner r p) tt
+  plain-by Other inner r p = tt
+
+  plain-in-numbered : (inner : Option Reader) → ReadsIn inner → Reads (plainIn inner names s)
+  unfolding plainIn
+  plain-in-numbered inner r p = plain-by (classOf (peek s p)) inner r p
+
+  inside-numbered : (d : ℕ) → ReadsIn (inside d names s)
+  unfolding inside
+  inside-numbered zero = tt
+  inside-numbered (suc d) = plain-in-numbered (inside d names s) (inside-numbered d)
+
+  rule-numbered : Reads (rule names s)
+  unfolding rule plain
+  rule-numbered p =
+      then-numbered (formula (plain 32 names s) s p) (λ f q. pick (eqb q (length s)) (λ _. got f q) (refused 5 q))
+      (formula-numbered s (plain 32 names s) (plain-in-numbered (inside 32 names s) (inside-numbered 32)) p)
+      (λ f q. pick-numbered (eqb q (length s)) (got f q) (refused 5 q) tt tt)
+
+-- ---- the sheet
+
+module _ (s : List ℕ) where
+  signal-numbered : (t : List ℕ) (p : ℕ) → Numbered (signalLine s t p)
+  unfolding signalLine
+  signal-numbered t p =
+      then-numbered (nameLine s p (bytes "signal=") 2 4) _ (name-numbered s p (bytes "signal=") 2 tt 4 tt)
+      (λ v q. pick-numbered (eqb (findName (wordAt s v) (namesAt s t)) (length t)) (got v q) (refused 4 v) tt tt)
+
+  head-numbered : Numbered (head s)
+  unfolding head
+  head-numbered =
+      then-numbered (rangedLine s 0 (bytes "window=") 2 3 1 64) _ (ranged-numbered s 0 (bytes "window=") 2 tt 3 1 64 tt) (λ w p.
+      then-numbered (rangedLine s p (bytes "signals=") 2 3 1 64) _ (ranged-numbered s p (bytes "signals=") 2 tt 3 1 64 tt) (λ n q.
+      then-numbered (inTurn (signalLine s) n [] q) _ (turn-numbered (signalLine s) signal-numbered n [] q) (λ t u.
+      then-numbered (rangedLine s u (bytes "rules=") 2 3 0 64) (λ m e. got (headOf w t m) e) (ranged-numbered s u (bytes "rules=") 2 tt 3 0 64 tt) (λ m e. tt))))
+
+  rule-line-numbered : (names : List (List ℕ)) → Reads (ruleLine names s)
+  unfolding ruleLine ruleTo
+  rule-line-numbered names p =
+      then-numbered (line s p (bytes "rule=") 2) (λ v e. ruleTo names s v e) (line-numbered s p (bytes "rule=") 2 tt) (λ v e.
+      pick-numbered (between 1 256 (e - v)) (andThen (rule names (take e s) v) (λ w q. got w (e + 1))) (refused 5 v)
+      (then-numbered (rule names (take e s) v) (λ w q. got w (e + 1)) (rule-numbered names (take e s) v) (λ w q. tt)) tt)
+
+  pub sheet-numbered : Numbered (sheetOf s)
+  unfolding sheetOf rules
+  sheet-numbered =
+      pick-numbered (leb (length s) 32768) _ (refused 1 0)
+      (then-numbered (head s) _ head-numbered (λ h p.
+      then-numbered (rules (namesAt s (h .places)) s (h .count) p) (λ ws q. pick (eqb q (length s)) (λ _. got (contents (h .window) (h .places) ws) q) (refused 2 q))
+      (turn-numbered (λ _ q. ruleLine (namesAt s (h .places)) s q) (λ t q. rule-line-numbered (namesAt s (h .places)) q) (h .count) [] p)
+      (λ ws q. pick-numbered (eqb q (length s)) (got (contents (h .window) (h .places) ws) q) (refused 2 q) tt tt)))
+      tt
+
+-- ---- readings
+
+module _ (names : List (List ℕ)) (W : ℕ) (r : List ℕ) where
+  reading-numbered : (p : ℕ) → Numbered (reading names W r p)
+  unfolding reading knownLine
+  reading-numbered p =
+      then-numbered (rangedLine r p (bytes "at=") 11 13 0 (W - 1)) _ (ranged-numbered r p (bytes "at=") 11 tt 13 0 (W - 1) tt) (λ t q.
+      then-numbered (knownLine names r q) _ (then-numbered (nameLine r q (bytes "signal=") 11 12) _ (name-numbered r q (bytes "signal=") 11 tt 12 tt)
+      (λ v i. pick-numbered (ltb (findName (wordAt r v) names) (length names)) (got (findName (wordAt r v) names) i) (refused 12 v) tt tt)) (λ x u.
+      then-numbered (rangedLine r u (bytes "value=") 11 14 0 1) _ (ranged-numbered r u (bytes "value=") 11 tt 14 0 1 tt) (λ v e. tt)))
+
+  pub readings-numbered : Numbered (readings names W r)
+  unfolding readings
+  readings-numbered =
+      pick-numbered (leb (length r) 32768) (upTo (reading names W r) (length r) (length r) [] 0) (refused 10 0)
+      (up-numbered (reading names W r) (length r) reading-numbered (length r) [] 0) tt

@@ -1,0 +1,46 @@
+-- What a call from C leaves: the number that it answers, and what stands behind the pointers that it was lent.
+-- Assumes nothing. `s` is the sheet's text, r the readings' text, T the table before and U after.
+use mathlib.Core.Path.{_≡_}
+use mathlib.Core.Bool.{true, false}
+use mathlib.Core.List.{List, [], _∷_}
+use Prim.Native.Nat.{ℕ}
+use Rattle.tilco.specs.Table.{Answer, Unsettled, True, False, Contradiction}
+use Rattle.reader.specs.Results.{Result, accepted, refused, Gain, gain}
+use Rattle.reader.specs.Operations.{checked, Adds, Asks}
+
+-- The number answered, what stands at `place`, and what stands at the other places, in the order of the parameters.
+pub data Left : Type 0 where
+  left : ℕ → ℕ → List ℕ → Left
+
+-- Accepted: 0 is answered, the values are written, and `place` stays. Refused: its number is answered, its place is written, and the others stay.
+abbrev pub leaves : {A : Type 0} → (A → List ℕ) → ℕ → List ℕ → Result A → Left
+leaves values place before (accepted x) = left 0 place (values x)
+leaves values place before (refused n p) = left n p before
+
+-- What check writes: the row count.
+abbrev pub rowValues : ℕ → List ℕ
+rowValues n = n ∷ []
+
+-- What add writes: how many facts are new, and 1 for a clash, 0 for none.
+abbrev pub gainValues : Gain → List ℕ
+gainValues (gain new true) = new ∷ 1 ∷ []
+gainValues (gain new false) = new ∷ 0 ∷ []
+
+-- What ask writes.
+abbrev pub answerValues : Answer → List ℕ
+answerValues Unsettled = 0 ∷ []
+answerValues True = 1 ∷ []
+answerValues False = 2 ∷ []
+answerValues Contradiction = 3 ∷ []
+
+-- A call of check.
+abbrev pub CheckLeaves : List ℕ → ℕ → List ℕ → Left → Type 0
+CheckLeaves s place before l = l ≡ leaves rowValues place before (checked s)
+
+-- A call of add.
+abbrev pub AddLeaves : List ℕ → List ℕ → List ℕ → List ℕ → ℕ → List ℕ → Left → Type 0
+AddLeaves s r T U place before l = (x : Result Gain) × Adds s r T U x × (l ≡ leaves gainValues place before x)
+
+-- A call of ask.
+abbrev pub AskLeaves : List ℕ → List ℕ → ℕ → ℕ → ℕ → List ℕ → Left → Type 0
+AskLeaves s T signal tick place before l = (x : Result Answer) × Asks s T signal tick x × (l ≡ leaves answerValues place before x)

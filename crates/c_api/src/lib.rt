@@ -1,0 +1,94 @@
+// check, add and ask for C and for languages that call C; include/mikhakun.h declares them. They assume nothing of the texts, the table and the numbers.
+// A caller lends memory of the length given behind each pointer, and no two of one call overlap.
+use reader::adding::Adding;
+use reader::adding::add;
+use reader::asking::Asking;
+use reader::asking::ask;
+use reader::checking::Checking;
+use reader::checking::check;
+use table::Value;
+ghost use mathlib.Core.Path.{_≡_};
+ghost use mathlib.Core.List.{[], _∷_};
+ghost use Rattle.table.specs.Values.{valueSays};
+ghost use Rattle.c_api.specs.Leaves.{left, answerValues, CheckLeaves, AddLeaves, AskLeaves};
+
+// Checks the sheet: 0 and the row count, or a refusal's number and its place.
+#[no_mangle]
+pub extern "C" fn mikhakun_check(sheet: &[u8], rows: &mut u64, place: &mut u64) -> u64
+    ensures { λ r. ⌜ CheckLeaves (now (sheet .entry)) (now (place .entry)) (now (rows .entry) ∷ []) (left r (now (place .exit)) (now (rows .exit) ∷ [])) ⌝ }
+{
+    let c = check(sheet);
+    match c {
+        Checking::Rows(n) => {
+            *rows = n as u64;
+            0
+        }
+        Checking::Refused(n, p) => {
+            *place = p as u64;
+            n as u64
+        }
+    }
+}
+
+// Adds the readings to the table: 0, how many facts are new and whether there is a clash, or a refusal's number and its place.
+#[no_mangle]
+pub extern "C" fn mikhakun_add(
+    sheet: &[u8],
+    readings: &[u8],
+    table: &mut [u64],
+    new_facts: &mut u64,
+    clash: &mut u64,
+    place: &mut u64,
+) -> u64
+    ensures { λ r. ⌜ AddLeaves (now (sheet .entry)) (now (readings .entry)) (now (table .entry)) (now (table .exit)) (now (place .entry)) (now («new_facts» .entry) ∷ now (clash .entry) ∷ []) (left r (now (place .exit)) (now («new_facts» .exit) ∷ now (clash .exit) ∷ [])) ⌝ }
+{
+    let a = add(sheet, readings, table);
+    match a {
+        Adding::Added { new, clash: c } => {
+            *new_facts = new as u64;
+            *clash = c as u64;
+            0
+        }
+        Adding::Refused(n, p) => {
+            *place = p as u64;
+            n as u64
+        }
+    }
+}
+
+// A value's number.
+fn number_of(v: Value) -> u64
+    ensures { λ r. ⌜ r ∷ [] ≡ answerValues (valueSays v) ⌝ }
+{
+    match v {
+        Value::Unsettled => 0,
+        Value::True => 1,
+        Value::False => 2,
+        Value::Contradiction => 3,
+    }
+}
+
+// Asks the table for a signal's value at a tick: 0 and the value's number, or a refusal's number and its place.
+#[no_mangle]
+pub extern "C" fn mikhakun_ask(
+    sheet: &[u8],
+    table: &[u64],
+    signal: u64,
+    tick: u64,
+    value: &mut u64,
+    place: &mut u64,
+) -> u64
+    ensures { λ r. ⌜ AskLeaves (now (sheet .entry)) (now (table .entry)) signal tick (now (place .entry)) (now (value .entry) ∷ []) (left r (now (place .exit)) (now (value .exit) ∷ [])) ⌝ }
+{
+    let a = ask(sheet, table, signal as usize, tick as usize);
+    match a {
+        Asking::Given(v) => {
+            *value = number_of(v);
+            0
+        }
+        Asking::Refused(n, p) => {
+            *place = p as u64;
+            n as u64
+        }
+    }
+}

@@ -1,0 +1,83 @@
+/* Mikhakun: check, add and ask for C. Link target/staticlib/libc_api.a, which `rt staticlib c_api` proves and builds (x86-64 Linux).
+ *
+ * Each call answers 0, or the number of a refusal. `place` is written at a refusal only, the other results at acceptance only.
+ * A refusal changes no word of the table. Nothing is kept between calls but the table that you lend.
+ *
+ * You owe what the proof assumes of a caller: behind each pointer lies memory of the length given, no two of one call overlap, nobody else
+ * writes there during the call, and no pointer is null, also where its length is 0. The texts, the table's words and the numbers may be
+ * anything at all. A call needs 90 KB of stack: the deepest sheets that were tried use 82 KB.
+ *
+ * The table. A sheet of `rows` rows (see mikhakun_check) has a table of 2 * rows words, and words of zeros are the empty one. Row x is that of
+ * signal x, numbered from 0 in sheet order; the rows of hidden signals and of the parts of rules follow. Word 2 * r has the ticks at which row
+ * r is true, word 2 * r + 1 those at which it is false; bit t, of value 2 to the t, is tick t.
+ *
+ * An example, with the sheet and the readings in `sheet` and `readings`:
+ *
+ *     uint64_t rows, fresh, clash, value, place;
+ *     uint64_t number = mikhakun_check(sheet, sheet_len, &rows, &place);
+ *     if (number != 0) return refused(number, place);
+ *     size_t words = 2 * rows;
+ *     uint64_t *table = calloc(words, sizeof *table);
+ *     number = mikhakun_add(sheet, sheet_len, readings, readings_len, table, words, &fresh, &clash, &place);
+ *     if (number != 0) return refused(number, place);
+ *     number = mikhakun_ask(sheet, sheet_len, table, words, 0, 3, &value, &place);
+ *     if (number != 0) return refused(number, place);
+ *     if (value == MIKHAKUN_TRUE) puts("signal 0 is true at tick 3 in every history");
+ */
+#ifndef MIKHAKUN_H
+#define MIKHAKUN_H
+
+#include <stddef.h>
+#include <stdint.h>
+
+#ifdef __cplusplus
+extern "C" {
+#endif
+
+/* The numbers of refusal. A place is counted in bytes from 0: for 2 to 8 in the sheet, for 11 to 14 in the readings, and else it is 0. Of a line
+ * it is the first byte, or the text's length where the line is missing; of a value, a name, an interval or a sign its first byte. */
+enum {
+    MIKHAKUN_SHEET_TOO_LONG = 1,     /* the sheet is over 32,768 bytes */
+    MIKHAKUN_SHEET_LINE = 2,         /* a sheet line is missing, not of its form, out of order or without LF; or bytes follow the last line */
+    MIKHAKUN_OUT_OF_RANGE = 3,       /* window, signals or rules is outside its range: the value */
+    MIKHAKUN_SIGNAL_NAME = 4,        /* a signal's name is not of its form, reserved or given twice: the value */
+    MIKHAKUN_RULE = 5,               /* a rule's length is outside 1 to 256: the value; or its formula does not fit: what cannot follow */
+    MIKHAKUN_NOT_DECLARED = 6,       /* a rule has a name that is not declared: the name */
+    MIKHAKUN_INTERVAL = 7,           /* an interval has an end outside -63 to 63, or no whole number inside: its opening bracket */
+    MIKHAKUN_TOO_DEEP = 8,           /* a 33rd ( or ! is open: that sign */
+    MIKHAKUN_TOO_LARGE = 9,          /* the sheet has over 32 hidden signals or 1,024 rows */
+    MIKHAKUN_READINGS_TOO_LONG = 10, /* the readings are over 32,768 bytes */
+    MIKHAKUN_READINGS_LINE = 11,     /* a readings line is missing, not of its form or without LF */
+    MIKHAKUN_UNKNOWN_NAME = 12,      /* a reading names no signal of the sheet: the value */
+    MIKHAKUN_OUTSIDE_WINDOW = 13,    /* a reading's tick is outside the window: the value */
+    MIKHAKUN_NOT_0_OR_1 = 14,        /* a reading's value is a number other than 0 or 1: the value */
+    MIKHAKUN_TABLE_LENGTH = 15,      /* the table's length is not twice the row count */
+    MIKHAKUN_TABLE_MARK = 16,        /* the table has a mark at a tick outside the window */
+    MIKHAKUN_NO_SUCH_CELL = 17       /* ask: the signal or the tick is outside its range */
+};
+
+/* The values that ask writes. */
+enum {
+    MIKHAKUN_UNSETTLED = 0,
+    MIKHAKUN_TRUE = 1,
+    MIKHAKUN_FALSE = 2,
+    MIKHAKUN_CONTRADICTION = 3 /* of every cell, where any row of the table is both true and false at one tick */
+};
+
+/* Checks a sheet: writes how many rows it has. Refusals 1 to 9. */
+uint64_t mikhakun_check(const uint8_t *sheet, size_t sheet_len, uint64_t *rows, uint64_t *place);
+
+/* Adds readings to the table and closes it: it then has exactly what follows from the sheet, the readings and what it held. Writes how many
+ * facts (marks of declared signals) are new, and 1 for a clash, 0 for none. Refusals 1 to 9, 15, 16, 10 to 14, in this order. */
+uint64_t mikhakun_add(const uint8_t *sheet, size_t sheet_len, const uint8_t *readings, size_t readings_len,
+                      uint64_t *table, size_t words, uint64_t *new_facts, uint64_t *clash, uint64_t *place);
+
+/* Asks the table, as it is, for a signal's value at a tick. Refusals 1 to 9, 15, 16, 17, in this order. */
+uint64_t mikhakun_ask(const uint8_t *sheet, size_t sheet_len, const uint64_t *table, size_t words,
+                      uint64_t signal, uint64_t tick, uint64_t *value, uint64_t *place);
+
+#ifdef __cplusplus
+}
+#endif
+
+#endif

@@ -1,0 +1,169 @@
+//! A refusal told with the line that it is in.
+
+use crate::{Refusal, Text};
+use std::fmt;
+
+/// The most bytes of a line that are shown on each side of the place.
+const SIDE: usize = 60;
+
+/// What was wrong with a call, and where: its text is the sentence, the line and a caret under the byte.
+///
+/// ```
+/// use mikhakun::{add, Table};
+///
+/// let sheet = b"window=10\nsignals=1\nsignal=clear2\nrules=0\n";
+/// let readings = b"at=9\nsignal=clear2\nvalue=1\nat=10\nsignal=clear2\nvalue=1\n";
+/// let mut table = Table::for_sheet(sheet)?;
+/// let explanation = add(sheet, readings, &mut table).unwrap_err().explain(sheet, readings);
+/// assert_eq!((explanation.line(), explanation.column()), (Some(4), Some(4)));
+/// assert_eq!(
+///     explanation.to_string(),
+///     "readings, line 4, column 4: the tick is outside the window (refusal 13)\n\
+///      \x20   at=10\n\
+///      \x20      ^"
+/// );
+/// # Ok::<(), mikhakun::Refusal>(())
+/// ```
+#[derive(Clone, Debug, PartialEq, Eq)]
+pub struct Explanation<'a> {
+    refusal: Refusal,
+    spot: Option<Spot<'a>>,
+}
+
+/// A byte of a text, and the line that it is in.
+#[derive(Clone, Debug, PartialEq, Eq)]
+struct Spot<'a> {
+    text: Text,
+    /// Counted from 1.
+    line: usize,
+    /// The line's bytes, without its LF.
+    bytes: &'a [u8],
+    /// The byte's place in the line, counted from 0; the line's length is its LF, or the text's end.
+    at: usize,
+    /// Whether the text ends before this byte, and no line begins here.
+    past_the_text: bool,
+}
+
+impl<'a> Spot<'a> {
+    fn new(text: Text, bytes: &'a [u8], place: usize) -> Self {
+        let place = place.min(bytes.len());
+        let start = bytes[..place].iter().rposition(|&b| b == b'\n').map_or(0, |lf| lf + 1);
+        let end = bytes[place..].iter().position(|&b| b == b'\n').map_or(bytes.len(), |n| place + n);
+        Spot {
+            text,
+            line: 1 + bytes[..start].iter().filter(|&&b| b == b'\n').count(),
+            bytes: &bytes[start..end],
+            at: place - start,
+            past_the_text: start == bytes.len(),
+        }
+    }
+
+    /// The line, each byte as one sign, cut to what stands near the place, and how many signs stand before the place.
+    fn shown(&self) -> (String, usize) {
+        let from = self.at.saturating_sub(SIDE);
+        let to = self.bytes.len().min(self.at + SIDE);
+        let before = if from > 0 { "..." } else { "" };
+        let after = if to < self.bytes.len() { "..." } else { "" };
+        let signs: String = self.bytes[from..to].iter().map(|&b| if matches!(b, b' '..=b'~') { b as char } else { '\u{b7}' }).collect();
+        (format!("{before}{signs}{after}"), before.len() + self.at - from)
+    }
+}
+
+impl<'a> Explanation<'a> {
+    pub(crate) fn new(refusal: Refusal, text: Option<(Text, &'a [u8])>) -> Self {
+        Explanation { refusal, spot: text.map(|(text, bytes)| Spot::new(text, bytes, refusal.place())) }
+    }
+
+    /// The refusal that is explained.
+    pub fn refusal(&self) -> Refusal {
+        self.refusal
+    }
+
+    /// The line of the place, counted from 1; none where the refusal has no place in a text.
+    pub fn line(&self) -> Option<usize> {
+        self.spot.as_ref().map(|spot| spot.line)
+    }
+
+    /// The place's byte in its line, counted from 1.
+    pub fn column(&self) -> Option<usize> {
+        self.spot.as_ref().map(|spot| spot.at + 1)
+    }
+
+    /// What is wrong, in a sentence about this place.
+    pub fn sentence(&self) -> &'static str {
+        match &self.spot {
+            Some(spot) => sentence_at(self.refusal, spot),
+            None => self.refusal.sentence(),
+        }
+    }
+}
+
+/// The part of a number's sentence that holds at the spot.
+fn sentence_at(refusal: Refusal, spot: &Spot<'_>) -> &'static str {
+    match refusal.number() {
+        2 | 11 if spot.past_the_text => "a line is missing here",
+        2 => "this line is not of its form, out of order or without LF, or it follows the last line",
+        11 => "this line is not of its form or without LF",
+        3 if spot.bytes.starts_with(b"window=") => "the window is 1 to 64 ticks",
+        3 if spot.bytes.starts_with(b"signals=") => "a sheet has 1 to 64 signals",
+        3 if spot.bytes.starts_with(b"rules=") => "a sheet has 0 to 64 rules",
+        5 if is_rule_of_wrong_length(spot) => "a rule has 1 to 256 bytes",
+        5 if spot.at == spot.bytes.len() => "the rule stops short here",
+        5 => "the formula cannot go on with this",
+        _ => refusal.sentence(),
+    }
+}
+
+/// Is the spot the first byte of a rule that has no byte, or over 256?
+fn is_rule_of_wrong_length(spot: &Spot<'_>) -> bool {
+    spot.at == b"rule=".len() && !(1..=256).contains(&(spot.bytes.len() - spot.at))
+}
+
+impl fmt::Display for Explanation<'_> {
+    fn fmt(&self, f: &mut fmt::Formatter<'_>) -> fmt::Result {
+        let (sentence, number) = (self.sentence(), self.refusal.number());
+        let Some(spot) = &self.spot else {
+            return write!(f, "{sentence} (refusal {number})");
+        };
+        let (line, before) = spot.shown();
+        writeln!(f, "{}, line {}, column {}: {sentence} (refusal {number})", spot.text, spot.line, spot.at + 1)?;
+        writeln!(f, "    {line}")?;
+        write!(f, "    {:before$}^", "")
+    }
+}
+
+impl std::error::Error for Explanation<'_> {}
+
+#[cfg(test)]
+mod tests {
+    use super::*;
+
+    fn spot(text: &[u8], place: usize) -> (usize, usize, &[u8], bool) {
+        let spot = Spot::new(Text::Sheet, text, place);
+        (spot.line, spot.at, spot.bytes, spot.past_the_text)
+    }
+
+    #[test]
+    fn a_place_is_in_the_line_that_its_lf_ends() {
+        assert_eq!(spot(b"ab\ncd\n", 0), (1, 0, &b"ab"[..], false));
+        assert_eq!(spot(b"ab\ncd\n", 2), (1, 2, &b"ab"[..], false));
+        assert_eq!(spot(b"ab\ncd\n", 4), (2, 1, &b"cd"[..], false));
+        assert_eq!(spot(b"ab\n\n", 3), (2, 0, &b""[..], false));
+    }
+
+    #[test]
+    fn a_place_past_the_last_line_is_in_an_empty_one() {
+        assert_eq!(spot(b"", 0), (1, 0, &b""[..], true));
+        assert_eq!(spot(b"ab\n", 3), (2, 0, &b""[..], true));
+        assert_eq!(spot(b"ab\n", 9), (2, 0, &b""[..], true));
+        assert_eq!(spot(b"ab", 2), (1, 2, &b"ab"[..], false));
+    }
+
+    #[test]
+    fn a_long_line_is_cut_on_both_sides() {
+        let line = [b'a'; 200];
+        let (shown, before) = Spot::new(Text::Sheet, &line, 100).shown();
+        assert_eq!(shown, format!("...{}...", "a".repeat(2 * SIDE)));
+        assert_eq!(before, 3 + SIDE);
+    }
+}

@@ -1,0 +1,140 @@
+//! Settles what follows from a sheet of timed rules and readings.
+//!
+//! A sheet says what must be true of its signals, tick by tick. Given readings, [`add`] settles which signals must be true or false, at which
+//! ticks of the window, in every history that obeys the sheet. These are safe functions over the proved reader, a static library: its three
+//! operations each take the sheet's text, and keep nothing between calls but the [`Table`] that they are lent.
+//!
+//! ```
+//! use mikhakun::{add, ask, check, Table, Value};
+//!
+//! let sheet = b"window=10\nsignals=3\nsignal=clear2\nsignal=go10\nsignal=open10\n\
+//!     rules=2\nrule=clear2@[-3,0]=>go10\nrule=go10=>open10@[2,2]\n";
+//! let mut readings = String::new();
+//! for tick in 3..=6 {
+//!     readings += &format!("at={tick}\nsignal=clear2\nvalue=1\n");
+//! }
+//!
+//! assert_eq!(check(sheet)?, 15);
+//! let mut table = Table::for_sheet(sheet)?;
+//! let added = add(sheet, readings.as_bytes(), &mut table)?;
+//! assert_eq!((added.new_facts, added.clash), (6, false));
+//! assert_eq!(ask(sheet, &table, 1, 6)?, Value::True);
+//! assert_eq!(ask(sheet, &table, 2, 8)?, Value::True);
+//! assert_eq!(ask(sheet, &table, 2, 7)?, Value::Unsettled);
+//! # Ok::<(), mikhakun::Refusal>(())
+//! ```
+//!
+//! What is refused says why and where:
+//!
+//! ```
+//! let sheet = b"window=10\nsignals=1\nsignal=clear2\nrules=1\nrule=clear2@[-3,0]=>go10\n";
+//! let refusal = mikhakun::check(sheet).unwrap_err();
+//! assert_eq!((refusal.number(), refusal.place()), (6, 62));
+//! assert_eq!(
+//!     refusal.explain(sheet, b"").to_string(),
+//!     "sheet, line 5, column 21: the name is not declared (refusal 6)\n\
+//!      \x20   rule=clear2@[-3,0]=>go10\n\
+//!      \x20                       ^"
+//! );
+//! ```
+
+mod explanation;
+mod ffi;
+mod refusal;
+mod table;
+mod value;
+
+pub use explanation::Explanation;
+pub use refusal::{Refusal, Text};
+pub use table::Table;
+pub use value::Value;
+
+/// What an accepted [`add`] tells.
+#[derive(Clone, Copy, Debug, PartialEq, Eq)]
+pub struct Added {
+    /// How many facts are new. A fact is one mark, true or false, of a declared signal at a tick.
+    pub new_facts: usize,
+    /// Whether any row of the closed table is both true and false at one tick.
+    pub clash: bool,
+}
+
+/// Checks a sheet: its row count, or a refusal from 1 to 9.
+///
+/// ```
+/// assert_eq!(mikhakun::check(b"window=1\nsignals=1\nsignal=a\nrules=0\n"), Ok(1));
+/// assert_eq!(mikhakun::check(b"window=65\n").unwrap_err().number(), 3);
+/// ```
+pub fn check(sheet: &[u8]) -> Result<usize, Refusal> {
+    let (mut rows, mut place) = (0, 0);
+    // SAFETY: the pointer and length are a slice's, and the results are locals of this call.
+    let number = unsafe { ffi::mikhakun_check(sheet.as_ptr(), sheet.len(), &mut rows, &mut place) };
+    answer(number, place, || rows as usize)
+}
+
+/// Adds readings to the table and closes it, or refuses and leaves every word of the table: 1 to 9, 15, 16, 10 to 14, in this order.
+///
+/// The table then has exactly the marks that a finite chain of the inference rules leads to from the sheet's rules, the readings and what it held.
+///
+/// ```
+/// use mikhakun::{add, Table};
+///
+/// let sheet = b"window=3\nsignals=1\nsignal=a\nrules=1\nrule=a=>a@[1,1]\n";
+/// let mut table = Table::for_sheet(sheet)?;
+/// let added = add(sheet, b"at=0\nsignal=a\nvalue=1\n", &mut table)?;
+/// assert_eq!(added.new_facts, 3);
+/// assert_eq!(add(sheet, b"", &mut table)?.new_facts, 0);
+/// # Ok::<(), mikhakun::Refusal>(())
+/// ```
+pub fn add(sheet: &[u8], readings: &[u8], table: &mut Table) -> Result<Added, Refusal> {
+    let words = table.words_mut();
+    let (mut new_facts, mut clash, mut place) = (0, 0, 0);
+    // SAFETY: each pointer and length are a slice's, that of the table is borrowed for writing, and the results are locals of this call.
+    let number = unsafe {
+        ffi::mikhakun_add(
+            sheet.as_ptr(),
+            sheet.len(),
+            readings.as_ptr(),
+            readings.len(),
+            words.as_mut_ptr(),
+            words.len(),
+            &mut new_facts,
+            &mut clash,
+            &mut place,
+        )
+    };
+    answer(number, place, || Added { new_facts: new_facts as usize, clash: clash != 0 })
+}
+
+/// Asks the table, as it is, for the value of a signal at a tick: 1 to 9, 15, 16, 17, in this order, are its refusals.
+///
+/// Signals are numbered from 0 in sheet order.
+///
+/// ```
+/// use mikhakun::{add, ask, Table, Value};
+///
+/// let sheet = b"window=1\nsignals=1\nsignal=a\nrules=0\n";
+/// let mut table = Table::for_sheet(sheet)?;
+/// assert_eq!(ask(sheet, &table, 0, 0)?, Value::Unsettled);
+/// add(sheet, b"at=0\nsignal=a\nvalue=0\n", &mut table)?;
+/// assert_eq!(ask(sheet, &table, 0, 0)?, Value::False);
+/// assert_eq!(ask(sheet, &table, 0, 1).unwrap_err().number(), 17);
+/// # Ok::<(), mikhakun::Refusal>(())
+/// ```
+pub fn ask(sheet: &[u8], table: &Table, signal: usize, tick: usize) -> Result<Value, Refusal> {
+    let words = table.words();
+    let (mut value, mut place) = (0, 0);
+    // SAFETY: each pointer and length are a slice's, and the results are locals of this call.
+    let number = unsafe {
+        ffi::mikhakun_ask(sheet.as_ptr(), sheet.len(), words.as_ptr(), words.len(), signal as u64, tick as u64, &mut value, &mut place)
+    };
+    answer(number, place, || Value::numbered(value))
+}
+
+/// A call's answer: 0 is acceptance.
+fn answer<A>(number: u64, place: u64, accepted: impl FnOnce() -> A) -> Result<A, Refusal> {
+    if number == 0 {
+        Ok(accepted())
+    } else {
+        Err(Refusal::new(number, place as usize))
+    }
+}

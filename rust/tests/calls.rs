@@ -1,0 +1,96 @@
+//! The calls that the gate runs and compares, made once more through the static library: `crates/operation_runs/stdout` has each call with its answer.
+
+use mikhakun::{add, ask, check, Refusal, Table};
+
+/// A call, or a text or table for the calls that follow: the words of its heading, the lines under it, and the answer's lines.
+#[derive(Default)]
+struct Entry {
+    heading: Vec<String>,
+    body: Vec<String>,
+    answer: Vec<String>,
+}
+
+fn entries() -> Vec<Entry> {
+    let file = concat!(env!("CARGO_MANIFEST_DIR"), "/../crates/operation_runs/stdout");
+    let text = std::fs::read_to_string(file).unwrap();
+    let mut entries: Vec<Entry> = Vec::new();
+    for line in text.lines() {
+        if let Some(heading) = line.strip_prefix("=== ") {
+            entries.push(Entry { heading: heading.split(' ').map(str::to_string).collect(), ..Entry::default() });
+        } else if let Some(answer) = line.strip_prefix("--- ") {
+            entries.last_mut().unwrap().answer.push(answer.to_string());
+        } else {
+            entries.last_mut().unwrap().body.push(line.to_string());
+        }
+    }
+    entries
+}
+
+impl Entry {
+    /// The kind, without the sign that changes the text under it.
+    fn kind(&self) -> &str {
+        self.heading[0].trim_end_matches(|c: char| c == '-' || c == '*' || c.is_ascii_digit())
+    }
+
+    /// The lines as a text: without the last LF after `-`, and so often as the number after `*` says.
+    fn text(&self) -> Vec<u8> {
+        let text: String = self.body.iter().map(|line| format!("{line}\n")).collect();
+        let sign = &self.heading[0][self.kind().len()..];
+        if sign == "-" {
+            return text.trim_end_matches('\n').into();
+        }
+        text.repeat(sign.strip_prefix('*').map_or(1, |times| times.parse().unwrap())).into_bytes()
+    }
+
+    fn number(&self, word: usize) -> usize {
+        self.heading[word].parse().unwrap()
+    }
+
+    /// The table of as many words as the heading says, all 0 but those of the lines.
+    fn table(&self) -> Table {
+        let mut words = vec![0; self.number(1)];
+        for line in &self.body {
+            let (at, word) = line.split_once(' ').unwrap();
+            words[at.parse::<usize>().unwrap()] = word.parse().unwrap();
+        }
+        Table::from(words)
+    }
+}
+
+fn refused(refusal: Refusal) -> String {
+    format!("refused {} at {}", refusal.number(), refusal.place())
+}
+
+/// The answer's lines to an add: what it tells, and each word of the table that is not 0.
+fn added(sheet: &[u8], readings: &[u8], table: &mut Table) -> Vec<String> {
+    let told = match add(sheet, readings, table) {
+        Ok(added) => format!("new facts {}, clash {}", added.new_facts, u8::from(added.clash)),
+        Err(refusal) => refused(refusal),
+    };
+    let words = table.words().iter().enumerate().filter(|(_, &word)| word != 0);
+    std::iter::once(told).chain(words.map(|(at, word)| format!("word {at} {word}"))).collect()
+}
+
+#[test]
+fn every_call_has_the_answer_of_the_gate() {
+    let (mut sheet, mut table, mut calls) = (Vec::new(), Table::empty(0), 0);
+    for entry in entries() {
+        let answer = match entry.kind() {
+            "sheet" => {
+                sheet = entry.text();
+                continue;
+            }
+            "table" => {
+                table = entry.table();
+                continue;
+            }
+            "check" => vec![check(&sheet).map_or_else(refused, |rows| format!("rows {rows}"))],
+            "add" => added(&sheet, &entry.text(), &mut table),
+            "ask" => vec![ask(&sheet, &table, entry.number(1), entry.number(2)).map_or_else(refused, |value| value.to_string())],
+            other => panic!("a heading of no known kind: {other}"),
+        };
+        assert_eq!(answer, entry.answer, "{}", entry.heading.join(" "));
+        calls += 1;
+    }
+    assert!(calls > 500, "only {calls} calls");
+}

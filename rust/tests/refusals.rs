@@ -1,0 +1,193 @@
+//! Each refusal number, with its place and what its explanation says.
+
+use mikhakun::{add, ask, check, Refusal, Table};
+
+const SHEET: &[u8] = b"window=10\nsignals=2\nsignal=clear2\nsignal=go10\nrules=1\nrule=clear2@[-3,0]=>go10\n";
+
+/// The head of a sheet of one signal and one rule, up to the rule's text.
+const HEAD: &str = "window=4\nsignals=1\nsignal=a\nrules=1\nrule=";
+
+fn refused_sheet(sheet: &[u8]) -> Refusal {
+    let refusal = check(sheet).unwrap_err();
+    let mut table = Table::empty(0);
+    assert_eq!(add(sheet, b"", &mut table), Err(refusal));
+    assert_eq!(ask(sheet, &table, 0, 0), Err(refusal));
+    refusal
+}
+
+/// The sheet is refused by this number at this place, and the explanation is this.
+fn sheet_case(number: u64, sheet: &str, place: usize, explanation: &str) {
+    let refusal = refused_sheet(sheet.as_bytes());
+    assert_eq!((refusal.number(), refusal.place()), (number, place), "{sheet}");
+    assert_eq!(refusal.explain(sheet.as_bytes(), b"").to_string(), explanation, "{sheet}");
+}
+
+/// The same of a sheet of one rule, at a byte of the rule.
+fn rule_case(number: u64, rule: &str, at: usize, sentence: &str) {
+    let caret = format!("    {:1$}^", "", "rule=".len() + at);
+    let explanation = format!("sheet, line 5, column {}: {sentence} (refusal {number})\n    rule={rule}\n{caret}", at + 6);
+    sheet_case(number, &format!("{HEAD}{rule}\n"), HEAD.len() + at, &explanation);
+}
+
+/// The readings are refused by this number at this place, the explanation is this, and the table keeps every word.
+fn readings_case(number: u64, readings: &str, place: usize, explanation: &str) {
+    let mut table = Table::for_sheet(SHEET).unwrap();
+    add(SHEET, b"at=1\nsignal=go10\nvalue=0\n", &mut table).unwrap();
+    let before = table.clone();
+    let refusal = add(SHEET, readings.as_bytes(), &mut table).unwrap_err();
+    assert_eq!((refusal.number(), refusal.place()), (number, place), "{readings}");
+    assert_eq!(refusal.explain(SHEET, readings.as_bytes()).to_string(), explanation, "{readings}");
+    assert_eq!(table, before, "{readings}");
+}
+
+/// The refusal is this one, which has no place in a text.
+fn placeless(refusal: Refusal, number: u64, sentence: &str) {
+    assert_eq!((refusal.number(), refusal.place(), refusal.text()), (number, 0, None));
+    assert_eq!(refusal.to_string(), format!("{sentence} (refusal {number})"));
+    let explanation = refusal.explain(SHEET, b"");
+    assert_eq!((explanation.to_string(), explanation.line(), explanation.column()), (refusal.to_string(), None, None));
+}
+
+#[test]
+fn a_sheet_over_its_length() {
+    placeless(refused_sheet(&[b'a'; 32_769]), 1, "the sheet has over 32,768 bytes");
+}
+
+#[test]
+fn a_sheet_line() {
+    let form = "this line is not of its form, out of order or without LF, or it follows the last line";
+    sheet_case(2, "", 0, "sheet, line 1, column 1: a line is missing here (refusal 2)\n    \n    ^");
+    sheet_case(2, "window=4\n", 9, "sheet, line 2, column 1: a line is missing here (refusal 2)\n    \n    ^");
+    sheet_case(2, "window=04\n", 0, &format!("sheet, line 1, column 1: {form} (refusal 2)\n    window=04\n    ^"));
+    sheet_case(2, "window=4\nsignal=a\n", 9, &format!("sheet, line 2, column 1: {form} (refusal 2)\n    signal=a\n    ^"));
+    let more = format!("{HEAD}a\n\n");
+    sheet_case(2, &more, more.len() - 1, &format!("sheet, line 6, column 1: {form} (refusal 2)\n    \n    ^"));
+}
+
+#[test]
+fn a_number_outside_its_range() {
+    sheet_case(3, "window=65\n", 7, "sheet, line 1, column 8: the window is 1 to 64 ticks (refusal 3)\n    window=65\n           ^");
+    sheet_case(
+        3,
+        "window=1\nsignals=0\n",
+        17,
+        "sheet, line 2, column 9: a sheet has 1 to 64 signals (refusal 3)\n    signals=0\n            ^",
+    );
+    sheet_case(
+        3,
+        "window=1\nsignals=1\nsignal=a\nrules=65\n",
+        34,
+        "sheet, line 4, column 7: a sheet has 0 to 64 rules (refusal 3)\n    rules=65\n          ^",
+    );
+}
+
+#[test]
+fn a_signal_name() {
+    let sentence = "the signal's name is not of its form, reserved or given twice";
+    for name in ["A", "since", "a2345678901234567"] {
+        sheet_case(
+            4,
+            &format!("window=1\nsignals=1\nsignal={name}\n"),
+            26,
+            &format!("sheet, line 3, column 8: {sentence} (refusal 4)\n    signal={name}\n           ^"),
+        );
+    }
+    sheet_case(
+        4,
+        "window=1\nsignals=2\nsignal=a\nsignal=a\n",
+        35,
+        &format!("sheet, line 4, column 8: {sentence} (refusal 4)\n    signal=a\n           ^"),
+    );
+}
+
+#[test]
+fn a_rule() {
+    rule_case(5, "", 0, "a rule has 1 to 256 bytes");
+    rule_case(5, "a&", 2, "the rule stops short here");
+    rule_case(5, "a=>a=>a", 4, "the formula cannot go on with this");
+    rule_case(5, "&a", 0, "the formula cannot go on with this");
+    rule_case(6, "a&b", 2, "the name is not declared");
+    rule_case(7, "a@[0,64]", 2, "the interval has an end outside -63 to 63, or no whole number inside");
+    rule_case(7, "a?(0,1)", 2, "the interval has an end outside -63 to 63, or no whole number inside");
+    rule_case(8, &format!("{}a", "!".repeat(33)), 32, "a 33rd ( or ! is open here");
+}
+
+#[test]
+fn a_long_rule_is_shown_in_part() {
+    let rule = "!".repeat(300);
+    let refusal = refused_sheet(format!("{HEAD}{rule}\n").as_bytes());
+    assert_eq!((refusal.number(), refusal.place()), (5, HEAD.len()));
+    let text = format!("{HEAD}{rule}\n");
+    let said = refusal.explain(text.as_bytes(), b"").to_string();
+    assert_eq!(said, format!("sheet, line 5, column 6: a rule has 1 to 256 bytes (refusal 5)\n    rule={}...\n         ^", "!".repeat(60)));
+}
+
+#[test]
+fn a_sheet_over_its_size() {
+    let rule = "a@[-63,63]@[-63,63]@[-63,63]@[-63,63]@[-63,63]";
+    placeless(refused_sheet(format!("{HEAD}{rule}\n").as_bytes()), 9, "the sheet has over 32 hidden signals or over 1,024 rows");
+}
+
+#[test]
+fn readings_over_their_length() {
+    let mut table = Table::for_sheet(SHEET).unwrap();
+    placeless(add(SHEET, &[b'a'; 32_769], &mut table).unwrap_err(), 10, "the readings have over 32,768 bytes");
+}
+
+#[test]
+fn a_readings_line() {
+    let form = "this line is not of its form or without LF";
+    readings_case(11, "x", 0, &format!("readings, line 1, column 1: {form} (refusal 11)\n    x\n    ^"));
+    readings_case(11, "at=1\nsignal=go10\n", 17, "readings, line 3, column 1: a line is missing here (refusal 11)\n    \n    ^");
+    readings_case(11, "at=1\nsignal=go10\nvalue=1", 17, &format!("readings, line 3, column 1: {form} (refusal 11)\n    value=1\n    ^"));
+    readings_case(
+        12,
+        "at=1\nsignal=go2\nvalue=1\n",
+        12,
+        "readings, line 2, column 8: no signal of the sheet has this name (refusal 12)\n    signal=go2\n           ^",
+    );
+    readings_case(
+        13,
+        "at=10\nsignal=go10\nvalue=1\n",
+        3,
+        "readings, line 1, column 4: the tick is outside the window (refusal 13)\n    at=10\n       ^",
+    );
+    readings_case(
+        14,
+        "at=1\nsignal=go10\nvalue=2\n",
+        23,
+        "readings, line 3, column 7: the value is a number other than 0 or 1 (refusal 14)\n    value=2\n          ^",
+    );
+}
+
+#[test]
+fn a_table() {
+    let rows = check(SHEET).unwrap();
+    let mut short = Table::from(vec![0; 2 * rows - 1]);
+    let length = "the table's length is not twice the sheet's row count";
+    placeless(add(SHEET, b"", &mut short).unwrap_err(), 15, length);
+    placeless(ask(SHEET, &short, 0, 0).unwrap_err(), 15, length);
+    let mut words = vec![0; 2 * rows];
+    words[3] = 1 << 10;
+    let mut outside = Table::from(words);
+    let mark = "the table has a mark at a tick outside the window";
+    placeless(add(SHEET, b"", &mut outside).unwrap_err(), 16, mark);
+    placeless(ask(SHEET, &outside, 0, 0).unwrap_err(), 16, mark);
+}
+
+#[test]
+fn a_question() {
+    let table = Table::for_sheet(SHEET).unwrap();
+    for (signal, tick) in [(2, 0), (0, 10), (usize::MAX, 0), (0, usize::MAX)] {
+        placeless(ask(SHEET, &table, signal, tick).unwrap_err(), 17, "the signal or the tick asked for is outside its range");
+    }
+}
+
+#[test]
+fn a_byte_that_cannot_be_shown_is_one_sign() {
+    let sheet = b"window=1\nsignals=1\nsignal=\xff\tb\n";
+    let refusal = refused_sheet(sheet);
+    assert_eq!((refusal.number(), refusal.place()), (4, 26));
+    assert!(refusal.explain(sheet, b"").to_string().ends_with("\n    signal=\u{b7}\u{b7}b\n           ^"));
+    assert_eq!(refusal.to_string(), "sheet, byte 26: the signal's name is not of its form, reserved or given twice (refusal 4)");
+}
