@@ -1,0 +1,80 @@
+//! Faults in a sheet's values: numbers, names, and names in rules.
+
+use super::random::Random;
+use super::sheet::Draft;
+
+/// A number out of its range, against its writing rule, or not the one of the lines that follow.
+pub fn wrong_number(random: &mut Random, draft: &mut Draft) {
+    let odd = [
+        "0", "1", "2", "63", "64", "65", "66", "100", "99999", "65536", "100000", "00", "01",
+        "064", "", "-1", "-0", "+1", " 1", "1 ", "a", "6a", "1.0", "\u{663}",
+    ];
+    let value = random.pick(&odd).to_string();
+    match random.below(3) {
+        0 => draft.window = value,
+        1 => draft.signals = value,
+        _ => draft.rules_count = value,
+    }
+}
+
+/// A name not of its form, reserved, over its length, or given twice.
+pub fn wrong_name(random: &mut Random, draft: &mut Draft) {
+    let odd = [
+        "",
+        "A",
+        "aB",
+        "1a",
+        "a_b",
+        "a b",
+        "since",
+        "until",
+        "abcdefghijklmnopq",
+        "abcdefghijklmnop",
+        " a",
+        "a ",
+        "-",
+        "sincE",
+        "aa\r",
+        "a(",
+        "0",
+        "caf\u{e9}",
+        "since1",
+        "untilx",
+    ];
+    let place = random.below(draft.names.len());
+    let other = draft.names[random.below(draft.names.len())].clone();
+    draft.names[place] = if random.chance(20) {
+        other
+    } else {
+        random.pick(&odd).to_string()
+    };
+}
+
+/// A name in a rule that is not declared, or one that only starts like a declared one.
+pub fn undeclared(random: &mut Random, draft: &mut Draft) {
+    if draft.rules.is_empty() {
+        return;
+    }
+    let odd = [
+        "zz",
+        "q0",
+        "abcdefghijklmnopqrst",
+        "sinc",
+        "since",
+        "until",
+        "since0",
+        "untilx",
+        "a0",
+        "aa",
+    ];
+    let word = random.pick(&odd).to_string();
+    let place = random.below(draft.rules.len());
+    let rule = &mut draft.rules[place];
+    let from = draft.names[random.below(draft.names.len())].clone();
+    match random.below(4) {
+        0 => *rule = format!("{rule}&{word}"),
+        1 => *rule = format!("{word}&{rule}"),
+        2 => *rule = format!("{word}{rule}"),
+        _ => *rule = rule.replacen(&from, &word, 1),
+    }
+}

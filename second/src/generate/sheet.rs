@@ -1,0 +1,181 @@
+//! Texts of sheets: of several sizes and kinds, whole and with faults.
+
+use super::damage::damage;
+use super::formula::{self, Style};
+use super::random::Random;
+use super::{faults, limit_formula, limits};
+
+/// The values of a sheet's lines, before they are written out.
+pub struct Draft {
+    pub window: String,
+    pub signals: String,
+    pub names: Vec<String>,
+    pub rules_count: String,
+    pub rules: Vec<String>,
+}
+
+impl Draft {
+    pub fn new(window: usize, names: Vec<String>, rules: Vec<String>) -> Self {
+        Draft {
+            window: window.to_string(),
+            signals: names.len().to_string(),
+            names,
+            rules_count: rules.len().to_string(),
+            rules,
+        }
+    }
+
+    fn text(&self) -> Vec<u8> {
+        let mut text = format!("window={}\nsignals={}\n", self.window, self.signals);
+        for name in &self.names {
+            text += &format!("signal={name}\n");
+        }
+        text += &format!("rules={}\n", self.rules_count);
+        for rule in &self.rules {
+            text += &format!("rule={rule}\n");
+        }
+        text.into_bytes()
+    }
+}
+
+/// A random sheet; about half are without a fault.
+pub fn sheet(random: &mut Random) -> Vec<u8> {
+    let mut draft = match random.weighted(&[30, 22, 8, 10, 5, 4, 4, 5, 3, 4]) {
+        0 => small(random),
+        1 => middle(random),
+        2 => large(random),
+        3 => chain(random),
+        4 => equivalences(random),
+        5 => limits::rows_near_limit(random),
+        6 => limits::hidden_near_limit(random),
+        7 => limits::open_near_limit(random),
+        8 => limits::rule_length(random),
+        _ => limits::intervals(random),
+    };
+    match random.weighted(&[66, 5, 5, 3]) {
+        0 => {}
+        1 => faults::wrong_number(random, &mut draft),
+        2 => faults::wrong_name(random, &mut draft),
+        _ => faults::undeclared(random, &mut draft),
+    }
+    let mut text = draft.text();
+    match random.weighted(&[74, 22, 4]) {
+        0 => {}
+        1 => damage(random, &mut text),
+        _ => text = limits::length_near_limit(random, text),
+    }
+    text
+}
+
+/// From `least` to `most` names of one or more letters, all different.
+pub fn names(random: &mut Random, least: usize, most: usize) -> Vec<String> {
+    let count = least + random.below(most + 1 - least);
+    let long = random.chance(20);
+    let mut names = vec![];
+    for number in 0..count {
+        let letter = (b'a' + (number % 26) as u8) as char;
+        let mut name = letter.to_string();
+        if number >= 26 {
+            name += &(number / 26).to_string();
+        }
+        if long {
+            name += random.pick(&["", "x", "until", "0", "9z", "abcdefghijklm"]);
+        }
+        names.push(name);
+    }
+    if random.chance(5) {
+        names[0] = random
+            .pick(&["since0", "sinc", "untila", "sincesince", "unti"])
+            .to_string();
+    }
+    names
+}
+
+pub fn random_rules(random: &mut Random, style: &Style, count: usize, size: usize) -> Vec<String> {
+    let mut rules = vec![];
+    for _ in 0..count {
+        let size = 1 + random.below(size);
+        rules.push(formula::formula(random, style, size));
+    }
+    rules
+}
+
+/// A draft of random rules.
+fn random_draft(
+    random: &mut Random,
+    window: usize,
+    signals: usize,
+    rules: usize,
+    size: usize,
+) -> Draft {
+    let hidden = random.pick(&[0, 0, 6, 25]);
+    let style = Style {
+        names: names(random, signals, signals),
+        hidden,
+        wild: false,
+    };
+    let rules = random_rules(random, &style, rules, size);
+    Draft::new(window, style.names, rules)
+}
+
+fn small(random: &mut Random) -> Draft {
+    let (window, signals) = (1 + random.below(8), 1 + random.below(4));
+    let rules = random.below(5);
+    random_draft(random, window, signals, rules, 5)
+}
+
+fn middle(random: &mut Random) -> Draft {
+    let (window, signals) = (3 + random.below(20), 2 + random.below(7));
+    let rules = 1 + random.below(8);
+    random_draft(random, window, signals, rules, 9)
+}
+
+fn large(random: &mut Random) -> Draft {
+    let window = random.pick(&[64, 64, 63, 40]);
+    let signals = random.pick(&[64, 30, 10]);
+    let (rules, size) = random.pick(&[(64, 3), (30, 5), (12, 10), (3, 30)]);
+    random_draft(random, window, signals, rules, size)
+}
+
+/// Rules that carry values from tick to tick over a long window.
+fn chain(random: &mut Random) -> Draft {
+    let style = Style {
+        names: names(random, 2, 9),
+        hidden: 10,
+        wild: false,
+    };
+    let mut rules = vec![];
+    for _ in 0..1 + random.below(10) {
+        let (from, to) = (style.name(random), style.name(random));
+        let offset = random.between(-4, 4);
+        let last = offset + random.between(0, 1);
+        let interval = formula::written(random, offset, last);
+        let sign = random.pick(&["=>", "=>", "=>!", "<=>", "|", "<=>!"]);
+        let word = random.pick(&["since", "until"]);
+        rules.push(match random.below(4) {
+            0 => format!("{to}<=>{word}({from},{})", style.name(random)),
+            1 => format!("{from}?{interval}{sign}{to}"),
+            _ => format!("{from}{sign}{to}@{interval}"),
+        });
+    }
+    Draft::new(20 + random.below(45), style.names, rules)
+}
+
+fn equivalences(random: &mut Random) -> Draft {
+    let style = Style {
+        names: names(random, 1, 4),
+        hidden: 0,
+        wild: false,
+    };
+    let mut rules = vec![];
+    for _ in 0..1 + random.below(3) {
+        let depth = random.pick(&[2, 4, 6, 7, 8, 9, 20]);
+        let text = limit_formula::nested_iff(random, &style, depth);
+        rules.push(if text.len() > 256 {
+            style.name(random)
+        } else {
+            text
+        });
+    }
+    Draft::new(1 + random.below(12), style.names, rules)
+}

@@ -1,0 +1,115 @@
+//! The other side: the C library, called as its header says. Outputs start as given, so that one can see which were written.
+
+/// What a call answered and left in its outputs.
+#[derive(Clone, Debug, PartialEq, Eq)]
+pub struct Outcome {
+    pub answer: u64,
+    /// The outputs in the header's order, place last.
+    pub outputs: Vec<u64>,
+}
+
+/// What every output holds before a call.
+pub const UNWRITTEN: u64 = 0x5EC0_2D5E_C02D_5EC0;
+
+#[cfg(library)]
+mod linked {
+    use super::{Outcome, UNWRITTEN};
+
+    extern "C" {
+        fn mikhakun_check(
+            sheet: *const u8,
+            sheet_len: usize,
+            rows: *mut u64,
+            place: *mut u64,
+        ) -> u64;
+        fn mikhakun_add(
+            sheet: *const u8,
+            sheet_len: usize,
+            readings: *const u8,
+            readings_len: usize,
+            table: *mut u64,
+            words: usize,
+            new_facts: *mut u64,
+            clash: *mut u64,
+            place: *mut u64,
+        ) -> u64;
+        fn mikhakun_ask(
+            sheet: *const u8,
+            sheet_len: usize,
+            table: *const u64,
+            words: usize,
+            signal: u64,
+            tick: u64,
+            value: *mut u64,
+            place: *mut u64,
+        ) -> u64;
+    }
+
+    pub const LINKED: bool = true;
+
+    pub fn check(sheet: &[u8]) -> Outcome {
+        let (mut rows, mut place) = (UNWRITTEN, UNWRITTEN);
+        let answer = unsafe { mikhakun_check(sheet.as_ptr(), sheet.len(), &mut rows, &mut place) };
+        Outcome {
+            answer,
+            outputs: vec![rows, place],
+        }
+    }
+
+    pub fn add(sheet: &[u8], readings: &[u8], table: &mut [u64]) -> Outcome {
+        let (mut new_facts, mut clash, mut place) = (UNWRITTEN, UNWRITTEN, UNWRITTEN);
+        let answer = unsafe {
+            mikhakun_add(
+                sheet.as_ptr(),
+                sheet.len(),
+                readings.as_ptr(),
+                readings.len(),
+                table.as_mut_ptr(),
+                table.len(),
+                &mut new_facts,
+                &mut clash,
+                &mut place,
+            )
+        };
+        Outcome {
+            answer,
+            outputs: vec![new_facts, clash, place],
+        }
+    }
+
+    pub fn ask(sheet: &[u8], table: &[u64], signal: u64, tick: u64) -> Outcome {
+        let (mut value, mut place) = (UNWRITTEN, UNWRITTEN);
+        let (sheet_len, words) = (sheet.len(), table.len());
+        let (sheet, table) = (sheet.as_ptr(), table.as_ptr());
+        let answer = unsafe {
+            mikhakun_ask(
+                sheet, sheet_len, table, words, signal, tick, &mut value, &mut place,
+            )
+        };
+        Outcome {
+            answer,
+            outputs: vec![value, place],
+        }
+    }
+}
+
+#[cfg(not(library))]
+mod linked {
+    use super::Outcome;
+
+    pub const LINKED: bool = false;
+
+    pub fn check(_: &[u8]) -> Outcome {
+        unreachable!("no library")
+    }
+
+    pub fn add(_: &[u8], _: &[u8], _: &mut [u64]) -> Outcome {
+        unreachable!("no library")
+    }
+
+    pub fn ask(_: &[u8], _: &[u64], _: u64, _: u64) -> Outcome {
+        unreachable!("no library")
+    }
+}
+
+pub use linked::{add, ask, check, LINKED};

@@ -1,0 +1,51 @@
+//! The second program: `second compare [COUNT] [SEED]` and `second settle FOLDER`.
+
+mod compare;
+mod generate;
+mod infer;
+mod library;
+mod listing;
+mod lower;
+mod operations;
+#[cfg(test)]
+mod tests;
+mod text;
+
+use std::path::Path;
+use std::process::ExitCode;
+
+const USAGE: &str = "usage: second compare [COUNT] [SEED] | second settle FOLDER";
+
+fn main() -> ExitCode {
+    let words: Vec<String> = std::env::args().skip(1).collect();
+    let words: Vec<&str> = words.iter().map(String::as_str).collect();
+    match words[..] {
+        ["settle", folder] => settle(Path::new(folder)),
+        ["compare"] => compare::run(20_000, 1),
+        ["compare", count] => with_numbers(count, "1"),
+        ["compare", count, seed] => with_numbers(count, seed),
+        _ => usage(),
+    }
+}
+
+fn usage() -> ExitCode {
+    eprintln!("{USAGE}");
+    ExitCode::from(2)
+}
+
+fn with_numbers(count: &str, seed: &str) -> ExitCode {
+    match (count.parse(), seed.parse()) {
+        (Ok(count), Ok(seed)) => compare::run(count, seed),
+        _ => usage(),
+    }
+}
+
+/// Prints the listing of a folder; a file that cannot be read counts as empty.
+fn settle(folder: &Path) -> ExitCode {
+    let file = |name: &str| std::fs::read(folder.join(name)).unwrap_or_default();
+    print!(
+        "{}",
+        listing::listing(&file("sheet.txt"), &file("readings.txt"))
+    );
+    ExitCode::SUCCESS
+}

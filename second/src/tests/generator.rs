@@ -1,0 +1,70 @@
+//! The generator: the same seed gives the same cases, and each limit is met from both sides.
+
+use crate::generate::{case, Call, Case};
+use crate::lower::lower;
+use crate::operations::{add, check};
+use crate::text::{sheet, LONGEST_TEXT};
+
+#[test]
+fn cases_are_reproducible() {
+    for number in 0..50 {
+        let (one, two) = (case(9, number), case(9, number));
+        assert_eq!(
+            (one.sheet, one.table, one.calls.len()),
+            (two.sheet, two.table, two.calls.len())
+        );
+    }
+    assert_ne!(case(1, 0).sheet, case(2, 0).sheet);
+}
+
+/// How often something was met in the first cases of a seed.
+fn met(what: impl Fn(&Case) -> bool) -> usize {
+    (0..4_000).filter(|&number| what(&case(5, number))).count()
+}
+
+#[test]
+fn row_limit_is_met() {
+    assert!(met(|case| check(&case.sheet) == Ok(1024)) > 5);
+    let over = |case: &Case| matches!(check(&case.sheet), Err(refusal) if refusal.number == 9);
+    assert!(met(over) > 20);
+}
+
+#[test]
+fn hidden_limit_is_met() {
+    let hidden = |case: &Case| sheet::read(&case.sheet).map_or(0, |sheet| sheet.hidden.len());
+    let accepted = |case: &Case| sheet::read(&case.sheet).is_ok_and(|sheet| lower(&sheet).is_ok());
+    assert!(met(|case| hidden(case) == 32 && accepted(case)) > 5);
+    assert!(met(|case| hidden(case) == 33) > 5);
+}
+
+/// Whether an accepted sheet has a rule of which this holds.
+fn some_rule(case: &Case, what: impl Fn(&[u8]) -> bool) -> bool {
+    let lines = case.sheet.split(|&byte| byte == b'\n');
+    let mut rules = lines.filter_map(|line| line.strip_prefix(b"rule="));
+    check(&case.sheet).is_ok() && rules.any(what)
+}
+
+#[test]
+fn rule_limits_are_met() {
+    assert!(met(|case| some_rule(case, |rule| rule.len() == 256)) > 5);
+    let open = |rule: &[u8]| rule.starts_with(&[b'('; 32]);
+    assert!(met(|case| some_rule(case, open)) > 5);
+    let wide = |rule: &[u8]| rule.windows(8).any(|part| part == b"[-63,63]");
+    assert!(met(|case| some_rule(case, wide)) > 5);
+}
+
+#[test]
+fn text_lengths_are_met() {
+    for length in [LONGEST_TEXT, LONGEST_TEXT + 1] {
+        assert!(met(|case| case.sheet.len() == length) > 5);
+    }
+    let longest = |case: &Case| {
+        case.calls.iter().any(|call| match call {
+            Call::Add { readings } if readings.len() == LONGEST_TEXT => {
+                add(&case.sheet, readings, &mut case.table.clone()).is_ok()
+            }
+            _ => false,
+        })
+    };
+    assert!(met(longest) > 5);
+}

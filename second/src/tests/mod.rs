@@ -1,0 +1,29 @@
+//! Unit tests: the proved cases, the refusal table, the lowering, the closing and the generator; and how they write texts.
+
+mod closing;
+mod generator;
+mod lowering;
+mod proved;
+mod refusals;
+
+/// A sheet of this window, these names (parted by spaces) and these rules.
+fn sheet(window: usize, names: &str, rules: &[&str]) -> String {
+    let names: Vec<&str> = names.split_whitespace().collect();
+    let mut text = format!("window={window}\nsignals={}\n", names.len());
+    for name in &names {
+        text += &format!("signal={name}\n");
+    }
+    text += &format!("rules={}\n", rules.len());
+    for rule in rules {
+        text += &format!("rule={rule}\n");
+    }
+    text
+}
+
+/// Readings of tick, name and value.
+fn readings(all: &[(usize, &str, usize)]) -> String {
+    let one = |(tick, name, value): &(usize, &str, usize)| {
+        format!("at={tick}\nsignal={name}\nvalue={value}\n")
+    };
+    all.iter().map(one).collect()
+}

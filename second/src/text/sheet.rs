@@ -1,0 +1,77 @@
+//! The sheet: its lines in their fixed order, read from the first to the last.
+
+use super::grammar::{self, Formula, Hidden};
+use super::lines::{is_name, Lines};
+use super::{refuse, Refusal, LONGEST_TEXT};
+
+/// A sheet as read.
+pub struct Sheet {
+    pub window: usize,
+    pub names: Vec<Vec<u8>>,
+    pub rules: Vec<Rule>,
+    /// All hidden signals in the order written.
+    pub hidden: Vec<Hidden>,
+}
+
+/// A rule, and the numbers of the hidden signals written in it.
+pub struct Rule {
+    pub formula: Formula,
+    pub hidden: std::ops::Range<usize>,
+}
+
+const LONGEST_RULE: usize = 256;
+
+pub fn read(text: &[u8]) -> Result<Sheet, Refusal> {
+    if text.len() > LONGEST_TEXT {
+        return refuse(1, 0);
+    }
+    let mut lines = Lines::new(text, 2);
+    let window = amount(&mut lines, "window=", 1)?;
+    let signals = amount(&mut lines, "signals=", 1)?;
+    let mut sheet = Sheet {
+        window,
+        names: vec![],
+        rules: vec![],
+        hidden: vec![],
+    };
+    for _ in 0..signals {
+        read_name(&mut lines, &mut sheet)?;
+    }
+    let rules = amount(&mut lines, "rules=", 0)?;
+    for _ in 0..rules {
+        read_rule(&mut lines, &mut sheet)?;
+    }
+    lines.end()?;
+    Ok(sheet)
+}
+
+/// A line with a number from `least` to 64.
+fn amount(lines: &mut Lines, key: &str, least: u64) -> Result<usize, Refusal> {
+    let (number, place) = lines.number(key)?;
+    if number < least || number > 64 {
+        return refuse(3, place);
+    }
+    Ok(number as usize)
+}
+
+fn read_name(lines: &mut Lines, sheet: &mut Sheet) -> Result<(), Refusal> {
+    let value = lines.line("signal=")?;
+    let twice = sheet.names.iter().any(|name| name == value.bytes);
+    if twice || !is_name(value.bytes) {
+        return refuse(4, value.place);
+    }
+    sheet.names.push(value.bytes.to_vec());
+    Ok(())
+}
+
+fn read_rule(lines: &mut Lines, sheet: &mut Sheet) -> Result<(), Refusal> {
+    let value = lines.line("rule=")?;
+    if value.bytes.is_empty() || value.bytes.len() > LONGEST_RULE {
+        return refuse(5, value.place);
+    }
+    let first = sheet.hidden.len();
+    let formula = grammar::read(value.bytes, value.place, &sheet.names, &mut sheet.hidden)?;
+    let hidden = first..sheet.hidden.len();
+    sheet.rules.push(Rule { formula, hidden });
+    Ok(())
+}
