@@ -1,0 +1,6 @@
+-- The definitions, lowest layer first.
+pub mod Tokens
+pub mod Grammar
+pub mod Lines
+pub mod SheetLines
+pub mod ReadingLines

@@ -1,0 +1,69 @@
+-- The lines of a readings text (01, "Readings" and "Numbers of refusal" 11 to 14): what each has to be after those before it, and its faults.
+-- Assumes nothing. `names` are the declared names in sheet order, and W is the window.
+use mathlib.Core.Path.{_≡_}
+use mathlib.Core.Bool.{true, false}
+use mathlib.Core.List.{List, [], _∷_, _++_}
+use Prim.Native.Nat.{ℕ, _+_, _-_, _<_}
+use lib.Dec.{eqb}
+use lib.ListN.{length}
+use Rattle.text.specs.Bytes.{bytes, between}
+use Rattle.tilco.specs.Inference.{Mark, mark}
+use Rattle.grammar.specs.Grammar.{Declared}
+use Rattle.grammar.specs.Lines.{LineAt, after, Number, SignalName}
+
+-- "Three lines a reading, in order: `at=` a number, `signal=` a declared name, `value=` 0 or 1." What comes next, after the tick t, the signal
+-- x and the readings ms that were read.
+pub data Next : Type 0 where
+  at : (ms : List Mark) → Next
+  signal : (t : ℕ) (ms : List Mark) → Next
+  value : (t x : ℕ) (ms : List Mark) → Next
+
+-- The key of the next line.
+abbrev pub key : Next → List ℕ
+key (at ms) = bytes "at="
+key (signal t ms) = bytes "signal="
+key (value t x ms) = bytes "value="
+
+-- A tick of the window, and 0 or 1: the least and the greatest number, the refusal of another one, and what comes after one.
+pub data Ranged (W : ℕ) : Next → ℕ → ℕ → ℕ → (ℕ → Next) → Type 0 where
+  tick : {ms : List Mark} → Ranged W (at ms) 0 (W - 1) 13 (λ t. signal t ms)
+  bit : {t x : ℕ} {ms : List Mark} → Ranged W (value t x ms) 0 1 14 (λ v. at (ms ++ (mark x t (eqb v 1) ∷ [])))
+
+-- "A number that breaks its writing rule is form; a name's writing is content."
+pub data Formed (W : ℕ) : Next → List ℕ → Type 0 where
+  number : {c : Next} {lo hi content x : ℕ} {k : ℕ → Next} {v : List ℕ} → Ranged W c lo hi content k → Number v x → Formed W c v
+  name : {t : ℕ} {ms : List Mark} {v : List ℕ} → Formed W (signal t ms) v
+
+-- A line comes next: a reading is begun, or bytes are left.
+abbrev pub More : ℕ → ℕ → Next → Type 0
+More p L (at ms) = p < L
+More p L (signal t ms) = Unit {0}
+More p L (value t x ms) = Unit {0}
+
+-- The line's value v is right, and this comes next.
+pub data Right (names : List (List ℕ)) (W : ℕ) : Next → List ℕ → Next → Type 0 where
+  number : {c : Next} {lo hi content x : ℕ} {k : ℕ → Next} {v : List ℕ} → Ranged W c lo hi content k → Number v x → between lo hi x ≡ true → Right names W c v (k x)
+  name : {t x : ℕ} {ms : List Mark} {v : List ℕ} → SignalName v → Declared names v x → Right names W (signal t ms) v (value t x ms)
+
+-- The lines before p are right, and c comes next.
+pub data Reached (names : List (List ℕ)) (W : ℕ) (r : List ℕ) : Next → ℕ → Type 0 where
+  start : Reached names W r (at []) 0
+  line : {c e : Next} {p : ℕ} {v : List ℕ} → Reached names W r c p → LineAt r p (key c ++ v) → Right names W c v e → Reached names W r e (after p (key c ++ v))
+
+-- What comes next at p is at fault, with the refusal's number and place. A line's form is before its content.
+pub data Fault (names : List (List ℕ)) (W : ℕ) (r : List ℕ) (p : ℕ) : Next → ℕ → ℕ → Type 0 where
+  -- 11: "a readings line is missing, not of its form or without LF"
+  form : {c : Next} → More p (length r) c → ((v : List ℕ) → LineAt r p (key c ++ v) → Formed W c v → ⊥) → Fault names W r p c 11 p
+  -- 13: "tick outside the window", and 14: "value is a number other than 0 or 1"
+  range : {c : Next} {lo hi content x : ℕ} {k : ℕ → Next} {v : List ℕ} → Ranged W c lo hi content k → LineAt r p (key c ++ v) → Number v x → between lo hi x ≡ false
+      → Fault names W r p c content (p + length (key c))
+  -- 12: "unknown name"
+  name : {t : ℕ} {ms : List Mark} {v : List ℕ} → LineAt r p (bytes "signal=" ++ v) → ((x : ℕ) → SignalName v → Declared names v x → ⊥)
+      → Fault names W r p (signal t ms) 12 (p + length (bytes "signal="))
+
+-- The first line at fault: all lines before it are right.
+pub record ReadingsFault (names : List (List ℕ)) (W : ℕ) (r : List ℕ) (n i : ℕ) : Type 0 where
+  pub next : Next
+  pub place : ℕ
+  pub reached : Reached names W r next place
+  pub fault : Fault names W r place next n i
