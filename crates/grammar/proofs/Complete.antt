@@ -1,31 +1,30 @@
 -- What stands in the grammar is read as what it says.
 -- Assumes nothing.
-use mathlib.Core.Path.{_≡_, refl, sym, ap, subst, _∙_}
+use mathlib.Core.Path.{_≡_, refl, sym, subst, _∙_}
 use mathlib.Core.Bool.{Bool, true, false, true≢false, _||_}
 use mathlib.Core.List.{List, [], _∷_, _++_}
 use Prim.Native.Nat.{ℕ, suc, _+_, _-_, _≤_, _<_}
 use native.Mathlib.Omega.{arith}
 use borrow.Author.Tests.{eq-eqb, lt-ltb}
-use lib.Dec.{eqb, ltb}
+use lib.Dec.{eqb}
 use lib.ListN.{length}
-use Rattle.text.specs.declared.bytes.Class.the-variants.{Letter, Sign, Bracket}
+use Rattle.text.specs.declared.bytes.Class.the-variants.{Letter}
 use Rattle.text.specs.Read.{Read, andThen}
-use Rattle.text.specs.Read.Read.{got, refused}
+use Rattle.text.specs.Read.Read.{got}
 use Rattle.text.specs.Bytes.{byte, bytes, peek, pick, oneOf, letter, classOf, starts, runEnd}
-use Rattle.text.specs.Words.{wordAt, wordEnd, findName, sameText, isWord}
+use Rattle.text.specs.Words.{wordAt, isWord}
 use Rattle.text.proofs.Places.{peek-out, inside-test}
-use Rattle.text.proofs.Answers.{same-value}
 use Rattle.text.proofs.Classes.{class-letter}
 use Rattle.text.proofs.Names.{same-text}
 use Rattle.tilco.specs.Formula.{Op, And, Or, Implies, Iff, Written}
 use Rattle.formula.specs.declared.interval.Span.the-variants.{Over}
 use Rattle.formula.specs.Interval.{interval}
 use Rattle.formula.specs.Grammar as reading
-use Rattle.formula.specs.Grammar.{Reader, spanThen, times, timedPart, signText, repeats, more, closed, inParens, negated, second, kept, worded, declared, inside, rule}
+use Rattle.formula.specs.Grammar.{Reader, times, timedPart, signText, repeats, more, closed, second, kept, worded, declared, inside, rule}
 use Rattle.formula.proofs.Spans.{interval-reach}
 use Rattle.formula.proofs.Steps.{sign-some, more-none, onward, more-one, times-none, times-one, plain-letter, plain-deny, plain-paren, word-since, word-until, word-name}
 use Rattle.grammar.specs.Tokens.{TokenAt, Tokens}
-use Rattle.grammar.specs.Grammar.{Part, below, before, formula, keepWord, timeSign, Name, Interval, Is, Declared, Legal, Stands, Rule}
+use Rattle.grammar.specs.Grammar.{Part, below, before, formula, keepWord, timeSign, Name, Is, Declared, Legal, Rule}
 use Rattle.grammar.proofs.Standing.{starts-head, token-one, next-is, none-is, tokens-part, word-first}
 use Rattle.grammar.proofs.Signs.{word-token}
 use Rattle.grammar.proofs.Spans.{legal-span, interval-reads}

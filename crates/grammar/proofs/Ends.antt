@@ -1,21 +1,20 @@
 -- Ends of intervals are the tokens at their places, and each has one number.
 -- Assumes nothing.
-use mathlib.Core.Path.{_≡_, refl, sym, ap, subst, _∙_}
-use mathlib.Core.Bool.{Bool, true, false, true≢false, _&&_}
-use mathlib.Core.Logic.{_⊎_, inl, inr, ⊎-elim}
+use mathlib.Core.Path.{_≡_, refl, sym, ap, _∙_}
+use mathlib.Core.Bool.{Bool, true, false, true≢false}
 use mathlib.Core.List.{List, [], _∷_}
-use Prim.Native.Nat.{ℕ, zero, suc, _+_, _-_, _*_, _≤_, _<_}
+use Prim.Native.Nat.{ℕ, zero, suc, _+_, _-_, _*_, _≤_}
 use native.Mathlib.Omega.{arith}
 use borrow.Author.Tests.{eqb-true, ne-eqb, eq-eqb}
 use lib.Dec.{eqb}
 use lib.ListN.{length}
 use Rattle.text.specs.declared.numbers.Number.{Number}
 use Rattle.text.specs.declared.numbers.Number.the-variants.{Value, Missing}
-use Rattle.text.specs.Bytes.{byte, bytes, peek, pick, digit, starts}
+use Rattle.text.specs.Bytes.{byte, peek, pick, digit, starts}
 use Rattle.text.specs.Numbers.{digits}
 use Rattle.text.proofs.Tests.{between-is}
 use Rattle.formula.specs.Interval.{signed, leading, endAt}
-use Rattle.grammar.specs.Tokens.{Each, Word, decimal, Numeral, End, Token, TokenAt}
+use Rattle.grammar.specs.Tokens.{Each, decimal, Numeral, End, Token, TokenAt}
 use Rattle.grammar.proofs.Standing.{starts-head, starts-tail, starts-none, starts-one, starts-cons}
 use Rattle.grammar.proofs.Signs.{leading-digit, numeral-first, end-first, sign-end, word-no-end}
 

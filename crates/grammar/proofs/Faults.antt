@@ -2,22 +2,21 @@
 -- Assumes that some name is declared.
 use mathlib.Core.Path.{_≡_, refl, sym, ap, subst, _∙_}
 use mathlib.Core.Bool.{Bool, true, false, true≢false}
-use mathlib.Core.Logic.{_⊎_, inl, inr, ⊎-elim}
-use mathlib.Core.List.{List, [], _∷_, _++_, append-assoc, append-nil}
+use mathlib.Core.List.{List, [], _∷_, _++_, append-assoc}
 use mathlib.Core.Option as option
-use mathlib.Core.Option.{Option}
-use Prim.Native.Nat.{ℕ, zero, suc, _+_, _≤_, _<_}
+use Prim.Native.Nat.{ℕ, zero, suc, _+_, _≤_}
 use native.Mathlib.Omega.{arith}
 use lib.ListN.{length}
 use Rattle.text.specs.Read.{Read, andThen}
 use Rattle.text.specs.Read.Read.{got, refused}
-use Rattle.text.specs.Bytes.{byte, bytes, peek, pick, oneOf, starts}
+use Rattle.text.specs.Bytes.{bytes, peek, pick, oneOf, starts}
 use Rattle.tilco.specs.Formula.{Op, And, Or, Implies, Iff, Written}
 use Rattle.formula.specs.Grammar as reading
 use Rattle.formula.specs.Grammar.{Reader, signText, repeats, more}
 use Rattle.formula.proofs.Steps.{sign-some}
 use Rattle.grammar.specs.Tokens.{TokenAt, Tokens}
-use Rattle.grammar.specs.Grammar.{Part, below, before, formula, Name, Interval, Is, Declared, Legal}
+use Rattle.grammar.specs.Grammar.{Part, below, before, Name, Interval, Is, Declared, Legal}
+use Rattle.grammar.specs.RuleFaults.{AnySpan as Any}
 use Rattle.grammar.proofs.Standing.{one-at, tokens-then}
 use Rattle.grammar.proofs.Signs.{sign-token, op-sign}
 use Rattle.grammar.proofs.Complete.{sign-in, tokens-ahead}
@@ -100,10 +99,6 @@ may-not Iff r (Joins.joins a true) k (Joins.joins x y) e m =
 may-not Iff r (Joins.joins a false) k l e m = let z : _≡_ {A = ℕ} 0 1 = cc in let f : ⊥ = omega arith in absurd f
 
 -- ---- what could still become a part
-
--- Any whole interval.
-abbrev pub Any : ℕ → ℕ → ℕ → ℕ → ℕ → ℕ → Type 0
-Any o v w c first more = Unit {0}
 
 -- A part of the kind k begins with the tokens us.
 pub record Begin (names : List (List ℕ)) (k : Part) (d : ℕ) (us : List (List ℕ)) : Type 0 where

@@ -14,3 +14,4 @@ pub mod Walk
 pub mod Faults
 pub mod TimedFaults
 pub mod PlainFaults
+pub mod RuleFaults

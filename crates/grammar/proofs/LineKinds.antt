@@ -2,30 +2,28 @@
 -- Assumes nothing.
 use mathlib.Core.Path.{_≡_, refl, sym, ap, subst, _∙_}
 use mathlib.Core.Bool.{Bool, true, false, true≢false}
-use mathlib.Core.Logic.{_⊎_, inl, inr, ⊎-elim}
+use mathlib.Core.Logic.{⊎-elim}
 use mathlib.Core.List.{List, [], _∷_, _++_, append-nil, append-assoc, List·Memᴰ}
-use Prim.Native.Nat.{ℕ, zero, suc, _+_, _-_, _≤_, _<_}
+use Prim.Native.Nat.{ℕ, suc, _+_, _-_, _≤_, _<_}
 use native.Mathlib.Nat.{add-zero}
 use native.Mathlib.Omega.{arith}
 use Rattle.ticks.proofs.Bits.{lt-or-ge}
-use borrow.Author.Tests.{eq-eqb, ne-eqb, eqb-true, eqb-false, ltb-true, lt-ltb}
-use lib.Dec.{eqb, ltb}
+use borrow.Author.Tests.{eqb-true, eqb-false}
+use lib.Dec.{eqb}
 use lib.ListN.{length, length-append, take, length-take}
 use lib.Seq.{take-suc}
 use Rattle.text.specs.Read.{Read, andThen}
 use Rattle.text.specs.Read.Read.{got, refused}
-use Rattle.text.specs.Bytes.{byte, bytes, peek, pick, between, starts}
+use Rattle.text.specs.Bytes.{bytes, pick, between, starts}
 use Rattle.text.specs.Words.{wordAt, namesAt, findName, nameAt}
 use Rattle.text.specs.Numbers as numbers
 use Rattle.text.specs.Lines.{InLine, line, wholeNumber, wholeName, numberLine, rangedLine, nameLine}
 use Rattle.text.proofs.Places.{peek-in}
 use Rattle.text.proofs.Names.{find-in, find-most, names-many}
 use Rattle.text.proofs.Later.{later}
-use Rattle.tilco.specs.Formula.{Written}
 use Rattle.formula.specs.Grammar.{rule}
 use Rattle.formula.proofs.Later.{rule-later}
 use Rattle.sheet.specs.Sheet.{signalLine, ruleTo, ruleLine}
-use Rattle.grammar.specs.Grammar.{Rule}
 use Rattle.grammar.specs.Lines.{LineAt, after, Number, SignalName}
 use Rattle.grammar.proofs.Lines.{in-line-by, KeyedIs, line-is, keyed-reads, unkeyed-reads, value-one, value-at, number-one, NumberIs, number-is, NameIs, name-is, same-word}
 use Rattle.grammar.proofs.Standing.{starts-head, starts-tail}

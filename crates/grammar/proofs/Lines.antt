@@ -1,24 +1,22 @@
 -- Lines of a text: the one at a place, its key, and the number or the name that takes its value whole.
 -- Assumes nothing.
 use mathlib.Core.Path.{_≡_, refl, sym, ap, subst, _∙_}
-use mathlib.Core.Bool.{Bool, true, false, true≢false, not, _&&_, _||_, and-eq-true-iff}
+use mathlib.Core.Bool.{Bool, true, false, true≢false, _||_}
 use mathlib.Core.Logic.{_⊎_, inl, inr, ⊎-elim}
 use mathlib.Core.List.{List, [], _∷_, _++_}
 use Prim.Native.Nat.{ℕ, zero, suc, _+_, _≤_, _<_}
 use native.Mathlib.Nat.{add-zero}
 use native.Mathlib.Omega.{arith}
 use native.Mathlib.Decide.{decLt}
-use borrow.Author.Tests.{eq-eqb, ne-eqb, eqb-true, eqb-false, ltb-true, lt-ltb, le-leb, not-false}
-use lib.Dec.{eqb, ltb, leb}
+use borrow.Author.Tests.{eq-eqb, eqb-true, eqb-false, ltb-true, lt-ltb, le-leb, not-false}
+use lib.Dec.{eqb, ltb}
 use lib.ListN.{length, length-append}
 use Rattle.text.specs.declared.words.Word as words
 use Rattle.text.specs.declared.words.Word.the-variants.{Name, Other}
-use Rattle.text.specs.declared.numbers.Number.the-variants.{Value, Missing}
 use Rattle.text.specs.Read.{Read}
 use Rattle.text.specs.Read.Read.{got, refused}
-use Rattle.text.specs.Bytes.{byte, bytes, peek, pick, oneOf, between, letter, digit, nameByte, starts, runAt, runEnd}
-use Rattle.text.specs.Words.{wordAt, wordEnd, isWord, nameAt}
-use Rattle.text.specs.Numbers.{digits}
+use Rattle.text.specs.Bytes.{byte, bytes, peek, oneOf, digit, nameByte, starts, runAt, runEnd}
+use Rattle.text.specs.Words.{wordAt, nameAt}
 use Rattle.text.specs.Lines.{inLine, InLine, lineEnd, line, whole, wholeNumber, wholeName}
 use Rattle.text.proofs.Places.{peek-in}
 use Rattle.text.proofs.Runs.{run-more, run-none, run-past, end-more, end-here, end-stops}
@@ -26,12 +24,12 @@ use Rattle.text.proofs.Keyed.{lf-ends, lf-not}
 use Rattle.text.proofs.Names.{Named, named}
 use Rattle.formula.specs.Interval.{leading}
 use Rattle.grammar.specs.Tokens.{Each, Word, decimal}
-use Rattle.grammar.specs.Lines.{LineAt, after, Number, SignalName}
+use Rattle.grammar.specs.Lines.{LineAt, Number, SignalName}
 use Rattle.grammar.proofs.Standing.{starts-head, starts-tail, starts-none, starts-cons, starts-one, stand-same, word-stands, word-run, word-longest, word-each, word-first, letter-word}
 use Rattle.grammar.proofs.Signs.{leading-digit}
 use Rattle.grammar.proofs.Sound.{other-word}
 use Rattle.grammar.proofs.Complete.{word-not}
-use Rattle.grammar.proofs.Ends.{DigitsAt, Reads, digits-reads}
+use Rattle.grammar.proofs.Ends.{DigitsAt, digits-reads}
 
 -- ---- texts that stand
 

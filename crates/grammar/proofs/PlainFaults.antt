@@ -5,7 +5,7 @@ use mathlib.Core.Bool.{Bool, true, false, true≢false}
 use mathlib.Core.List.{List, [], _∷_, _++_, append-assoc, append-nil}
 use mathlib.Core.Option as option
 use mathlib.Core.Option.{Option}
-use Prim.Native.Nat.{ℕ, zero, suc, _+_, _≤_, _<_}
+use Prim.Native.Nat.{ℕ, zero, suc, _+_}
 use native.Mathlib.Omega.{arith}
 use borrow.Author.Tests.{eqb-true, eqb-false, ltb-true, ltb-false}
 use lib.Dec.{eqb, ltb}
@@ -15,19 +15,20 @@ use Rattle.text.specs.declared.bytes.Class.the-variants.{Letter, Digit, Sign, B
 use Rattle.text.specs.Read.{Read, andThen}
 use Rattle.text.specs.Read.Read.{got, refused}
 use Rattle.text.specs.Bytes.{byte, bytes, peek, pick, oneOf, letter, classOf, starts, runEnd}
-use Rattle.text.specs.Words.{wordAt, wordEnd, findName, sameText, isWord}
-use Rattle.text.proofs.Classes.{class-letter}
+use Rattle.text.specs.Words.{wordAt, findName, sameText, isWord}
+use Rattle.text.proofs.Classes.{tag, class-letter}
 use Rattle.text.proofs.Names.{same-text}
 use Rattle.tilco.specs.Formula.{Op, And, Or, Implies, Iff, Written}
 use Rattle.formula.specs.Grammar as reading
 use Rattle.formula.specs.Grammar.{Reader, negated, closed, inParens, second, arguments, kept, worded, declared, plainBy, plainIn, inside, rule}
 use Rattle.grammar.specs.Tokens.{TokenAt, Tokens}
 use Rattle.grammar.specs.Grammar.{Part, formula, keepWord, Name, Is, Declared}
+use Rattle.grammar.specs.RuleFaults.{AnySpan as Any}
 use Rattle.grammar.proofs.Standing.{starts-head, one-at, tokens-then, letter-word}
 use Rattle.grammar.proofs.Signs.{lone-token, word-token}
 use Rattle.grammar.proofs.Sound.{this-word, other-word, keep-length}
 use Rattle.grammar.proofs.Walk.{deep as deeper, Joins, fresh, Kind, Frame, Place, Walks, step, may, shut, turned, firstOf, walks-then, walks-one, step-not, step-paren, step-keep, step-call, step-name, step-shut, step-turn}
-use Rattle.grammar.proofs.Faults.{implies, iff, Any, Begin, Hopes, Bad, Good, Out, Quiet, lift, level-out}
+use Rattle.grammar.proofs.Faults.{implies, iff, Begin, Hopes, Bad, Good, Out, Quiet, lift, level-out}
 use Rattle.grammar.proofs.TimedFaults.{token-first, none-not, timed-out}
 
 -- ---- tokens that lead nowhere
@@ -107,6 +108,14 @@ module _ (b r : ℕ) (j : Joins) (st : List Frame) (z : Place) (full : r ≡ 0) 
   full-call : step (Place.call b r j st) (bytes "(") ≡ option.some z → ⊥
   unfolding step sameText
   full-call k = none-not (rw full at k)
+
+-- Classes told apart.
+no-letter : (b : ℕ) {k : Class} → classOf b ≡ k → (k ≡ Letter → ⊥) → letter b ≡ false
+no-letter b c n = go (letter b) refl
+  where
+    go : (x : Bool) → letter b ≡ x → letter b ≡ false
+    go true i = absurd (n (sym c ∙ class-letter b .1 i))
+    go false i = i
 
 module _ (names : List (List ℕ)) (s : List ℕ) (e : ℕ) (nm : List ℕ) (ni : ℕ) (hn : Name nm) (hd : Declared names nm ni) where
   abbrev Wide : Part → ℕ → List (List ℕ) → Written → Type 0
@@ -293,3 +302,188 @@ module _ (names : List (List ℕ)) (s : List ℕ) (e : ℕ) (nm : List ℕ) (ni 
                 Hopes.deep (lone-token s (p + 5) refl h) (record { rest = nm ∷ bytes "," ∷ nm ∷ bytes ")" ∷ []; says = Written.keep t (Written.name ni) (Written.name ni); is = keep-some 0 })
                 (λ x z k. full-call b (e + 0) j st z (omega arith) k);
           }
+
+      module _ (d : ℕ) (P : Reader) (sub : (q c : ℕ) (i : Joins) (fs : List Frame) → Out names s e c (e + d) i fs Part.plain d q (P q)) (hp : peek s (p + 5) ≡ byte "(") where
+        args-stand : Tokens s (p + 5 + 1) p (keepWord t ∷ bytes "(" ∷ [])
+        args-stand = tokens-then (keepWord t ∷ []) word-stand (one-at (lone-token s (p + 5) refl hp) refl)
+
+        args-walk : Walks (Place.want b (e + suc d) j st) (keepWord t ∷ bytes "(" ∷ []) (Place.want (e + d) (e + d) fresh (Frame.frame Kind.first b j ∷ st))
+        args-walk = walks-then (word-walk (e + suc d)) (walks-one (rw (room d) (step-call b (e + d) j st)))
+
+        -- From the comma on, after the first formula.
+        second-out : {f : Written} {q : ℕ} → Good names s (e + d) (e + d) fresh (Frame.frame Kind.first b j ∷ st) formula d (p + 5 + 1) q f
+            → Out names s e b (e + suc d) j st Part.plain (suc d) p (second t (reading.formula P s) s f q)
+        unfolding second closedBy
+        second-out {f} {q} g = go (eqb (peek s q) (byte ",")) refl
+          where
+            us : List (List ℕ)
+            us = keepWord t ∷ bytes "(" ∷ g .tokens
+
+            stand : Tokens s q p us
+            stand = tokens-then (keepWord t ∷ bytes "(" ∷ []) args-stand (g .stand)
+
+            walks : Walks (Place.want b (e + suc d) j st) us (Place.after (e + d) (g .left) (Frame.frame Kind.first b j ∷ st))
+            walks = walks-then args-walk (g .walks)
+
+            mk : {c : ℕ} → Wide formula c (g .tokens) f → (ts : List (List ℕ)) (x : Written) → Wide formula c ts x → Wide Part.plain (suc c) ((us ++ (bytes "," ∷ [])) ++ (ts ++ (bytes ")" ∷ []))) (Written.keep t f x)
+            mk {c} h ts x i =
+                subst (λ z. Wide Part.plain (suc c) z (Written.keep t f x)) (sym (append-assoc us (bytes "," ∷ []) (ts ++ (bytes ")" ∷ []))))
+                (Is.keep t h i)
+
+            same : (R : Read Written) → closed s (andThen R (λ x u. got (Written.keep t f x) u)) ≡ closedBy (Written.keep t f) R
+            same (got x u) = refl
+            same (refused n u) = refl
+
+            go : (c : Bool) → eqb (peek s q) (byte ",") ≡ c
+                → Out names s e b (e + suc d) j st Part.plain (suc d) p (pick (eqb (peek s q) (byte ",")) (λ _. closed s (andThen (reading.formula P s (q + 1)) (λ x u. got (Written.keep t f x) u))) (refused 5 q))
+            go true i =
+                rw (i, same (reading.formula P s (q + 1)))
+                (closing Kind.second b (e + suc d) d p (q + 1) j st (Written.keep t f) (us ++ (bytes "," ∷ [])) (tokens-then us stand (one-at (lone-token s q refl (eqb-true (peek s q) (byte ",") i)) refl))
+                (walks-then walks (walks-one (step-turn (e + d) (g .left) (Frame.frame Kind.first b j ∷ st)))) refl (λ z k. none-not k) (mk (g .is)) (mk (deeper (Declared names) Any (g .is)))
+                (formula-out d P sub (q + 1) (Frame.frame Kind.second b j ∷ st)))
+            go false i =
+                rw i
+                (Out.bad
+                (record {
+                  tokens = us;
+                  stand = stand;
+                  at = Place.after (e + d) (g .left) (Frame.frame Kind.first b j ∷ st);
+                  walks = walks;
+                  hopes =
+                      Hopes.token
+                      (record {
+                        rest = bytes "," ∷ nm ∷ bytes ")" ∷ [];
+                        says = Written.keep t f (Written.name ni);
+                        is =
+                            subst (λ z. Wide Part.plain (suc (suc d)) (z ++ (bytes "," ∷ nm ∷ bytes ")" ∷ [])) (Written.keep t f (Written.name ni))) (sym (append-nil us))
+                            (Is.keep t (deeper (Declared names) Any (g .is)) (some-formula (suc d)));
+                      })
+                      (λ w z x h.
+                      stuck-after x (g .left) (e + d) (Frame.frame Kind.first b j ∷ st) z (g .quiet) (λ y k. none-not k)
+                      (λ y k. eqb-false (peek s q) (byte ",") i (sym (token-first x) ∙ ap firstOf y)) h)
+                      (λ l c m x. open-not x);
+                }))
+
+        arguments-out : {R : Read Written} → Out names s e (e + d) (e + d) fresh (Frame.frame Kind.first b j ∷ st) formula d (p + 5 + 1) R
+            → Out names s e b (e + suc d) j st Part.plain (suc d) p (andThen R (λ f q. second t (reading.formula P s) s f q))
+        arguments-out (Out.good g) = second-out g
+        arguments-out (Out.bad x) = Out.bad (lift names s e (keepWord t ∷ bytes "(" ∷ []) args-stand args-walk (λ ts h. to ts h) (λ ts h. to ts h) x)
+          where
+            to : {c : ℕ} (ts : List (List ℕ)) → Begin names formula c ts → Begin names Part.plain (suc c) (keepWord t ∷ bytes "(" ∷ ts)
+            to {c} ts h =
+                record {
+                  rest = h .rest ++ (bytes "," ∷ nm ∷ bytes ")" ∷ []);
+                  says = Written.keep t (h .says) (Written.name ni);
+                  is =
+                      subst (λ z. Wide Part.plain (suc c) (keepWord t ∷ bytes "(" ∷ z) (Written.keep t (h .says) (Written.name ni))) (append-assoc ts (h .rest) (bytes "," ∷ nm ∷ bytes ")" ∷ []))
+                      (Is.keep t (h .is) (some-formula c));
+                }
+
+      kept-out : {I : Option Reader} {d : ℕ} → Inner I d → Out names s e b (e + d) j st Part.plain d p (kept I t s (p + 5))
+      unfolding kept
+      kept-out {I} {d} h = go (eqb (peek s (p + 5)) (byte "(")) refl h
+        where
+          go : {I : Option Reader} {d : ℕ} (c : Bool) → eqb (peek s (p + 5)) (byte "(") ≡ c → Inner I d → Out names s e b (e + d) j st Part.plain d p (pick (eqb (peek s (p + 5)) (byte "(")) (λ _. arguments I t s (p + 5)) (refused 5 (p + 5)))
+          go true i full = rw i (Out.bad (call-full (eqb-true (peek s (p + 5)) (byte "(") i)))
+          go true i (opens {d} {P} sub) = rw i (arguments-out d P sub (eqb-true (peek s (p + 5)) (byte "(") i) (formula-out d P sub (p + 5 + 1) (Frame.frame Kind.first b j ∷ st)))
+          go {d = d} false i h = rw i (Out.bad (call-bad d (eqb-false (peek s (p + 5)) (byte "(") i)))
+
+    -- ---- words
+
+    declared-out : (d r : ℕ) → letter (peek s p) ≡ true → isWord s p (bytes "since") ≡ false → isWord s p (bytes "until") ≡ false → Out names s e b r j st Part.plain d p (declared names s p)
+    unfolding declared runEnd
+    declared-out d r l x y = go (ltb (findName (wordAt s p) names) (length names)) refl
+      where
+        name : Name (wordAt s p)
+        name = record { word = letter-word s p l; not-since = other-word s p true x; not-until = other-word s p false y }
+
+        go : (c : Bool) → ltb (findName (wordAt s p) names) (length names) ≡ c
+            → Out names s e b r j st Part.plain d p (pick (ltb (findName (wordAt s p) names) (length names)) (λ _. got (Written.name (findName (wordAt s p) names)) (p + length (wordAt s p))) (refused 6 p))
+        go true i =
+            rw i
+            (Out.good
+            (record {
+              tokens = wordAt s p ∷ [];
+              stand = one-at (word-token s p l) refl;
+              is = Is.name name (record { found = refl; declared = ltb-true (findName (wordAt s p) names) (length names) i });
+              left = j;
+              walks = walks-one (step-name b r j st name);
+              kept = refl;
+              quiet = tt;
+            }))
+        go false i =
+            rw i
+            (Out.bad
+            (record {
+              tokens = [];
+              stand = Tokens.none;
+              at = Place.want b r j st;
+              walks = Walks.stop;
+              hopes =
+                  Hopes.name (word-token s p l) name
+                  (λ k h. let u = h .found in let v = h .declared in let w = ltb-false (findName (wordAt s p) names) (length names) i in omega arith)
+                  (λ n k m h. record { rest = []; says = Written.name k; is = Is.name m h });
+            }))
+
+    worded-out : {I : Option Reader} {d : ℕ} → Inner I d → letter (peek s p) ≡ true → Out names s e b (e + d) j st Part.plain d p (worded I names s p)
+    unfolding worded
+    worded-out {I} {d} h l = go (isWord s p (bytes "since")) refl (isWord s p (bytes "until")) refl
+      where
+        go : (x : Bool) → isWord s p (bytes "since") ≡ x → (y : Bool) → isWord s p (bytes "until") ≡ y
+            → Out names s e b (e + d) j st Part.plain d p (pick (isWord s p (bytes "since")) (λ _. kept I true s (p + 5)) (pick (isWord s p (bytes "until")) (λ _. kept I false s (p + 5)) (declared names s p)))
+        go true x y z = rw x (kept-out true (rw (this-word s p true x) at (word-token s p l)) h)
+        go false x true z = rw (x, z) (kept-out false (rw (this-word s p false z) at (word-token s p l)) h)
+        go false x false z = rw (x, z) (declared-out d (e + d) l x z)
+
+    -- ---- every plain part
+
+    plain-by : {I : Option Reader} {d : ℕ} → Inner I d → (k : Class) → classOf (peek s p) ≡ k → Out names s e b (e + d) j st Part.plain d p (plainBy k I names s p)
+    unfolding classOf tag
+    plain-by h Letter c = worded-out h (class-letter (peek s p) .0 c)
+    plain-by {d = d} h Digit c = Out.bad (want-bad b (e + d) d p j st (no-letter (peek s p) c (λ x. (let y = ap tag x in omega arith))) (λ x. (let y = ap tag (sym c ∙ ap classOf x) in omega arith)) (λ x. (let y = ap tag (sym c ∙ ap classOf x) in omega arith)))
+    plain-by {I} {d} h Sign c = go (eqb (peek s p) (byte "!")) refl
+      where
+        go : (x : Bool) → eqb (peek s p) (byte "!") ≡ x → Out names s e b (e + d) j st Part.plain d p (pick (eqb (peek s p) (byte "!")) (λ _. negated I p) (refused 5 p))
+        go true i = rw i (negated-out h (eqb-true (peek s p) (byte "!") i))
+        go false i = rw i (Out.bad (want-bad b (e + d) d p j st (no-letter (peek s p) c (λ x. (let y = ap tag x in omega arith))) (eqb-false (peek s p) (byte "!") i) (λ x. (let y = ap tag (sym c ∙ ap classOf x) in omega arith))))
+    plain-by {I} {d} h Bracket c = go (eqb (peek s p) (byte "(")) refl
+      where
+        go : (x : Bool) → eqb (peek s p) (byte "(") ≡ x → Out names s e b (e + d) j st Part.plain d p (pick (eqb (peek s p) (byte "(")) (λ _. inParens I s p) (refused 5 p))
+        go true i = rw i (parens-out h (eqb-true (peek s p) (byte "(") i))
+        go false i = rw i (Out.bad (want-bad b (e + d) d p j st (no-letter (peek s p) c (λ x. (let y = ap tag x in omega arith))) (λ x. (let y = ap tag (sym c ∙ ap classOf x) in omega arith)) (eqb-false (peek s p) (byte "(") i)))
+    plain-by {d = d} h Other c = Out.bad (want-bad b (e + d) d p j st (no-letter (peek s p) c (λ x. (let y = ap tag x in omega arith))) (λ x. (let y = ap tag (sym c ∙ ap classOf x) in omega arith)) (λ x. (let y = ap tag (sym c ∙ ap classOf x) in omega arith)))
+
+  plain-out : {I : Option Reader} {d : ℕ} → Inner I d → (p b : ℕ) (j : Joins) (st : List Frame) → Out names s e b (e + d) j st Part.plain d p (plainIn I names s p)
+  unfolding plainIn
+  plain-out h p b j st = plain-by b p j st h (classOf (peek s p)) refl
+
+  inner : (d : ℕ) → Inner (inside d names s) d
+  unfolding inside
+  inner zero = full
+  inner (suc d) = opens (plain-out (inner d))
+
+  -- ---- a rule
+
+  pub rule-out : (p : ℕ) → Out names s e (e + 32) (e + 32) fresh [] formula 32 p (rule names s p)
+  unfolding rule reading.plain
+  rule-out p = go (formula-out 32 (plainIn (inside 32 names s) names s) (plain-out (inner 32)) p [])
+    where
+      go : {R : Read Written} → Out names s e (e + 32) (e + 32) fresh [] formula 32 p R → Out names s e (e + 32) (e + 32) fresh [] formula 32 p (andThen R (λ f q. pick (eqb q (length s)) (λ _. got f q) (refused 5 q)))
+      go (Out.bad x) = Out.bad x
+      go (Out.good {f = f} {q = q} g) = on (eqb q (length s)) refl
+        where
+          on : (c : Bool) → eqb q (length s) ≡ c → Out names s e (e + 32) (e + 32) fresh [] formula 32 p (pick (eqb q (length s)) (λ _. got f q) (refused 5 q))
+          on true i = rw i (Out.good g)
+          on false i =
+              rw i
+              (Out.bad
+              (record {
+                tokens = g .tokens;
+                stand = g .stand;
+                at = Place.after (e + 32) (g .left) [];
+                walks = g .walks;
+                hopes =
+                    Hopes.token
+                    (record { rest = []; says = f; is = subst (λ z. Wide formula 33 z f) (sym (append-nil (g .tokens ++ []) ∙ append-nil (g .tokens))) (deeper (Declared names) Any (g .is)) })
+                    (λ w z a k. stuck-after a (g .left) (e + 32) [] z (g .quiet) (λ x y. none-not y) (λ x y. none-not y) k) (λ l c m x. eqb-false q (length s) i l);
+              }))

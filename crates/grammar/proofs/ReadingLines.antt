@@ -1,7 +1,7 @@
 -- A readings text's refusals 11 to 14 are given exactly for its first line at fault, and it is accepted exactly if all its lines are right.
 -- Assumes that the text has at most 32,768 bytes.
 use mathlib.Core.Path.{_≡_, refl, sym, ap, subst, _∙_}
-use mathlib.Core.Bool.{Bool, true, false, true≢false}
+use mathlib.Core.Bool.{Bool, true, false}
 use mathlib.Core.Logic.{_↔_}
 use mathlib.Core.List.{List, [], _∷_, _++_}
 use Prim.Native.Nat.{ℕ, zero, suc, _+_, _-_, _≤_, _<_}
@@ -12,9 +12,9 @@ use lib.Dec.{eqb, ltb}
 use lib.ListN.{length}
 use Rattle.text.specs.Read.{Read, andThen}
 use Rattle.text.specs.Read.Read.{got, refused}
-use Rattle.text.specs.Bytes.{bytes, pick, between}
+use Rattle.text.specs.Bytes.{bytes, pick}
 use Rattle.text.specs.Words.{wordAt, findName}
-use Rattle.text.specs.Lines.{InLine, rangedLine, nameLine, upTo}
+use Rattle.text.specs.Lines.{InLine, rangedLine, upTo}
 use Rattle.text.proofs.Answers.{not-both, same-value, then-same}
 use Rattle.tilco.specs.Inference.{Mark, mark}
 use Rattle.readings.specs.Readings.{knownLine, reading, readings}

@@ -1,27 +1,25 @@
 -- A sheet's refusals 2 to 8 are given exactly for the first line at fault, and a sheet is accepted exactly if all its lines are right.
 -- Assumes that the sheet has at most 32,768 bytes.
-use mathlib.Core.Path.{_≡_, refl, sym, ap, subst, _∙_}
-use mathlib.Core.Bool.{Bool, true, false, true≢false}
+use mathlib.Core.Path.{_≡_, refl, sym, subst, _∙_}
+use mathlib.Core.Bool.{Bool, true, false}
 use mathlib.Core.Logic.{_↔_}
-use mathlib.Core.List.{List, [], _∷_, _++_, List·Memᴰ}
+use mathlib.Core.List.{List, [], _∷_, _++_}
 use Prim.Native.Nat.{ℕ, zero, suc, _+_, _≤_, _<_}
 use native.Mathlib.Omega.{arith}
 use native.Mathlib.Decide.{decLt}
 use borrow.Author.Tests.{eq-eqb, ne-eqb, le-leb}
-use lib.Dec.{eqb}
 use lib.ListN.{length}
 use Rattle.text.specs.Read.{Read, andThen}
 use Rattle.text.specs.Read.Read.{got, refused}
-use Rattle.text.specs.Bytes.{bytes, pick, between}
+use Rattle.text.specs.Bytes.{bytes, between}
 use Rattle.text.specs.Words.{namesAt}
 use Rattle.text.specs.Lines.{InLine, rangedLine, inTurn}
 use Rattle.text.proofs.Answers.{not-both, same-value, then-same}
 use Rattle.tilco.specs.Formula.{Written}
 use Rattle.formula.specs.Grammar as reading
 use Rattle.sheet.specs.Sheet as sheet
-use Rattle.sheet.specs.Sheet.{Contents, contents, headOf, atEnd, signalLine, ruleLine, sheetOf}
-use Rattle.grammar.specs.Grammar.{Rule}
-use Rattle.grammar.specs.Lines.{LineAt, after, Number, SignalName}
+use Rattle.sheet.specs.Sheet.{Contents, contents, atEnd, signalLine, ruleLine, sheetOf}
+use Rattle.grammar.specs.Lines.{LineAt, after, Number}
 use Rattle.grammar.specs.SheetLines.{Next, key, Ranged, Formed, More, Right, Reached, Fault, SheetFault}
 use Rattle.grammar.proofs.Sound.{rule-sound}
 use Rattle.grammar.proofs.Complete.{rule-complete}

@@ -4,14 +4,14 @@ use mathlib.Core.Path.{_≡_, refl, sym, ap, subst, _∙_}
 use mathlib.Core.Bool.{Bool, true, false, true≢false, _||_}
 use mathlib.Core.Logic.{_⊎_, inl, inr, ⊎-elim}
 use mathlib.Core.List.{List, [], _∷_, List·Memᴰ}
-use Prim.Native.Nat.{ℕ, _+_, _≤_, _<_}
+use Prim.Native.Nat.{ℕ, _≤_}
 use native.Mathlib.Omega.{arith}
 use borrow.Author.Tests.{eqb-true, ltb-true}
 use lib.Dec.{eqb, ltb}
 use lib.ListN.{length}
 use Rattle.text.specs.Bytes.{byte, bytes, peek, pick, oneOf, letter, digit, starts}
 use Rattle.text.specs.Words.{wordAt, sameText, findName}
-use Rattle.text.proofs.Tests.{between-in, between-is, between-high}
+use Rattle.text.proofs.Tests.{between-in, between-is}
 use Rattle.text.proofs.Names.{find-in}
 use Rattle.tilco.specs.Formula.{Op, And, Or, Implies, Iff}
 use Rattle.tilco.specs.Lists.{All}

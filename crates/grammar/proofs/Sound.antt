@@ -6,7 +6,6 @@ use mathlib.Core.List.{List, [], _∷_, _++_}
 use mathlib.Core.Option as option
 use mathlib.Core.Option.{Option}
 use Prim.Native.Nat.{ℕ, zero, suc, _+_}
-use native.Mathlib.Omega.{arith}
 use borrow.Author.Tests.{eqb-true, ltb-true}
 use lib.Dec.{eqb, ltb}
 use lib.ListN.{length}
@@ -26,10 +25,10 @@ use Rattle.formula.specs.declared.interval.Span.{Span}
 use Rattle.formula.specs.declared.interval.Span.the-variants.{Over, Refused}
 use Rattle.formula.specs.Interval.{interval}
 use Rattle.formula.specs.Grammar as reading
-use Rattle.formula.specs.Grammar.{Reader, spanThen, times, timedPart, signText, repeats, more, inParens, negated, closed, second, arguments, kept, worded, declared, plainBy, plainIn, inside, rule}
+use Rattle.formula.specs.Grammar.{Reader, times, timedPart, signText, repeats, more, inParens, negated, closed, second, arguments, kept, worded, declared, plainBy, plainIn, inside, rule}
 use Rattle.grammar.specs.Tokens.{TokenAt, Tokens}
-use Rattle.grammar.specs.Grammar.{Part, below, before, formula, keepWord, timeSign, Name, Is, Declared, Legal, Stands, Rule}
-use Rattle.grammar.proofs.Standing.{none-at, one-at, tokens-then, letter-word}
+use Rattle.grammar.specs.Grammar.{Part, below, before, formula, keepWord, timeSign, Is, Stands, Rule}
+use Rattle.grammar.proofs.Standing.{one-at, tokens-then, letter-word}
 use Rattle.grammar.proofs.Signs.{sign-token, op-sign, lone-token, word-token}
 use Rattle.grammar.proofs.Spans.{interval-stands}
 

@@ -1,25 +1,23 @@
 -- An interval is read exactly where its tokens stand.
 -- Assumes nothing.
-use mathlib.Core.Path.{_≡_, refl, sym, ap, subst, _∙_}
+use mathlib.Core.Path.{_≡_, refl, sym, subst}
 use mathlib.Core.Bool.{Bool, true, false, true≢false, _&&_, and-eq-true-iff}
-use mathlib.Core.Logic.{_⊎_, inl, inr, ⊎-elim}
-use mathlib.Core.List.{List, [], _∷_, _++_, List·Memᴰ}
-use Prim.Native.Nat.{ℕ, _+_, _-_, _≤_, _<_}
-use native.Mathlib.Nat.{add-assoc}
+use mathlib.Core.List.{List, [], _∷_}
+use Prim.Native.Nat.{ℕ, _+_, _-_, _≤_}
 use native.Mathlib.Omega.{arith}
-use borrow.Author.Tests.{eqb-true, eq-eqb, leb-true, le-leb}
+use borrow.Author.Tests.{eqb-true, leb-true, le-leb}
 use lib.Dec.{eqb, leb}
 use lib.ListN.{length}
 use Rattle.text.specs.declared.numbers.Number.{Number}
-use Rattle.text.specs.declared.numbers.Number.the-variants.{Value, Missing}
-use Rattle.text.specs.Bytes.{byte, bytes, peek, pick, oneOf, starts}
+use Rattle.text.specs.declared.numbers.Number.the-variants.{Value}
+use Rattle.text.specs.Bytes.{byte, bytes, peek, pick, oneOf}
 use Rattle.text.proofs.Tests.{between-is}
 use Rattle.formula.specs.declared.interval.Span.{Span}
 use Rattle.formula.specs.declared.interval.Span.the-variants.{Over, Refused}
 use Rattle.formula.specs.Interval.{leftOut, near, endAt, spanOf, endThen, endAfter, closeAt, commaAt, interval}
-use Rattle.grammar.specs.Tokens.{End, signs, Token, TokenAt, Tokens}
+use Rattle.grammar.specs.Tokens.{End, TokenAt, Tokens}
 use Rattle.grammar.specs.Grammar.{Interval, Legal}
-use Rattle.grammar.proofs.Standing.{starts-head, starts-one, token-one, next-is, none-is, one-at}
+use Rattle.grammar.proofs.Standing.{starts-head, token-one, next-is, none-is, one-at}
 use Rattle.grammar.proofs.Signs.{lone, lone-token}
 use Rattle.grammar.proofs.Ends.{EndAt, end-at, end-one}
 

@@ -1,19 +1,19 @@
 -- Refusals inside an interval and inside a timed part.
 -- Assumes nothing.
 use mathlib.Core.Path.{_≡_, refl, sym, ap, subst, _∙_}
-use mathlib.Core.Bool.{Bool, true, false, true≢false, _||_}
+use mathlib.Core.Bool.{Bool, true, false, _||_}
 use mathlib.Core.Logic.{_⊎_, inl, inr, ⊎-elim}
-use mathlib.Core.List.{List, [], _∷_, _++_, append-assoc, append-nil}
+use mathlib.Core.List.{List, [], _∷_, _++_, append-assoc}
 use mathlib.Core.Option as option
-use Prim.Native.Nat.{ℕ, zero, suc, _+_, _≤_, _<_}
+use Prim.Native.Nat.{ℕ, zero, suc, _+_, _≤_}
 use native.Mathlib.Omega.{arith}
 use borrow.Author.Tests.{eqb-true}
 use lib.Dec.{eqb}
 use lib.ListN.{length}
 use Rattle.text.specs.declared.numbers.Number.{Number}
 use Rattle.text.specs.Read.{Read, andThen}
-use Rattle.text.specs.Read.Read.{got, refused}
-use Rattle.text.specs.Bytes.{byte, bytes, peek, pick, oneOf, digit, letter, starts}
+use Rattle.text.specs.Read.Read.{got}
+use Rattle.text.specs.Bytes.{byte, bytes, peek, pick, oneOf, digit, starts}
 use Rattle.text.proofs.Places.{peek-out}
 use Rattle.tilco.specs.Formula.{Written}
 use Rattle.formula.specs.declared.interval.Span.{Span}
@@ -22,15 +22,16 @@ use Rattle.formula.specs.Interval as reading
 use Rattle.formula.specs.Interval.{endAt, endThen, endAfter, closeAt, commaAt, spanOf}
 use Rattle.formula.specs.Grammar.{Reader, spanThen, times, timedPart}
 use Rattle.grammar.specs.Tokens.{End, Token, TokenAt, Tokens}
-use Rattle.grammar.specs.Grammar.{Part, timeSign, Interval, Is, Declared, Legal}
-use Rattle.grammar.proofs.Standing.{starts-head, one-at, tokens-then, word-first}
+use Rattle.grammar.specs.Grammar.{Part, timeSign, Interval, Is, Declared}
+use Rattle.grammar.specs.RuleFaults.{AnySpan as Any}
+use Rattle.grammar.proofs.Standing.{starts-head, one-at, tokens-then}
 use Rattle.grammar.proofs.Signs.{lone-token, token-some, sign-end, word-no-end}
 use Rattle.grammar.proofs.Ends.{EndAt, end-at}
 use Rattle.grammar.proofs.Spans.{SpanIs, span-is, SpanAt, two-lone}
 use Rattle.grammar.proofs.Sound.{time-token, time-length}
 use Rattle.grammar.proofs.Complete.{tokens-ahead}
 use Rattle.grammar.proofs.Walk.{deep as deeper, Joins, Frame, Place, Walks, step, firstOf, endByte, end-byte, walks-then, walks-one, step-time, step-opens, step-first, step-comma, step-last, walk-interval}
-use Rattle.grammar.proofs.Faults.{Any, Begin, Hopes, map-hopes, Bad, Good, Out, as-kind}
+use Rattle.grammar.proofs.Faults.{Begin, Hopes, map-hopes, Bad, Out, as-kind}
 
 -- A token's first byte is the byte at its place.
 pub token-first : {s : List ℕ} {p : ℕ} {w : List ℕ} → TokenAt s p w → firstOf w ≡ peek s p

@@ -1,21 +1,19 @@
 -- A walk along tokens that tells at each of them whether it can follow. Every formula is walked to its end, whatever its names and intervals.
 -- Assumes nothing.
-use mathlib.Core.Path.{_≡_, refl, sym, ap, subst, _∙_}
+use mathlib.Core.Path.{_≡_, refl, sym, subst}
 use mathlib.Core.Bool.{Bool, true, false, true≢false, _||_}
 use mathlib.Core.List.{List, [], _∷_, _++_}
 use mathlib.Core.Option.{Option, none, some}
-use Prim.Native.Nat.{ℕ, zero, suc, _+_, _≤_}
+use Prim.Native.Nat.{ℕ, zero, suc, _+_}
 use native.Mathlib.Omega.{arith}
 use lib.Dec.{eqb}
-use lib.ListN.{length}
 use Rattle.text.specs.Bytes.{byte, bytes, pick, oneOf, letter, digit}
 use Rattle.text.specs.Words.{sameText}
 use Rattle.text.proofs.Names.{same-text}
 use Rattle.tilco.specs.Formula.{Op, And, Or, Implies, Iff, Written}
-use Rattle.formula.specs.Interval.{leading}
 use Rattle.formula.specs.Grammar.{signText, repeats}
 use Rattle.grammar.specs.Tokens.{Word, Numeral, End}
-use Rattle.grammar.specs.Grammar.{Part, below, before, formula, keepWord, timeSign, Name, Interval, Is}
+use Rattle.grammar.specs.Grammar.{Part, keepWord, timeSign, Name, Interval, Is}
 use Rattle.grammar.proofs.Signs.{leading-digit}
 
 -- ---- where a walk stands

@@ -1,9 +1,9 @@
 -- The grammar of a rule (01, "The sheet"): which tokens are a formula or a part of one, and what they say.
 -- Assumes nothing.
 use mathlib.Core.Path.{_≡_}
-use mathlib.Core.Bool.{Bool, true, false}
+use mathlib.Core.Bool.{Bool, true}
 use mathlib.Core.List.{List, [], _∷_, _++_}
-use Prim.Native.Nat.{ℕ, suc, _+_, _≤_, _<_}
+use Prim.Native.Nat.{ℕ, suc, _+_, _<_}
 use lib.ListN.{length}
 use Rattle.text.specs.Bytes.{byte, bytes, pick, oneOf}
 use Rattle.text.specs.Words.{findName}
