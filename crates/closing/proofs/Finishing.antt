@@ -13,9 +13,9 @@ use Rattle.tilco.specs.Inference.{Program, Mark, mark, Derives, start}
 use Rattle.tilco.specs.Table.{Stands, Inside}
 use Rattle.tilco.proofs.Closing.{finished}
 use Rattle.tilco.proofs.Derives.{cut, stays-inside}
-use Rattle.closing.specs.Codes.{Codes, Coded}
-use Rattle.closing.specs.Gains.{room}
-use Rattle.closing.specs.Moves.{SettledFrom, Swept}
+use Rattle.marking.specs.Codes.{Codes, Coded}
+use Rattle.marking.specs.Gains.{room}
+use Rattle.marking.specs.Moves.{SettledFrom, Swept}
 use Rattle.closing.specs.Closes.{ClosesAll}
 
 -- On the way from T to the closed table: `go` is 0 when it is reached.

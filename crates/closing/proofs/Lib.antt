@@ -1,12 +1,5 @@
 -- The laws, one idea a file, in the order in which they build on each other.
-pub mod OneWord
-pub mod Gaining
-pub mod Moving
-pub mod RowRules
-pub mod Decoding
 pub mod Sweeping
 pub mod Finishing
 pub mod Crowning
-pub mod Clashing
-pub mod Window
 pub mod Outcomes

@@ -10,8 +10,8 @@ use Rattle.ticks.proofs.Bits.{lt-or-ge}
 use Rattle.tilco.specs.Inference.{Node, signal, notOf, gate, look, Program, node, Marks}
 use Rattle.tilco.specs.Table.{words, Stands}
 use Rattle.tilco.proofs.Closing.{GateSettled, SettledAt}
-use Rattle.closing.specs.Moves.{AnyMark, SettledIn, SettledFrom, ByRows, Stepped, Swept}
-use Rattle.closing.proofs.Moving.{idle, weaker, then-by, keeps-inside}
+use Rattle.marking.specs.Moves.{AnyMark, SettledIn, SettledFrom, ByRows, Stepped, Swept}
+use Rattle.marking.proofs.Moving.{idle, weaker, then-by, keeps-inside}
 
 -- The words of a row cover the window.
 words-cover : (W n : ℕ) → n ≡ words W → W ≤ n * 64

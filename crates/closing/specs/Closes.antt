@@ -1,7 +1,7 @@
--- The closed table: what closing, marking the tops and both together promise, and a row that clashes (01, "The inference rules"). Assumes nothing.
+-- The closed table: what closing, marking the tops and both together promise (01, "The inference rules"). Assumes nothing.
 -- n is how many words a row has for each value, W the window, T the table before and T′ after.
 use mathlib.Core.Path.{_≡_}
-use mathlib.Core.Bool.{true, false}
+use mathlib.Core.Bool.{true}
 use mathlib.Core.List.{List, List·Memᴰ}
 use mathlib.Core.Logic.{_↔_}
 use Prim.Native.Nat.{ℕ, _<_}
@@ -9,8 +9,7 @@ use lib.ListN.{length, getD}
 use Rattle.ticks.specs.Ticks.{Small}
 use Rattle.tilco.specs.Inference.{Program, Mark, mark, Marks, Derives}
 use Rattle.tilco.specs.Table.{Stands}
-use Rattle.closing.specs.Codes.{Codes, TopsAre}
-use Rattle.closing.specs.Gains.{Both}
+use Rattle.marking.specs.Codes.{Codes, TopsAre}
 
 -- "The closed table is the least set of marks that has these and every consequence": T′ has exactly what the rules lead to from T.
 pub record Settles (n : ℕ) (P : Program) (W : ℕ) (T T′ : List ℕ) : Type 0 where
@@ -37,7 +36,3 @@ ClosesAll count B W n T T′ = (P : Program) → Codes P count B → TopsStand n
 -- The table is settled for every program with these rows and tops.
 abbrev pub SettlesAll : ℕ → List ℕ → List ℕ → ℕ → ℕ → ℕ → List ℕ → List ℕ → Type 0
 SettlesAll count B tops k W n T T′ = (P : Program) → Codes P count B → TopsAre P tops k → Settles n P W T T′
-
--- Row r has both marks at one tick.
-abbrev pub ClashAt : ℕ → List ℕ → ℕ → Type 0
-ClashAt n T r = (t : ℕ) × Both n T r true r false t

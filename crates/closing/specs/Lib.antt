@@ -1,5 +1,2 @@
--- The definitions that the contracts cite, lowest layer first.
-pub mod Codes
-pub mod Gains
-pub mod Moves
+-- The definitions that the contracts cite.
 pub mod Closes

@@ -1,10 +1,10 @@
 // The rules of every row, upward and downward in turn, until a sweep changes nothing.
 // Assumes that the words are a program's rows, that the table has them, and that no mark is outside the window.
-use crate::steps::step;
+use marking::steps::step;
 ghost use Prim.Native.Nat.{_+_, _<_};
 ghost use Rattle.tilco.specs.Table.{Stands, Inside};
-ghost use Rattle.closing.specs.Codes.{Coded};
-ghost use Rattle.closing.specs.Moves.{Swept, Sized};
+ghost use Rattle.marking.specs.Codes.{Coded};
+ghost use Rattle.marking.specs.Moves.{Swept, Sized};
 ghost use Rattle.closing.specs.Closes.{ClosesAll};
 
 // The rules of one row, word by word.

@@ -1,15 +1,15 @@
 // The tops marked, and the table closed after them. Assumes of the table what closing it assumes, and that each top is a row.
 use crate::sweeps::close;
-use crate::words::add_word;
-use crate::words::window_word;
+use marking::words::add_word;
+use marking::words::window_word;
 ghost use mathlib.Core.Path.{_≡_};
 ghost use Prim.Native.Nat.{ℕ, _<_, _≤_};
 ghost use lib.ListN.{length, getD};
 ghost use Rattle.tilco.specs.Table.{words, Stands, Inside};
-ghost use Rattle.closing.specs.Codes.{Coded};
+ghost use Rattle.marking.specs.Codes.{Coded};
 ghost use Rattle.table.specs.Puts.{Gains};
-ghost use Rattle.closing.specs.Gains.{HasRow};
-ghost use Rattle.closing.specs.Moves.{Sized};
+ghost use Rattle.marking.specs.Gains.{HasRow};
+ghost use Rattle.marking.specs.Moves.{Sized};
 ghost use Rattle.closing.specs.Closes.{RowTrue, TopMarks, SettlesAll};
 
 // Marks a row true at every tick of the window.

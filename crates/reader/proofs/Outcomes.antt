@@ -23,8 +23,8 @@ use Rattle.readings.specs.Readings.{readings}
 use Rattle.readings.proofs.Bounds.{readings-within, puts-inside}
 use Rattle.readings.proofs.Outcomes.{Accepted-as}
 use Rattle.rows.specs.Words.{Blank}
-use Rattle.closing.specs.Codes.{Coded}
-use Rattle.closing.specs.Moves.{Sized}
+use Rattle.marking.specs.Codes.{Coded}
+use Rattle.marking.specs.Moves.{Sized}
 use Rattle.closing.specs.Closes.{SettlesAll}
 use Rattle.closing.proofs.Outcomes.{settles-added}
 use Rattle.reader.specs.Results.{accepted, refused, gain}

@@ -31,7 +31,7 @@ use Rattle.lowering.specs.declared.whole.SheetLowered.{SheetLowered}
 use Rattle.lowering.specs.declared.whole.SheetLowered.the-variants.{Rows, Over}
 use Rattle.lowering.proofs.Answers.{Fitted, when-rows, when-over}
 use Rattle.lowering.proofs.Sheets.{rules-many, tops-many}
-use Rattle.closing.specs.Codes.{Fine, TopsAre}
+use Rattle.marking.specs.Codes.{Fine, TopsAre}
 use Rattle.reader.specs.Results.{accepted, refused}
 use Rattle.reader.specs.declared.opening.Opening.the-variants as opening
 use Rattle.reader.specs.Opening.{fits, sized, sheetIn}

@@ -6,7 +6,7 @@ use Prim.Native.Nat.{ℕ, _≤_}
 use lib.ListN.{length, take}
 use Rattle.tilco.specs.Lowering.{program, rowCount}
 use Rattle.sheet.specs.Sheet.{Contents, meant}
-use Rattle.closing.specs.Codes.{Codes, TopsAre}
+use Rattle.marking.specs.Codes.{Codes, TopsAre}
 use Rattle.reader.specs.declared.opening.Opening.{Opening}
 use Rattle.reader.specs.declared.opening.Opening.the-variants as opening
 use Rattle.reader.specs.Results.{accepted, refused}

@@ -1,8 +1,8 @@
 // add: the readings are taken into the lent table, and the table is closed. Assumes nothing.
 use crate::opening::Opening;
 use crate::opening::open_table;
-use closing::telling::clash_in;
-use closing::telling::count_facts;
+use telling::clash_in;
+use telling::count_facts;
 use closing::tops::settle;
 use readings::whole::Outcome;
 use readings::whole::take_readings;

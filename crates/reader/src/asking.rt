@@ -1,7 +1,7 @@
 // ask: what the lent table says of a signal at a tick. Assumes nothing.
 use crate::opening::Opening;
 use crate::opening::open_table;
-use closing::telling::clash_in;
+use telling::clash_in;
 use table::Value;
 use table::value_at;
 use table::words_of;

@@ -1,6 +1,6 @@
 // What comes before a reading or a question: the sheet is read and lowered, and the lent table compared with it.
 // Assumes nothing of the sheet and the table; the other buffers are the operation's own.
-use closing::telling::inside_window;
+use telling::inside_window;
 use lowering::whole::SheetLowered;
 use lowering::whole::lower_sheet;
 use sheet::whole::Outline;

@@ -3,8 +3,8 @@ use native.Mathlib.Omega.{arith}
 use mathlib.Core.Path.{subst}
 use Prim.Native.Nat.{_+_, min}
 use Rattle.ticks.specs.Ticks.{Small}
-use Rattle.closing.specs.Gains.{room}
-use Rattle.closing.proofs.Decoding.{sized-as}
+use Rattle.marking.specs.Gains.{room}
+use Rattle.marking.proofs.Decoding.{sized-as}
 use Rattle.closing.proofs.Finishing.{Toward, toward-start, toward-inside, toward-more, toward-less, toward-end}
 use Rattle.closing.proofs.sweeps.close.Statement.{statement}
 use Rattle.closing.proofs.sweeps.close.Tie as tie

@@ -4,7 +4,7 @@ use mathlib.Core.Path.{_≡_, refl, subst}
 use mathlib.Core.Logic.{⊎-elim}
 use Prim.Native.Nat.{ℕ, _-_, _≤_}
 use lib.ListN.{length}
-use Rattle.closing.proofs.Decoding.{sized-as}
+use Rattle.marking.proofs.Decoding.{sized-as}
 use Rattle.closing.proofs.Sweeping.{WordsDone, words-none, words-more, words-all}
 use Rattle.closing.proofs.sweeps.step_row.Statement.{statement}
 use Rattle.closing.proofs.sweeps.step_row.Tie as tie

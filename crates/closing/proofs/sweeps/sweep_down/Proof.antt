@@ -5,8 +5,8 @@ use mathlib.Core.Logic.{⊎-elim}
 use Prim.Native.Nat.{ℕ, _+_, _-_, _≤_}
 use native.Mathlib.Nat.{le-refl}
 use lib.ListN.{length}
-use Rattle.closing.specs.Moves.{Swept}
-use Rattle.closing.proofs.Decoding.{sized-as}
+use Rattle.marking.specs.Moves.{Swept}
+use Rattle.marking.proofs.Decoding.{sized-as}
 use Rattle.closing.proofs.Sweeping.{rows-none, rows-down, rows-among}
 use Rattle.closing.proofs.sweeps.sweep_down.Statement.{statement}
 use Rattle.closing.proofs.sweeps.sweep_down.Tie as tie

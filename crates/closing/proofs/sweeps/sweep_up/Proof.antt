@@ -4,8 +4,8 @@ use mathlib.Core.Path.{_≡_, refl}
 use mathlib.Core.Logic.{⊎-elim}
 use Prim.Native.Nat.{_+_, _-_}
 use lib.ListN.{length}
-use Rattle.closing.specs.Moves.{Swept}
-use Rattle.closing.proofs.Decoding.{sized-as}
+use Rattle.marking.specs.Moves.{Swept}
+use Rattle.marking.proofs.Decoding.{sized-as}
 use Rattle.closing.proofs.Sweeping.{rows-none, rows-up, rows-among}
 use Rattle.closing.proofs.sweeps.sweep_up.Statement.{statement}
 use Rattle.closing.proofs.sweeps.sweep_up.Tie as tie

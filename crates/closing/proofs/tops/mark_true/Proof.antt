@@ -3,7 +3,7 @@ use native.Mathlib.Omega.{arith}
 use mathlib.Core.Path.{subst}
 use Prim.Native.Nat.{ℕ, _-_, _≤_}
 use Rattle.table.specs.Puts.{Gains}
-use Rattle.closing.proofs.Decoding.{word-in-window}
+use Rattle.marking.proofs.Decoding.{word-in-window}
 use Rattle.closing.proofs.Crowning.{Until, until-none, until-more, until-all}
 use Rattle.closing.proofs.tops.mark_true.Statement.{statement}
 use Rattle.closing.proofs.tops.mark_true.Tie as tie

@@ -1,6 +1,6 @@
 -- `settle` meets its contract. Assumes nothing.
 use borrow.Author.Needs.{needs}
-use Rattle.closing.proofs.Decoding.{has-row, sized-as}
+use Rattle.marking.proofs.Decoding.{has-row, sized-as}
 use Rattle.closing.proofs.Crowning.{crown-inside, crown-then-close}
 use Rattle.closing.proofs.tops.settle.Statement.{statement}
 use Rattle.closing.proofs.tops.settle.Tie as tie

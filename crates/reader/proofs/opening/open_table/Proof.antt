@@ -2,7 +2,7 @@
 use native.Mathlib.Omega.{arith}
 use mathlib.Core.Path.{sym, _∙_}
 use borrow.Author.Tests.{not-true, not-false}
-use Rattle.closing.proofs.Clashing.{never}
+use Rattle.telling.proofs.Clashing.{never}
 use Rattle.reader.specs.Ready.TableOpens.{ready, refused-at}
 use Rattle.reader.proofs.Tables.{when-ready, window-range, row-range, one-word, wrong-length, outside, within, sheet-refused}
 use borrow.Author.Needs.{needs}

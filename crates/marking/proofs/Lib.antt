@@ -1,0 +1,6 @@
+-- The laws, one idea a file, in the order in which they build on each other.
+pub mod OneWord
+pub mod Gaining
+pub mod Moving
+pub mod RowRules
+pub mod Decoding
