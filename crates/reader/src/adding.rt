@@ -1,12 +1,12 @@
 // add: the readings are taken into the lent table, and the table is closed. Assumes nothing.
 use crate::opening::Opening;
 use crate::opening::open_table;
-use telling::clash_in;
-use telling::count_facts;
 use closing::tops::settle;
 use readings::whole::Outcome;
 use readings::whole::take_readings;
 use table::words_of;
+use telling::clash_in;
+use telling::count_facts;
 ghost use Rattle.reader.specs.Results.{addingSays};
 ghost use Rattle.reader.specs.Ready.{AtHand};
 ghost use Rattle.reader.specs.Operations.{Adds};

@@ -1,10 +1,10 @@
 // ask: what the lent table says of a signal at a tick. Assumes nothing.
 use crate::opening::Opening;
 use crate::opening::open_table;
-use telling::clash_in;
 use table::Value;
 use table::value_at;
 use table::words_of;
+use telling::clash_in;
 ghost use Rattle.reader.specs.Results.{askingSays};
 ghost use Rattle.reader.specs.Operations.{Asks};
 

@@ -1,11 +1,11 @@
 // What comes before a reading or a question: the sheet is read and lowered, and the lent table compared with it.
 // Assumes nothing of the sheet and the table; the other buffers are the operation's own.
-use telling::inside_window;
 use lowering::whole::SheetLowered;
 use lowering::whole::lower_sheet;
 use sheet::whole::Outline;
 use sheet::whole::read_sheet;
 use table::words_of;
+use telling::inside_window;
 ghost use mathlib.Core.Path.{_≡_};
 ghost use lib.ListN.{length};
 ghost use Rattle.rows.specs.Words.{Blank};
