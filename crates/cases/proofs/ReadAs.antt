@@ -29,9 +29,9 @@ use Rattle.reader.specs.Opening.{sheetIn, namesIn, Opens, blank}
 use Rattle.reader.specs.Opening.Opens.{both}
 use Rattle.reader.specs.Operations.{Adds}
 use Rattle.reader.specs.Operations.Adds.{added}
-use Rattle.listing.specs.Prints.{Prints}
-use Rattle.listing.specs.Prints.Prints.{listed}
-use Rattle.listing.proofs.OneListing.{AnswersIn, prints-one}
+use Rattle.settling.specs.Prints.{Prints}
+use Rattle.settling.specs.Prints.Prints.{listed}
+use Rattle.settling.proofs.OneListing.{AnswersIn, prints-one}
 use Rattle.cases.specs.Texts.{TextCase, Settled}
 use Rattle.cases.proofs.Marks.{markedText, signals-are}
 

@@ -5,7 +5,7 @@ use mathlib.Core.List.{List, [], _∷_}
 use Prim.Native.Nat.{ℕ}
 use Prim.Native.String.{String, _++_}
 use Rattle.text.specs.Bytes.{bytes}
-use Rattle.listing.specs.Prints.{Prints}
+use Rattle.settling.specs.Prints.{Prints}
 
 -- The text of a sheet, the text of its readings, and the listing.
 pub record TextCase : Type 0 where

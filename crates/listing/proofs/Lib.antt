@@ -3,5 +3,3 @@ pub mod Signs
 pub mod Answered
 pub mod Lengths
 pub mod Examples
-pub mod Printing
-pub mod OneListing

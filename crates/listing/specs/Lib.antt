@@ -1,3 +1,2 @@
--- The definitions that the contracts cite, lowest layer first.
+-- The definitions that the contracts cite.
 pub mod Listing
-pub mod Prints

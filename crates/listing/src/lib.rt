@@ -2,5 +2,4 @@
 // Assumes of the table that it has the signals' rows in words that cover the window.
 pub mod lines;
 pub mod marks;
-pub mod settling;
 pub mod whole;

@@ -9,9 +9,9 @@ use Rattle.text.specs.Read.Read.{got}
 use Rattle.tilco.specs.Lists.{total}
 use Rattle.tilco.specs.Formula.{Written, hiddens, spelled, Sheet, signalRows, formulas}
 use Rattle.tilco.specs.Lowering.{lows, rowCount}
-use Rattle.rows.specs.Rules.{LowersAll}
-use Rattle.rows.specs.declared.rules.AllLowered.{AllLowered}
-use Rattle.rows.specs.declared.rules.AllLowered.the-variants.{Next, Full}
+use Rattle.rule_rows.specs.Rules.{LowersAll}
+use Rattle.rule_rows.specs.declared.rules.AllLowered.{AllLowered}
+use Rattle.rule_rows.specs.declared.rules.AllLowered.the-variants.{Next, Full}
 use Rattle.lowering.specs.Lines.{LineLowers}
 use Rattle.lowering.specs.Lines.LineLowers.{went, full}
 use Rattle.lowering.specs.declared.line.LineLowered.{LineLowered}

@@ -12,10 +12,10 @@ use Rattle.tilco.specs.Lowering.{lows}
 use Rattle.arena.specs.Readings.{Arena, formAt, definingsAt}
 use Rattle.arena.proofs.Puts.{arena-fewer}
 use Rattle.sheet.specs.Reading.{Rule}
-use Rattle.rows.specs.Rules.{LowersAll}
-use Rattle.rows.specs.declared.rules.AllLowered.{AllLowered}
-use Rattle.rows.specs.declared.rules.AllLowered.the-variants.{Next, Full}
-use Rattle.rows.proofs.Spelled.{held-definings, held-lowers}
+use Rattle.rule_rows.specs.Rules.{LowersAll}
+use Rattle.rule_rows.specs.declared.rules.AllLowered.{AllLowered}
+use Rattle.rule_rows.specs.declared.rules.AllLowered.the-variants.{Next, Full}
+use Rattle.rule_rows.proofs.Spelled.{held-definings, held-lowers}
 use Rattle.lowering.specs.Lines.{Legible, LineLowers}
 use Rattle.lowering.specs.Lines.LineLowers.{went, full}
 use Rattle.lowering.specs.declared.line.LineLowered.the-variants as line

@@ -17,11 +17,11 @@ use Rattle.tilco.specs.Lowering.{BTL, lowered, lows}
 use Rattle.tilco.proofs.Lists.{total-append, laid-append}
 use Rattle.sheet.specs.Sheet.{ruleLine, rules}
 use Rattle.sheet.proofs.Ruled.{rule-past, turn-part}
-use Rattle.rows.specs.Rules.{LowersAll}
-use Rattle.rows.specs.declared.rules.AllLowered.{AllLowered}
-use Rattle.rows.specs.declared.rules.AllLowered.the-variants.{Next, Full}
-use Rattle.rows.proofs.Spelled.{definings-length}
-use Rattle.rows.proofs.InTurn.{WentAll, went-all, all-none, all-full, all-then}
+use Rattle.rule_rows.specs.Rules.{LowersAll}
+use Rattle.rule_rows.specs.declared.rules.AllLowered.{AllLowered}
+use Rattle.rule_rows.specs.declared.rules.AllLowered.the-variants.{Next, Full}
+use Rattle.rule_rows.proofs.Spelled.{definings-length}
+use Rattle.rule_rows.proofs.InTurn.{WentAll, went-all, all-none, all-full, all-then}
 use Rattle.lowering.specs.Lines.{Legible}
 
 -- What the rules ws of a sheet with n signals come to.

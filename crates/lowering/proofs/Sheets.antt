@@ -18,10 +18,10 @@ use Rattle.tilco.specs.Lowering.{lowered, lows, rowCount}
 use Rattle.sheet.specs.Sheet.{ruleLine, rules, Contents, contents, sheetOf, meant}
 use Rattle.sheet.proofs.Heads.{head-past}
 use Rattle.sheet.proofs.Ruled.{rule-past}
-use Rattle.rows.specs.Rules.{LowersAll}
-use Rattle.rows.specs.declared.rules.AllLowered.{AllLowered}
-use Rattle.rows.specs.declared.rules.AllLowered.the-variants.{Next, Full}
-use Rattle.rows.proofs.Sheets.{sheet-used, sheet-full}
+use Rattle.rule_rows.specs.Rules.{LowersAll}
+use Rattle.rule_rows.specs.declared.rules.AllLowered.{AllLowered}
+use Rattle.rule_rows.specs.declared.rules.AllLowered.the-variants.{Next, Full}
+use Rattle.rule_rows.proofs.Sheets.{sheet-used, sheet-full}
 use Rattle.lowering.specs.Sheets.{Outlined, Lowerable, RulesLower, SheetLowers}
 use Rattle.lowering.specs.Sheets.SheetLowers.{fits, over}
 use Rattle.lowering.specs.declared.whole.SheetLowered.the-variants.{Rows, Over}

@@ -8,8 +8,8 @@ use Rattle.text.specs.Read.{Read}
 use Rattle.text.specs.Read.Read.{got}
 use Rattle.tilco.specs.Formula.{Written, hiddens, spelled}
 use Rattle.tilco.specs.Lowering.{lows}
-use Rattle.rows.specs.Rules.{LowersAll}
-use Rattle.rows.specs.declared.rules.AllLowered.the-variants as all
+use Rattle.rule_rows.specs.Rules.{LowersAll}
+use Rattle.rule_rows.specs.declared.rules.AllLowered.the-variants as all
 use Rattle.lowering.specs.declared.line.LineLowered.{LineLowered}
 use Rattle.lowering.specs.declared.line.LineLowered.the-variants.{Line, Full}
 

@@ -13,9 +13,9 @@ use Rattle.tilco.specs.Formula.{Written, hiddens, spelled, Sheet, signalRows, f
 use Rattle.tilco.specs.Lowering.{lows, rowCount}
 use Rattle.sheet.specs.Sheet.{rules}
 use Rattle.sheet.specs.Reading.{Whole}
-use Rattle.rows.specs.Rules.{LowersAll}
-use Rattle.rows.specs.declared.rules.AllLowered.{AllLowered}
-use Rattle.rows.specs.declared.rules.AllLowered.the-variants.{Next}
+use Rattle.rule_rows.specs.Rules.{LowersAll}
+use Rattle.rule_rows.specs.declared.rules.AllLowered.{AllLowered}
+use Rattle.rule_rows.specs.declared.rules.AllLowered.the-variants.{Next}
 use Rattle.lowering.specs.declared.whole.SheetLowered.{SheetLowered}
 use Rattle.lowering.specs.declared.whole.SheetLowered.the-variants.{Rows, Over}
 

@@ -1,8 +1,8 @@
 // One rule's line, read and lowered with the defining rules of its hidden signals, whose rows start at `row`. Assumes that the line was
 // accepted. `at` is the next free place of the tops, `used` the rows in use.
 use formula::parser::Parsed;
-use rows::rules::AllLowered;
-use rows::rules::lower_whole_rule;
+use rule_rows::rules::AllLowered;
+use rule_rows::rules::lower_whole_rule;
 use sheet::rules::rule_line;
 ghost use Prim.Native.Nat.{_≤_};
 ghost use lib.ListN.{length};

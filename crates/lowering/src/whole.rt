@@ -1,7 +1,7 @@
 // All rules of an accepted sheet, in turn; refusal 9. The names are those at `places` of the sheet text `s`.
 use crate::line::LineLowered;
 use crate::line::lower_line;
-use rows::rules::AllLowered;
+use rule_rows::rules::AllLowered;
 ghost use mathlib.Core.Path.{_≡_};
 ghost use Prim.Native.Nat.{ℕ, _≤_};
 ghost use lib.ListN.{length};

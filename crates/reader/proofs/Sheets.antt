@@ -22,10 +22,10 @@ use Rattle.sheet.specs.Reading.{Sizes, Whole}
 use Rattle.sheet.proofs.Accepted.{sheet-fits, sheet-declared}
 use Rattle.sheet.proofs.Heads.{head-past}
 use Rattle.rows.specs.Words.{Blank}
-use Rattle.rows.specs.Rules.{LowersAll}
-use Rattle.rows.specs.declared.rules.AllLowered.the-variants.{Next}
-use Rattle.rows.proofs.InTurn.{tops-length, went-all}
-use Rattle.rows.proofs.Sheets.{sheet-row}
+use Rattle.rule_rows.specs.Rules.{LowersAll}
+use Rattle.rule_rows.specs.declared.rules.AllLowered.the-variants.{Next}
+use Rattle.rule_rows.proofs.InTurn.{tops-length, went-all}
+use Rattle.rule_rows.proofs.Sheets.{sheet-row}
 use Rattle.lowering.specs.Sheets.{Outlined, SheetLowers}
 use Rattle.lowering.specs.declared.whole.SheetLowered.{SheetLowered}
 use Rattle.lowering.specs.declared.whole.SheetLowered.the-variants.{Rows, Over}

@@ -1,5 +1,3 @@
-// Lowering: from a formula in an arena to rows, one word a row, each at its row's place in a lent buffer. Assumes a proper arena.
-pub mod formulas;
+// Rows as words, one word a row, each at its row's place in a lent buffer: a row more, and the rows of an interval.
 pub mod interval;
-pub mod rules;
 pub mod words;

@@ -1,0 +1,18 @@
+-- What lowering several formulas in turn answers and leaves in the row buffer and in the tops.
+-- Assumes nothing.
+use mathlib.Core.Path.{_≡_}
+use mathlib.Core.List.{List, map}
+use Prim.Native.Nat.{ℕ, _+_, _≤_, _<_}
+use lib.ListN.{length}
+use lib.Seq.{sets}
+use Rattle.tilco.specs.Lists.{total}
+use Rattle.tilco.specs.Lowering.{BTL, size, rowsAll, topsAll}
+use Rattle.rows.specs.Words.{word}
+use Rattle.rule_rows.specs.declared.rules.AllLowered.{AllLowered}
+use Rattle.rule_rows.specs.declared.rules.AllLowered.the-variants.{Next, Full}
+
+-- The formulas' rows stand in m′ from b on and their tops in ts′ from k on, and nothing else has changed; or the rows do not fit.
+unfoldable pub LowersAll : List BTL → ℕ → List ℕ → List ℕ → ℕ → List ℕ → List ℕ → AllLowered → Type 0
+LowersAll cs b m m′ k ts ts′ (Next at used) =
+    (at ≡ k + length cs) × (used ≡ b + total size cs) × (used ≤ length m) × (m′ ≡ sets m b (map word (rowsAll cs b))) × (ts′ ≡ sets ts k (topsAll cs b))
+LowersAll cs b m m′ k ts ts′ Full = (length m < b + total size cs) × (length m′ ≡ length m)

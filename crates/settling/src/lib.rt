@@ -1,0 +1,86 @@
+// One add to an empty table, and its listing. Assumes nothing.
+use listing::whole::write_listing;
+use listing::whole::write_refusal;
+use reader::adding::Adding;
+use reader::adding::add;
+use reader::opening::Opening;
+use reader::opening::open_sheet;
+use table::words_of;
+use writing::Next;
+ghost use mathlib.Core.Path.{_≡_};
+ghost use Prim.Native.Nat.{_≤_};
+ghost use lib.ListN.{length};
+ghost use Rattle.settling.specs.Prints.{lengthOf, Begun, Printed, PrintedWhole};
+
+// Adds the readings to the sheet's empty table, and writes the listing.
+fn settle_table(
+    s: &[u8],
+    places: &[u64],
+    window: usize,
+    count: usize,
+    readings: &[u8],
+    table: &mut [u64],
+    out: &mut [u8],
+) -> Next
+    requires { ⌜ Begun (now s) (now places) window count (now table) ⌝ }
+    ensures { λ v. ⌜ Printed (now (s .entry)) (now (readings .entry)) (now (out .entry)) (now (out .exit)) v ⌝ }
+{
+    let a = add(s, readings, table);
+    match a {
+        Adding::Added { new, clash } => {
+            let n = words_of(window);
+            write_listing(s, places, window, n, table, count, new, clash, out)
+        }
+        Adding::Refused(k, p) => write_refusal(k, p, out),
+    }
+}
+
+// Settles the readings against the sheet, and writes the listing from the buffer's first place on.
+fn settle_into(s: &[u8], readings: &[u8], out: &mut [u8]) -> Next
+    ensures { λ v. ⌜ Printed (now (s .entry)) (now (readings .entry)) (now (out .entry)) (now (out .exit)) v ⌝ }
+{
+    let mut places = [0u64; 64];
+    let mut rows = [0u64; 1024];
+    let mut tops = [0u16; 96];
+    let o = open_sheet(s, &mut places, &mut rows, &mut tops);
+    match o {
+        Opening::Sheet {
+            window,
+            signals,
+            tops: _,
+            count,
+        } => {
+            let mut table = [0u64; 2048];
+            let words = 2 * count * words_of(window);
+            settle_table(
+                s,
+                &places[..signals],
+                window,
+                count,
+                readings,
+                &mut table[..words],
+                out,
+            )
+        }
+        Opening::Refused(k, p) => write_refusal(k, p, out),
+    }
+}
+
+// The listing's length, or 0 if there was no room.
+fn length_of(v: Next) -> usize
+    ensures { λ n. ⌜ n ≡ lengthOf v ⌝ }
+{
+    match v {
+        Next::Place(n) => n,
+        Next::Full => 0,
+    }
+}
+
+// What settle prints for a sheet and readings: it stands at the buffer's start, and its length is answered.
+pub fn settle(s: &[u8], readings: &[u8], out: &mut [u8]) -> usize
+    requires { ⌜ 8192 ≤ length (now out) ⌝ }
+    ensures { λ n. ⌜ PrintedWhole (now (s .entry)) (now (readings .entry)) (now (out .entry)) (now (out .exit)) n ⌝ }
+{
+    let v = settle_into(s, readings, out);
+    length_of(v)
+}
