@@ -91,7 +91,7 @@ module _ {s T places B tops : List ℕ} {w t count : ℕ} (h : AtHand s T places
   table-inside = of-contents (λ p v m. Inside v (Stands m T)) (lent .inside)
 
   -- Each declared signal has a row.
-  signals-few : (length places ≤ 64) × (length places ≤ count) × (count ≤ 1024)
+  pub signals-few : (length places ≤ 64) × (length places ≤ count) × (count ≤ 1024)
   signals-few =
       let p : length places ≡ length (c .places) = ap length (k .names-are) in
       (omega (arith, known .sizes .signals-high), omega (arith, row-count (meant c), k .rows), omega (arith, known .rows, k .rows))

@@ -2,7 +2,7 @@
 // A text stands under a heading: `=== sheet` or `=== readings`, then what it shows. Readings are read against the sheet before them.
 use libc::STDIN_FILENO;
 use readings::whole::Outcome;
-use readings::whole::check_readings;
+use readings::whole::take_readings;
 use run_cases::heading;
 use run_cases::next_line;
 use run_cases::print;
@@ -35,7 +35,7 @@ fn run_sheet(cases: &[u8], at: usize)
     }
 }
 
-// Reads the readings under the heading at `at`, against the sheet under that at `above`.
+// Reads the readings under the heading at `at`, against the sheet under that at `above`, into a table with a word for each of 64 signals and each value.
 fn run_readings(cases: &[u8], above: usize, at: usize)
     requires { ⌜ (above < length (now cases)) × (at < length (now cases)) ⌝ }
 {
@@ -56,7 +56,8 @@ fn run_readings(cases: &[u8], above: usize, at: usize)
         print(b"--- no sheet\n");
         return;
     };
-    let answer = check_readings(s, &places[..signals], window, &buffer[..m]);
+    let mut table = [0u64; 128];
+    let answer = take_readings(s, &places[..signals], window, 1, &buffer[..m], &mut table);
     match answer {
         Outcome::Accepted => print(b"--- accepted\n"),
         Outcome::Refused(number, place) => print_refusal(number, place),

@@ -22,6 +22,7 @@ use Rattle.tilco.specs.Table.{Stands, Reading, Inside}
 use Rattle.tilco.proofs.Lists.{all-append, all-at, all-weaker}
 use Rattle.table.specs.Puts.{Puts}
 use Rattle.readings.specs.Readings.{reading, readings}
+use Rattle.readings.specs.Noted.{Room}
 use Rattle.readings.proofs.Lines.{Within, reading-past}
 use Rattle.readings.proofs.Turns.{readings-every}
 
@@ -58,8 +59,13 @@ pub puts-inside : (k W n : ℕ) {ms : List Mark} {T T′ : List ℕ} → All (Wi
 puts-inside k W n {ms} a i p =
     λ r t v m. ⊎-elim (i r t v) (λ x. all-at (Within k W) ms a (mark r t v) x .1) (p .exactly (mark r t v) .0 m)
 
--- The table has room for a declared signal's row.
-pub room-for : (s ps : List ℕ) (n row m : ℕ) → row < length (namesAt s ps) → 2 * length ps * n ≤ m → 2 * (row + 1) * n ≤ m
-room-for s ps n row m h l =
-    let b : 2 * (row + 1) * n ≤ 2 * length ps * n = mul-le-mul-right n (omega (arith, names-many s ps)) in
-    omega arith
+-- A table with room for a declared signal's row has room for each of the marks.
+pub readings-room : (s ps : List ℕ) (W n m : ℕ) (r : List ℕ) {ms : List Mark} {q : ℕ} → 1 ≤ W → W ≤ 64 * n → 2 * length ps * n ≤ m
+    → readings (namesAt s ps) W r ≡ got ms q → All (Room n m) ms
+readings-room s ps W n m r {ms} some h l e =
+    all-weaker (Within (length (namesAt s ps)) W) (Room n m) room-for ms (readings-within (namesAt s ps) W r some e)
+  where
+    room-for : (k : Mark) → Within (length (namesAt s ps)) W k → Room n m k
+    room-for (mark x t v) i =
+        let b : 2 * (x + 1) * n ≤ 2 * length ps * n = mul-le-mul-right n (omega (arith, names-many s ps, i .0)) in
+        (omega (arith, i .1), omega arith)

@@ -8,15 +8,16 @@ use borrow.Author.Tests.{lt-ltb, le-ltb, ltb-true}
 use lib.Dec.{ltb, eqb}
 use lib.ListN.{length}
 use Rattle.text.specs.Read.Read.{got, refused}
-use Rattle.text.specs.Bytes.{bytes}
+use Rattle.text.specs.Bytes.{bytes, between}
 use Rattle.text.specs.declared.words.Word.{Word}
 use Rattle.text.specs.declared.words.Word.the-variants.{Name, Other}
 use Rattle.text.specs.Words.{wordAt, namesAt, findName, nameAt}
-use Rattle.text.specs.Lines.{line, wholeName, rangedLine, nameLine}
+use Rattle.text.specs.Lines.{line, wholeName, numberLine, rangedLine, nameLine}
 use Rattle.text.proofs.Places.{Reach}
-use Rattle.text.proofs.Names.{names-many}
+use Rattle.text.proofs.Values.{number-reach}
+use Rattle.text.proofs.Names.{names-many, name-reach}
 use Rattle.text.proofs.Answers.{not-both, same-value, same-place, through, came}
-use Rattle.text.proofs.Keyed.{placed, name-held, line-past, ranged-past}
+use Rattle.text.proofs.Keyed.{placed, number-held, name-held, line-past, ranged-past}
 use Rattle.tilco.specs.Inference.{Mark, mark}
 use Rattle.readings.specs.Readings.{knownLine, reading}
 
@@ -56,6 +57,24 @@ known-past names r p h =
     let x = through (ltb (findName (wordAt r (d .value)) names) (length names)) (findName (wordAt r (d .value)) names) (d .place) 12 (d .value) (d .then) in
     let y = ltb-true (findName (wordAt r (d .value)) names) (length names) (x .0) in
     (record { ahead = omega (arith, x .2, w .ahead); inside = omega (arith, x .2, w .inside) }, omega (arith, x .1, y))
+
+-- A line with a number has at least a digit and its LF after its key.
+ranged-long : (r : List ℕ) (p : ℕ) (key : List ℕ) (form content lo hi : ℕ) {x q : ℕ} → rangedLine r p key form content lo hi ≡ got x q → p + length key + 2 ≤ q
+unfolding rangedLine
+ranged-long r p key form content lo hi h =
+    let d = came (numberLine r p key form) _ h in
+    let t = through (between lo hi (d .value)) (d .value) (d .place) content (p + length key) (d .then) in
+    let w = number-held r p key form (d .first) in
+    omega (arith, t .2, w .next, w .at .value, number-reach r (w .value) (w .what) .0 .ahead)
+
+-- A line with a declared name has at least a letter and its LF after its key.
+known-long : (names : List (List ℕ)) (r : List ℕ) (p : ℕ) {i q : ℕ} → knownLine names r p ≡ got i q → p + length (bytes "signal=") + 2 ≤ q
+unfolding knownLine
+known-long names r p h =
+    let d = came (nameLine r p (bytes "signal=") 11 12) _ h in
+    let x = through (ltb (findName (wordAt r (d .value)) names) (length names)) (findName (wordAt r (d .value)) names) (d .place) 12 (d .value) (d .then) in
+    let w = name-held r p (bytes "signal=") 11 12 (d .first) in
+    omega (arith, x .2, w .next, w .at .value, name-reach r (w .value) (w .what .0) .0 .ahead)
 
 -- The mark is of one of k signals at a tick of the window W.
 abbrev pub Within : ℕ → ℕ → Mark → Type 0
@@ -126,6 +145,15 @@ module _ (names : List (List ℕ)) (W : ℕ) (r : List ℕ) (p : ℕ) where
       let g = known-past names r (l .second) (l .signal-line) in
       let h = ranged-past r (l .third) (bytes "value=") 11 14 0 1 (l .value-line) in
       record { ahead = omega (arith, f .0 .ahead, g .0 .ahead, h .0 .ahead); inside = h .0 .inside }
+
+  -- It has at least 22 bytes.
+  pub reading-long : {m : Mark} {q : ℕ} → reading names W r p ≡ got m q → p + 22 ≤ q
+  reading-long e =
+      let l = three-lines e in
+      let f = ranged-long r p (bytes "at=") 11 13 0 (W - 1) (l .at-line) in
+      let g = known-long names r (l .second) (l .signal-line) in
+      let h = ranged-long r (l .third) (bytes "value=") 11 14 0 1 (l .value-line) in
+      omega arith
 
   -- Its mark is within bounds.
   pub reading-past : 1 ≤ W → (m : Mark) {q : ℕ} → reading names W r p ≡ got m q → Read-past (length names) W r p m q

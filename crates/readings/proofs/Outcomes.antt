@@ -4,6 +4,9 @@ use mathlib.Core.Path.{_≡_, refl, sym, _∙_}
 use mathlib.Core.List.{List}
 use Prim.Native.Nat.{ℕ, _≤_}
 use native.Mathlib.Omega.{arith}
+use lib.ListN.{length}
+use Rattle.text.specs.declared.lines.Step.{Step}
+use Rattle.text.specs.declared.lines.Step.the-variants as step
 use Rattle.text.specs.Read.{Read}
 use Rattle.text.specs.Read.Read.{got, refused}
 use Rattle.text.proofs.Answers.{not-both, same-value}
@@ -12,11 +15,10 @@ use Rattle.ticks.proofs.Tables.{same-table}
 use Rattle.tilco.specs.Inference.{Mark, mark}
 use Rattle.readings.specs.declared.whole.Outcome.{Outcome}
 use Rattle.readings.specs.declared.whole.Outcome.the-variants.{Accepted, Refused}
+use Rattle.readings.specs.Noted.{marksIn, Notes}
+use Rattle.readings.specs.Noted.Notes.{all-noted, refused-at}
 use Rattle.table.specs.Puts.{Puts}
-use Rattle.readings.specs.Taking.{Checked, Took}
-use Rattle.table.specs.Puts.{Puts}
-use Rattle.readings.specs.Taking.Checked.{accepted, refused-at}
-use Rattle.table.specs.Puts.{Puts}
+use Rattle.readings.specs.Taking.{Took}
 use Rattle.readings.specs.Taking.Took.{taken, kept}
 use Rattle.table.proofs.Marks.{puts-same}
 
@@ -24,16 +26,29 @@ use Rattle.table.proofs.Marks.{puts-same}
 other-outcome : {k p : ℕ} → Accepted ≡ Refused k p → ⊥
 other-outcome e = let z : _≡_ {A = ℕ} 0 1 = cc in omega arith
 
--- A refused text leaves the table as it is.
-pub not-taken : {R : Read (List Mark)} {a : Outcome} {k p : ℕ} (n : ℕ) (T : List ℕ) → Checked R a → a ≡ Refused k p → Took R n T T a
-not-taken n T (accepted ms q e) x = absurd (other-outcome x)
-not-taken n T (refused-at k p e) x = kept k p e refl
+-- No answer both holds a count and is a refusal.
+other-step : {j q k p : ℕ} → step.Got j q ≡ step.Refused k p → ⊥
+other-step e = let z : _≡_ {A = ℕ} 0 1 = cc in omega arith
 
--- An accepted text is taken where its marks are put.
-pub all-taken : {R : Read (List Mark)} {a : Outcome} (n : ℕ) (T T′ : List ℕ) → Checked R a → a ≡ Accepted
-    → ((ms : List Mark) (q : ℕ) → R ≡ got ms q → Puts n ms T T′) → Took R n T T′ a
-all-taken n T T′ (accepted ms q e) x f = taken ms q e (f ms q e)
-all-taken n T T′ (refused-at k p e) x f = absurd (other-outcome (sym x))
+-- A refused text leaves the table as it is.
+pub not-taken : {R : Read (List Mark)} {a : List ℕ} {v : Step} {k p : ℕ} (n : ℕ) (T : List ℕ) → Notes R a v → v ≡ step.Refused k p → Took R n T T (Refused k p)
+not-taken n T (all-noted j q l e) x = absurd (other-step x)
+not-taken {k = k} {p = p} n T (refused-at j q e) x =
+    let i : j ≡ k = cc in
+    let h : q ≡ p = cc in
+    kept k p (cc) refl
+
+-- The marks of an accepted text are in the array.
+pub record Noted-as (R : Read (List Mark)) (a : List ℕ) (k q : ℕ) : Type 0 where
+  pub few : k ≤ length a
+  pub all : R ≡ got (marksIn a k) q
+
+pub when-noted : {R : Read (List Mark)} {a : List ℕ} {v : Step} {k q : ℕ} → Notes R a v → v ≡ step.Got k q → Noted-as R a k q
+when-noted {a = a} {k = k} {q = q} (all-noted j u l e) x =
+    let i : j ≡ k = cc in
+    let h : u ≡ q = cc in
+    record { few = omega arith; all = e ∙ cc }
+when-noted (refused-at j u e) x = absurd (other-step (sym x))
 
 -- What an accepted text says: its marks are put.
 pub record Accepted-as (R : Read (List Mark)) (n : ℕ) (T T′ : List ℕ) : Type 0 where

@@ -10,11 +10,6 @@ use Rattle.table.specs.Puts.{Puts}
 use Rattle.readings.specs.declared.whole.Outcome.{Outcome}
 use Rattle.readings.specs.declared.whole.Outcome.the-variants.{Accepted, Refused}
 
--- What each outcome of a check says of the text.
-pub data Checked (R : Read (List Mark)) : Outcome → Type 0 where
-  accepted : (ms : List Mark) (q : ℕ) → R ≡ got ms q → Checked R Accepted
-  refused-at : (k p : ℕ) → R ≡ refused k p → Checked R (Refused k p)
-
 -- What each outcome of taking says of the text and the table: every reading is put, or every word is kept.
 pub data Took (R : Read (List Mark)) (n : ℕ) (T T′ : List ℕ) : Outcome → Type 0 where
   taken : (ms : List Mark) (q : ℕ) → R ≡ got ms q → Puts n ms T T′ → Took R n T T′ Accepted

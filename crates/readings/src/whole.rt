@@ -1,19 +1,18 @@
-// The readings of a whole text: they are all checked before the first mark is put. Assumes nothing of the text.
+// The readings of a whole text: it is read once, and no mark is put before all are accepted. Assumes nothing of the text.
+use crate::noted::number_of;
+use crate::noted::put_noted;
 use crate::reading::Reading;
 use crate::reading::reading_at;
-use table::put_mark;
+use text::lines::Step;
 ghost use mathlib.Core.Path.{_≡_};
-ghost use mathlib.Core.List.{List};
-ghost use Prim.Native.Nat.{ℕ, _*_, _≤_};
+ghost use Prim.Native.Nat.{_*_, _≤_};
 ghost use lib.ListN.{length};
+ghost use Rattle.text.specs.declared.lines.Step.the-variants.{Refused};
 ghost use Rattle.text.specs.Read.{numberOf, placeOf};
-ghost use Rattle.text.specs.Read.Read.{got};
 ghost use Rattle.text.specs.Words.{namesAt};
-ghost use Rattle.tilco.specs.Inference.{Mark};
-ghost use Rattle.table.specs.Puts.{Puts};
-ghost use Rattle.readings.specs.declared.whole.Outcome.the-variants.{Refused};
 ghost use Rattle.readings.specs.Readings.{readings, readingOf};
-ghost use Rattle.readings.specs.Taking.{Checked, Took};
+ghost use Rattle.readings.specs.Noted.{Notes};
+ghost use Rattle.readings.specs.Taking.{Took};
 
 // A whole text is accepted, or a refusal's number and place are given.
 pub enum Outcome {
@@ -22,7 +21,7 @@ pub enum Outcome {
 }
 
 // A reading's refusal as the text's; 0 and 0 for a reading that was taken.
-fn refused_reading(a: Reading) -> Outcome
+fn refused_reading(a: Reading) -> Step
     ensures { λ v. ⌜ v ≡ Refused (numberOf (readingOf a)) (placeOf (readingOf a)) ⌝ }
 {
     match a {
@@ -31,44 +30,23 @@ fn refused_reading(a: Reading) -> Outcome
             signal: _,
             value: _,
             next: _,
-        } => Outcome::Refused(0, 0),
-        Reading::Refused(n, p) => Outcome::Refused(n, p),
+        } => Step::Refused(0, 0),
+        Reading::Refused(n, p) => Step::Refused(n, p),
     }
 }
 
-// Is every reading of the text accepted?
-pub fn check_readings(s: &[u8], places: &[u64], window: usize, r: &[u8]) -> Outcome
-    requires { ⌜ 1 ≤ window ⌝ }
-    ensures { λ v. ⌜ Checked (readings (namesAt (now (s .entry)) (now (places .entry))) window (now (r .entry))) v ⌝ }
+// Notes the mark of each reading of the text: how many there are, and the text's end.
+fn note_readings(s: &[u8], places: &[u64], window: usize, r: &[u8], noted: &mut [u32]) -> Step
+    requires { ⌜ (1 ≤ window) × (window ≤ 4096) × (length (now places) ≤ 64) × (1490 ≤ length (now noted)) ⌝ }
+    ensures { λ v. ⌜ Notes (readings (namesAt (now (s .entry)) (now (places .entry))) window (now (r .entry))) (now (noted .exit)) v ⌝ }
 {
     if 32768 < r.len() {
-        return Outcome::Refused(10, 0);
+        return Step::Refused(10, 0);
     }
+    let mut count = 0;
     let mut at = 0;
     while at < r.len() {
         let a = reading_at(s, places, window, r, at);
-        let Reading::Taken {
-            tick: _,
-            signal: _,
-            value: _,
-            next,
-        } = a
-        else {
-            return refused_reading(a);
-        };
-        at = next;
-    }
-    Outcome::Accepted
-}
-
-// Puts the marks of an accepted text into the table.
-fn put_readings(s: &[u8], places: &[u64], window: usize, n: usize, r: &[u8], table: &mut [u64])
-    requires { ⌜ (1 ≤ window) × (window ≤ 64 * n) × (2 * length (now places) * n ≤ length (now table)) ⌝ }
-    ensures { λ _. ⌜ ((ms : List Mark) (q : ℕ) → readings (namesAt (now (s .entry)) (now (places .entry))) window (now (r .entry)) ≡ got ms q → Puts n ms (now (table .entry)) (now (table .exit))) ⌝ }
-{
-    let mut p = 0;
-    while p < r.len() {
-        let a = reading_at(s, places, window, r, p);
         let Reading::Taken {
             tick,
             signal,
@@ -76,14 +54,17 @@ fn put_readings(s: &[u8], places: &[u64], window: usize, n: usize, r: &[u8], tab
             next,
         } = a
         else {
-            return;
+            return refused_reading(a);
         };
-        put_mark(table, n, signal, tick, value);
-        p = next;
+        noted[count] = number_of(signal, tick, value);
+        count += 1;
+        at = next;
     }
+    Step::Got(count, at)
 }
 
 // Takes the readings of the text into the table; at a refusal the table keeps every word.
+// A reading has at least 22 bytes, so a text of 32,768 has at most 1,489; filled with ones, the array is cleared by fewer instructions than with noughts.
 pub fn take_readings(
     s: &[u8],
     places: &[u64],
@@ -92,13 +73,16 @@ pub fn take_readings(
     r: &[u8],
     table: &mut [u64],
 ) -> Outcome
-    requires { ⌜ (1 ≤ window) × (window ≤ 64 * n) × (2 * length (now places) * n ≤ length (now table)) ⌝ }
+    requires { ⌜ (1 ≤ window) × (window ≤ 4096) × (window ≤ 64 * n) × (length (now places) ≤ 64) × (2 * length (now places) * n ≤ length (now table)) ⌝ }
     ensures { λ v. ⌜ Took (readings (namesAt (now (s .entry)) (now (places .entry))) window (now (r .entry))) n (now (table .entry)) (now (table .exit)) v ⌝ }
 {
-    let c = check_readings(s, places, window, r);
-    let Outcome::Accepted = c else {
-        return c;
-    };
-    put_readings(s, places, window, n, r, table);
-    c
+    let mut noted = [1u32; 1490];
+    let c = note_readings(s, places, window, r, &mut noted);
+    match c {
+        Step::Got(count, _) => {
+            put_noted(&noted, count, n, table);
+            Outcome::Accepted
+        }
+        Step::Refused(k, p) => Outcome::Refused(k, p),
+    }
 }

@@ -54,17 +54,22 @@ returns c = search needs
 array-share-prefix-places : tie.Need-array-share-prefix-places
 array-share-prefix-places c = let w = when-sheet (c .before .before .before .before .read-sheet .ensures) (c .before .window .given .1) in omega (arith, w .sizes .signals-high)
 
-slice-aggregate-check-readings : tie.Need-slice-aggregate-check-readings
-slice-aggregate-check-readings c = let w = when-sheet (c .before .before .before .before .before .read-sheet .ensures) (c .before .before .window .given .1) in simp length-take (omega (arith, w .sizes .signals-high))
+slice-aggregate-take-readings : tie.Need-slice-aggregate-take-readings
+slice-aggregate-take-readings c = let w = when-sheet (c .before .before .before .before .before .read-sheet .ensures) (c .before .before .window .given .1) in simp length-take (omega (arith, w .sizes .signals-high))
 
 array-share-prefix-buffer : tie.Need-array-share-prefix-buffer
 array-share-prefix-buffer c = search needs
 
-slice-aggregate-check-readings-2 : tie.Need-slice-aggregate-check-readings-2
-slice-aggregate-check-readings-2 c = search needs
+slice-aggregate-take-readings-2 : tie.Need-slice-aggregate-take-readings-2
+slice-aggregate-take-readings-2 c = search needs
 
-check-readings-requires : tie.Need-check-readings-requires
-check-readings-requires c κs = let w = when-sheet (c .before .before .before .before .before .before .read-sheet .ensures) (c .before .before .before .window .given .1) in w .sizes .window-low
+slice-aggregate-take-readings-3 : tie.Need-slice-aggregate-take-readings-3
+slice-aggregate-take-readings-3 c = search needs
+
+take-readings-requires : tie.Need-take-readings-requires
+take-readings-requires c κs =
+    let w = when-sheet (c .before .before .before .before .before .before .before .read-sheet .ensures) (c .before .before .before .before .window .given .1) in
+    (w .sizes .window-low, omega (arith, w .sizes .window-high), omega (arith, w .sizes .window-high), simp length-take (omega (arith, w .sizes .signals-high)), simp length-take (omega (arith, w .sizes .signals-high)))
 
 enum-told-2 : tie.Need-enum-told-2
 enum-told-2 c = search needs
@@ -107,10 +112,11 @@ run-readings-spec =
     print-requires
     returns
     array-share-prefix-places
-    slice-aggregate-check-readings
+    slice-aggregate-take-readings
     array-share-prefix-buffer
-    slice-aggregate-check-readings-2
-    check-readings-requires
+    slice-aggregate-take-readings-2
+    slice-aggregate-take-readings-3
+    take-readings-requires
     enum-told-2
     slice-aggregate-print-2
     print-requires-2

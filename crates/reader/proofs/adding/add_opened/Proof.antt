@@ -2,7 +2,7 @@
 use native.Mathlib.Omega.{arith}
 use mathlib.Core.Path.{refl, _∙_}
 use Rattle.readings.proofs.Outcomes.{when-accepted, when-refused}
-use Rattle.reader.proofs.Outcomes.{some-window, some-words, table-length, signals-fit, readings-refused, settle-asks, same-size, no-fewer, gains}
+use Rattle.reader.proofs.Outcomes.{some-window, some-words, table-length, signals-few, signals-fit, readings-refused, settle-asks, same-size, no-fewer, gains}
 use borrow.Author.Needs.{needs}
 use Rattle.reader.proofs.adding.add_opened.Statement.{statement}
 use Rattle.reader.proofs.adding.add_opened.Tie as tie
@@ -14,7 +14,9 @@ count-facts-requires : tie.Need-count-facts-requires
 count-facts-requires c κs = (some-words (c .before .before .before .before .before .before .before .before .pre) _ (c .before .words-of .ensures) .0, signals-fit (c .before .before .before .before .before .before .before .before .pre) _ (c .before .words-of .ensures) .0, signals-fit (c .before .before .before .before .before .before .before .before .pre) _ (c .before .words-of .ensures) .1)
 
 take-readings-requires : tie.Need-take-readings-requires
-take-readings-requires c κs = (some-window (c .before .before .before .before .before .before .before .before .before .before .pre) _ (c .before .before .before .words-of .ensures) .0, some-words (c .before .before .before .before .before .before .before .before .before .before .pre) _ (c .before .before .before .words-of .ensures) .1, signals-fit (c .before .before .before .before .before .before .before .before .before .before .pre) _ (c .before .before .before .words-of .ensures) .0)
+take-readings-requires c κs =
+    let w = some-window (c .before .before .before .before .before .before .before .before .before .before .pre) _ (c .before .before .before .words-of .ensures) in
+    (w .0, omega (arith, w .1), some-words (c .before .before .before .before .before .before .before .before .before .before .pre) _ (c .before .before .before .words-of .ensures) .1, signals-few (c .before .before .before .before .before .before .before .before .before .before .pre) _ (c .before .before .before .words-of .ensures) .0, signals-fit (c .before .before .before .before .before .before .before .before .before .before .pre) _ (c .before .before .before .words-of .ensures) .0)
 
 enum-told : tie.Need-enum-told
 enum-told c = search needs
