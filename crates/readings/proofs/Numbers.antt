@@ -1,13 +1,13 @@
 -- Marks noted as numbers: the number of a mark, one more in an array, and what holds of each.
 -- Assumes nothing.
-use mathlib.Core.Path.{_≡_, refl, ap, _∙_}
-use mathlib.Core.Bool.{Bool, true, false}
+use mathlib.Core.Path.{_≡_}
+use mathlib.Core.Bool.{Bool}
 use mathlib.Core.List.{List, [], _∷_, _++_, map-append}
 use Prim.Native.Nat.{ℕ, zero, suc, _+_, _*_, _/_, _%_, _<_, _≤_}
 use native.Mathlib.Numerals.{add-one}
 use native.Mathlib.Omega.{arith}
 use lib.Dec.{eqb}
-use lib.ListN.{length, getD, set, take}
+use lib.ListN.{length, getD, set}
 use lib.Seq.{take-suc, take-suc-set}
 use Rattle.tilco.specs.Inference.{Mark, mark}
 use Rattle.tilco.specs.Lists.{All}

@@ -1,13 +1,13 @@
 -- Outcomes of taking readings: how each is reached, and that two outcomes for one input coincide.
 -- Assumes what each law states.
-use mathlib.Core.Path.{_≡_, refl, sym, _∙_}
+use mathlib.Core.Path.{_≡_, refl, sym, ap, _∙_}
 use mathlib.Core.List.{List}
 use Prim.Native.Nat.{ℕ, _≤_}
 use native.Mathlib.Omega.{arith}
 use lib.ListN.{length}
 use Rattle.text.specs.declared.lines.Step.{Step}
 use Rattle.text.specs.declared.lines.Step.the-variants as step
-use Rattle.text.specs.Read.{Read}
+use Rattle.text.specs.Read.{Read, says}
 use Rattle.text.specs.Read.Read.{got, refused}
 use Rattle.text.proofs.Answers.{not-both, same-value}
 use Rattle.ticks.specs.Ticks.{Small}
@@ -26,13 +26,9 @@ use Rattle.table.proofs.Marks.{puts-same}
 other-outcome : {k p : ℕ} → Accepted ≡ Refused k p → ⊥
 other-outcome e = let z : _≡_ {A = ℕ} 0 1 = cc in omega arith
 
--- No answer both holds a count and is a refusal.
-other-step : {j q k p : ℕ} → step.Got j q ≡ step.Refused k p → ⊥
-other-step e = let z : _≡_ {A = ℕ} 0 1 = cc in omega arith
-
 -- A refused text leaves the table as it is.
 pub not-taken : {R : Read (List Mark)} {a : List ℕ} {v : Step} {k p : ℕ} (n : ℕ) (T : List ℕ) → Notes R a v → v ≡ step.Refused k p → Took R n T T (Refused k p)
-not-taken n T (all-noted j q l e) x = absurd (other-step x)
+not-taken n T (all-noted j q l e) x = absurd (not-both (ap says x))
 not-taken {k = k} {p = p} n T (refused-at j q e) x =
     let i : j ≡ k = cc in
     let h : q ≡ p = cc in
@@ -48,7 +44,7 @@ when-noted {a = a} {k = k} {q = q} (all-noted j u l e) x =
     let i : j ≡ k = cc in
     let h : u ≡ q = cc in
     record { few = omega arith; all = e ∙ cc }
-when-noted (refused-at j u e) x = absurd (other-step (sym x))
+when-noted (refused-at j u e) x = absurd (not-both (ap says (sym x)))
 
 -- What an accepted text says: its marks are put.
 pub record Accepted-as (R : Read (List Mark)) (n : ℕ) (T T′ : List ℕ) : Type 0 where

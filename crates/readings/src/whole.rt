@@ -37,7 +37,7 @@ fn refused_reading(a: Reading) -> Step
 
 // Notes the mark of each reading of the text: how many there are, and the text's end.
 fn note_readings(s: &[u8], places: &[u64], window: usize, r: &[u8], noted: &mut [u32]) -> Step
-    requires { ⌜ (1 ≤ window) × (window ≤ 4096) × (length (now places) ≤ 64) × (1490 ≤ length (now noted)) ⌝ }
+    requires { ⌜ (1 ≤ window) × (window ≤ 4096) × (length (now places) ≤ 64) × (1489 ≤ length (now noted)) ⌝ }
     ensures { λ v. ⌜ Notes (readings (namesAt (now (s .entry)) (now (places .entry))) window (now (r .entry))) (now (noted .exit)) v ⌝ }
 {
     if 32768 < r.len() {
@@ -64,7 +64,7 @@ fn note_readings(s: &[u8], places: &[u64], window: usize, r: &[u8], noted: &mut 
 }
 
 // Takes the readings of the text into the table; at a refusal the table keeps every word.
-// A reading has at least 22 bytes, so a text of 32,768 has at most 1,489; filled with ones, the array is cleared by fewer instructions than with noughts.
+// A reading has at least 22 bytes, so a text of 32,768 bytes has at most 1,489. An array of ones is made by vector stores, one of noughts byte by byte.
 pub fn take_readings(
     s: &[u8],
     places: &[u64],
@@ -76,7 +76,7 @@ pub fn take_readings(
     requires { ⌜ (1 ≤ window) × (window ≤ 4096) × (window ≤ 64 * n) × (length (now places) ≤ 64) × (2 * length (now places) * n ≤ length (now table)) ⌝ }
     ensures { λ v. ⌜ Took (readings (namesAt (now (s .entry)) (now (places .entry))) window (now (r .entry))) n (now (table .entry)) (now (table .exit)) v ⌝ }
 {
-    let mut noted = [1u32; 1490];
+    let mut noted = [1u32; 1489];
     let c = note_readings(s, places, window, r, &mut noted);
     match c {
         Step::Got(count, _) => {

@@ -1,4 +1,4 @@
--- `note_readings` meets its contract. The invariant: the loop over the readings stands at `at`, its marks are the first numbers of the array, and each took 22 bytes.
+-- `note_readings` meets its contract. The invariant: the loop over the readings stands at `at`, the array's first numbers are their marks, and each had 22 bytes.
 -- Assumes nothing.
 use borrow.Author.Needs.{needs}
 use native.Mathlib.Omega.{arith}
@@ -69,7 +69,10 @@ mul-noted : tie.Need-mul-noted Inv-loop μ-loop
 mul-noted c = search needs
 
 slice-write-noted : tie.Need-slice-write-noted Inv-loop μ-loop
-slice-write-noted c = omega (arith, c .before .before .before .before .before .before .loop .inv .0, c .before .before .before .before .before .before .loop .inv .1, c .before .before .before .before .before .loop-test .taken, c .before .before .before .before .before .before .before .if1 .left, c .before .before .before .before .before .before .before .before .before .before .before .before .pre)
+slice-write-noted c =
+    let a = answered readingOf (c .before .before .before .before .reading-at .ensures) (c .before .before .a .given .1) in
+    let w = reading-past _ _ _ _ (omega arith) _ a in
+    omega (arith, c .before .before .before .before .before .before .loop .inv .0, c .before .before .before .before .before .before .loop .inv .1, reading-long _ _ _ _ a, w .past .inside, c .before .before .before .before .before .before .before .if1 .left, c .before .before .before .before .before .before .before .before .before .before .before .before .pre)
 
 add-count : tie.Need-add-count Inv-loop μ-loop
 add-count c = omega arith
@@ -85,11 +88,9 @@ loop-again c =
     let a = answered readingOf (c .before .before .before .before .reading-at .ensures) (c .before .before .a .given .1) in
     let w = reading-past _ _ _ _ (omega arith) _ a in
     let z = c .before .before .before .before .before .before .loop .inv in
-    let l : c .before .before .before .before .before .before .loop .count < length (c .before .before .before .before .before .before .loop .noted) = omega (arith, z .0, z .1, c .before .before .before .before .before .loop-test .taken, c .before .before .before .before .before .before .before .if1 .left, c .before .before .before .before .before .before .before .before .before .before .before .before .pre) in (
-      simp length-set (z .0),
-      omega (arith, z .1, reading-long _ _ _ _ a),
-      rw (marks-more _ _ l _ (c .number-of .ensures)) (passed-one _ _ (z .2) (c .before .before .before .before .before .loop-test .taken) a (w .past)),
-    )
+    let u = reading-long _ _ _ _ a in
+    let l : c .before .before .before .before .before .before .loop .count < length (c .before .before .before .before .before .before .loop .noted) = omega (arith, z .0, z .1, u, w .past .inside, c .before .before .before .before .before .before .before .if1 .left, c .before .before .before .before .before .before .before .before .before .before .before .before .pre) in
+    (simp length-set (z .0), omega (arith, z .1, u), rw (marks-more _ _ l _ (c .number-of .ensures)) (passed-one _ _ (z .2) (c .before .before .before .before .before .loop-test .taken) a (w .past)))
 
 same-length-2 : tie.Need-same-length-2 Inv-loop μ-loop
 same-length-2 c = c .before .loop .inv .0
