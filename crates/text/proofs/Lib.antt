@@ -8,6 +8,7 @@ pub mod Names
 pub mod Values
 pub mod Answers
 pub mod Keyed
+pub mod ValueFirst
 pub mod Loops
 pub mod Later
 pub mod LinesLater

@@ -1,20 +1,22 @@
 -- Names: when two texts are the same, and which of a list of names a text is.
 -- Assumes nothing.
-use mathlib.Core.Path.{_≡_, refl, sym, ap}
+use mathlib.Core.Path.{_≡_, refl, sym, ap, _∙_}
 use mathlib.Core.Logic.{_↔_}
 use mathlib.Core.Bool.{Bool, true, false, false≢true, not, and-eq-true-iff}
 use mathlib.Core.List.{List, [], _∷_, _++_, List·Memᴰ}
 use Prim.Native.Nat.{ℕ, zero, suc, _+_, _-_, _<_, _≤_}
 use native.Mathlib.Omega.{arith}
-use borrow.Author.Tests.{eqb-true, eq-eqb, le-leb, lt-leb, leb-true, not-true}
+use borrow.Author.Tests.{eqb-true, eqb-false, eq-eqb, ne-eqb, le-leb, lt-leb, leb-true, not-true}
 use lib.Dec.{leb, eqb}
-use lib.ListN.{length, getD, drop, drop-of-length-le}
+use lib.ListN.{length, getD, take, drop, drop-of-length-le}
+use lib.Seq.{getD-drop, getD-take}
 use Rattle.text.specs.declared.words.Word.the-variants.{Name, Other}
 use Rattle.text.specs.Bytes.{bytes, byte, peek, pick, letter, nameByte, runEnd}
 use Rattle.text.specs.Words.{wordAt, wordEnd, namesAt, sameText, findName, isWord, nameAt}
 use Rattle.text.proofs.Tests.{between-in}
 use Rattle.text.proofs.Places.{Reach, drop-in}
-use Rattle.text.proofs.Spelling.{word-ahead}
+use Rattle.text.proofs.Runs.{every, run-every, run-byte, run-slice}
+use Rattle.text.proofs.Spelling.{word-ahead, is-word}
 
 same-is : (a b : List ℕ) → sameText a b ≡ true → a ≡ b
 unfolding sameText
@@ -32,8 +34,55 @@ unfolding sameText
 same-self [] = refl
 same-self (x ∷ a) = rw (eq-eqb x x refl, same-self a)
 
+eqb-sym : (x y : ℕ) → eqb x y ≡ eqb y x
+eqb-sym x y = go (eqb x y) refl
+  where
+    go : (b : Bool) → eqb x y ≡ b → b ≡ eqb y x
+    go true e = sym (eq-eqb y x (sym (eqb-true x y e)))
+    go false e = sym (ne-eqb y x (λ i. eqb-false x y e (sym i)))
+
+same-sym : (a b : List ℕ) → sameText a b ≡ sameText b a
+unfolding sameText
+same-sym [] [] = refl
+same-sym [] (y ∷ b) = refl
+same-sym (x ∷ a) [] = refl
+same-sym (x ∷ a) (y ∷ b) = rw (eqb-sym x y, same-sym a b)
+
 pub same-text : (a b : List ℕ) → (sameText a b ≡ true) ↔ (a ≡ b)
 same-text a b = (same-is a b, λ e. rw e (same-self b))
+
+-- The word at a, held against a word w.
+module _ (s : List ℕ) (a : ℕ) (w : List ℕ) where
+  pub word-same : every nameByte w ≡ true → isWord s a w ≡ sameText (wordAt s a) w
+  word-same h = is-word s a w h ∙ same-sym w (wordAt s a)
+
+  -- Where there is no room for w, or another byte in the place of the one at k, it is another word.
+  pub word-other : (k : ℕ) → k < length w → (a + length w ≤ length s → getD s (k + a) 0 ≡ getD w k 0 → ⊥) → sameText (wordAt s a) w ≡ false
+  word-other k h differs = go (sameText (wordAt s a) w) refl
+    where
+      go : (b : Bool) → sameText (wordAt s a) w ≡ b → b ≡ false
+      go false e = refl
+      go true e =
+          let i = same-is (wordAt s a) w e in
+          let n = ap length i in
+          let r = run-byte nameByte s a k (omega arith) in
+          absurd (differs (omega (arith, r .0)) (sym (r .1) ∙ ap (λ l. getD l k 0) i))
+
+-- The word of r at p, cut out up to e, held against the word of s at a. The byte of s at a from k on is the one at k from a on.
+module _ (r : List ℕ) (p e : ℕ) (ends : e ≡ wordEnd r p) where
+  pub cut-long : length (take (e - p) (drop p r)) ≡ e - p
+  unfolding runEnd
+  cut-long = rw (run-slice nameByte r p e ends) (omega arith)
+
+  module _ (s : List ℕ) (a : ℕ) where
+    pub cut-same : isWord s a (take (e - p) (drop p r)) ≡ sameText (wordAt s a) (wordAt r p)
+    cut-same = rw (run-slice nameByte r p e ends) (word-same s a (wordAt r p) (run-every nameByte r p))
+
+    pub cut-other : (k : ℕ) → k < e - p → (a + (e - p) ≤ length s → getD (take (length s - k) (drop k s)) a 0 ≡ getD (take (e - p) (drop p r)) k 0 → ⊥) → sameText (wordAt s a) (wordAt r p) ≡ false
+    unfolding runEnd
+    cut-other k h differs =
+        word-other s a (wordAt r p) k (omega arith)
+        (λ l i. differs (omega arith) (getD-take (length s - k) (drop k s) a 0 (omega arith) ∙ getD-drop k s a 0 ∙ i ∙ sym (ap (λ w. getD w k 0) (run-slice nameByte r p e ends))))
 
 -- Whether the first name is w settles the search there, or moves it on by one.
 module _ (w n : List ℕ) (ns : List (List ℕ)) where

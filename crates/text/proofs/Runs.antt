@@ -6,7 +6,7 @@ use mathlib.Core.List.{List, [], _∷_}
 use Prim.Native.Nat.{ℕ, _+_, _-_, _<_, _≤_}
 use native.Mathlib.Omega.{arith}
 use lib.ListN.{length, getD, take, drop, drop-of-length-le, length-drop}
-use lib.Seq.{getD-drop}
+use lib.Seq.{drop-drop, getD-drop, getD-take}
 use Rattle.text.specs.Bytes.{peek, pick, run, runAt, runEnd}
 use Rattle.text.proofs.Places.{Reach, drop-in, peek-in}
 
@@ -104,3 +104,27 @@ module _ (P : ℕ → Bool) where
   run-slice s p e h =
       let n : e - p ≡ length (run P (drop p s)) = omega arith in
       rw n (run-part (drop p s))
+
+  -- A run that is not empty is inside the text, byte by byte.
+  pub run-byte : (s : List ℕ) (p k : ℕ) → k < length (runAt P s p) → (p + length (runAt P s p) ≤ length s) × (getD (runAt P s p) k 0 ≡ getD s (k + p) 0)
+  unfolding runEnd runAt
+  run-byte s p k h =
+      let w = run-short (drop p s) in
+      let l = length-drop p s in
+      let n : p + k ≡ k + p = omega arith in
+      (omega arith, rw (← run-part (drop p s), getD-take, getD-drop, n))
+
+-- Where all that passes P passes Q too, a run of P ends inside that of Q.
+module _ (P Q : ℕ → Bool) (sub : (b : ℕ) → P b ≡ true → Q b ≡ true) where
+  run-within : (l : List ℕ) → length (run Q l) ≡ length (run P l) + length (run Q (drop (length (run P l)) l))
+  unfolding run
+  run-within [] = omega arith
+  run-within (x ∷ l) = go (P x) refl (run-within l)
+    where
+      go : (b : Bool) → P x ≡ b → length (run Q l) ≡ length (run P l) + length (run Q (drop (length (run P l)) l)) → length (run Q (x ∷ l)) ≡ length (run P (x ∷ l)) + length (run Q (drop (length (run P (x ∷ l))) (x ∷ l)))
+      go true e h = rw (e, sub x e) (omega arith)
+      go false e h = rw e (omega arith)
+
+  pub end-within : (s : List ℕ) (p : ℕ) → runEnd Q s p ≡ runEnd Q s (runEnd P s p)
+  unfolding runEnd runAt
+  end-within s p = omega (arith, run-within (drop p s), ap (λ l. length (run Q l)) (drop-drop (length (run P (drop p s))) p s))

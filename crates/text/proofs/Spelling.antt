@@ -1,7 +1,7 @@
 -- Words: a word byte by byte, where it ends, and that it is the word that a list of letters and digits spells.
 -- Assumes nothing.
 use mathlib.Core.Path.{_≡_, refl, sym, ap, _∙_}
-use mathlib.Core.Bool.{Bool, true, false, true≢false, not, _&&_, and-eq-true-iff}
+use mathlib.Core.Bool.{Bool, true, false, true≢false, not, _&&_, and-eq-true-iff, or-true}
 use mathlib.Core.List.{List, [], _∷_}
 use Prim.Native.Nat.{ℕ, suc, _+_, _-_, _<_, _≤_}
 use native.Mathlib.Omega.{arith}
@@ -9,10 +9,24 @@ use native.Mathlib.Decide.{decLt}
 use borrow.Author.Tests.{eqb-true}
 use lib.Dec.{eqb}
 use lib.ListN.{length, take, drop}
-use Rattle.text.specs.Bytes.{peek, nameByte, starts, runEnd}
+use Rattle.text.specs.Bytes.{peek, letter, digit, nameByte, starts, runEnd}
 use Rattle.text.specs.Words.{wordAt, wordEnd, sameText, isWord}
 use Rattle.text.proofs.Places.{Reach, peek-in, inside-test}
 use Rattle.text.proofs.Runs.{every, run-every, run-more, run-none, run-past, end-reach, run-slice}
+
+-- A byte of a name is a letter or a digit.
+module _ (b : ℕ) where
+  pub name-letter : letter b ≡ true → nameByte b ≡ true
+  unfolding nameByte
+  name-letter e = rw e
+
+  pub name-digit : digit b ≡ true → nameByte b ≡ true
+  unfolding nameByte
+  name-digit e = rw e (or-true (letter b))
+
+  pub name-neither : letter b ≡ false → digit b ≡ false → nameByte b ≡ false
+  unfolding nameByte
+  name-neither e f = rw (e, f)
 
 module _ (s : List ℕ) (p : ℕ) where
   -- A letter or a digit stands inside the text.
@@ -72,9 +86,9 @@ module _ (s : List ℕ) (p : ℕ) (w : List ℕ) where
   unfolding isWord
   is-not a = rw a
 
-  pub is-by : (t : Bool) → starts s p w ≡ true → t ≡ nameByte (peek s (p + length w)) → not t ≡ isWord s p w
+  pub is-by : starts s p w ≡ true → not (nameByte (peek s (p + length w))) ≡ isWord s p w
   unfolding isWord
-  is-by t a e = rw (a, e)
+  is-by a = rw a
 
 -- The word at a of s, cut out up to e, is the word at b of r exactly if the two words are the same.
 module _ (s : List ℕ) (a : ℕ) (r : List ℕ) (b : ℕ) where

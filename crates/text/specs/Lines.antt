@@ -3,16 +3,16 @@
 use mathlib.Core.Path.{_≡_}
 use Prim.Native.Nat.{ℕ, zero, suc, _+_}
 use mathlib.Core.List.{List, [], _∷_, _++_}
-use mathlib.Core.Bool.{Bool, not, _&&_}
+use mathlib.Core.Bool.{Bool, false, not, _&&_}
 use lib.ListN.{length}
-use lib.Dec.{ltb, eqb}
+use lib.Dec.{leb, ltb, eqb}
 use Rattle.text.specs.declared.words.Word.{Word}
 use Rattle.text.specs.declared.words.Word.the-variants.{Name, Other}
 use Rattle.text.specs.declared.numbers.Number.{Number}
 use Rattle.text.specs.declared.numbers.Number.the-variants.{Value, Missing}
 use Rattle.text.specs.Read.{Read, andThen}
 use Rattle.text.specs.Read.Read.{got, refused}
-use Rattle.text.specs.Bytes.{byte, pick, between, starts, runEnd}
+use Rattle.text.specs.Bytes.{byte, peek, pick, between, starts, runEnd}
 use Rattle.text.specs.Words.{nameAt}
 use Rattle.text.specs.Numbers.{number}
 
@@ -34,6 +34,14 @@ unfoldable pub line : List ℕ → ℕ → List ℕ → ℕ → Read ℕ
 line s p key form =
     pick (starts s p key && ltb (lineEnd s (p + length key)) (length s))
     (λ _. got (p + length key) (lineEnd s (p + length key))) (refused form p)
+
+-- Does the key stand at p, and the text reach to the place of its value?
+unfoldable pub keyedAt : List ℕ → ℕ → List ℕ → Bool
+keyedAt s p key = leb (p + length key) (length s) && starts s p key
+
+-- Does an LF of the text stand at p?
+unfoldable pub lfAt : List ℕ → ℕ → Bool
+lfAt s p = ltb p (length s) && eqb (peek s p) (byte "\n")
 
 -- A value x that ends at q and takes its line whole, up to the LF at e: x, and the place after the line. Or the refusal n at p.
 abbrev pub whole : ℕ → ℕ → ℕ → ℕ → ℕ → Read ℕ
@@ -61,6 +69,10 @@ rangedLine s p key form content lo hi =
 -- The line at p with a key and a name: the place of the name, and the place after the line. Or its form is refused at p, or its content at the value.
 unfoldable pub nameLine : List ℕ → ℕ → List ℕ → ℕ → ℕ → Read ℕ
 nameLine s p key form content = andThen (line s p key form) (λ v e. wholeName v content e (nameAt s v))
+
+-- No name from v on takes its line whole.
+abbrev pub NoName : List ℕ → ℕ → Type 0
+NoName s v = (q : ℕ) → nameAt s v ≡ Name q → lfAt s q ≡ false
 
 -- What was read, t, and n things more that P reads in turn, which sees those before.
 unfoldable pub inTurn : {A : Type 0} → (List A → ℕ → Read A) → ℕ → List A → ℕ → Read (List A)

@@ -1,6 +1,6 @@
 // Bytes of a text: the byte at a place, what stands there, and the class of a byte. Assumes nothing of the text.
 ghost use mathlib.Core.Path.{_≡_};
-ghost use Prim.Native.Nat.{_≤_};
+ghost use Prim.Native.Nat.{_+_, _≤_};
 ghost use lib.ListN.{length};
 ghost use Rattle.text.specs.Bytes.{peek, classOf, nameByte, starts};
 
@@ -44,8 +44,26 @@ pub fn name_byte(b: u8) -> bool
     }
 }
 
-// Do the bytes of `w` stand at the place `at`?
-pub fn starts_at(s: &[u8], at: usize, w: &[u8]) -> bool
+// Do the bytes of `w` stand at `at`, where the text has room for them?
+pub fn stands_at(s: &[u8], at: usize, w: &[u8]) -> bool
+    requires { ⌜ at + length (now w) ≤ length (now s) ⌝ }
+    ensures { λ r. ⌜ r ≡ starts (now (s .entry)) at (now (w .entry)) ⌝ }
+{
+    let mut i = 0;
+    while i < w.len() {
+        let p = at + i;
+        let b = s[p];
+        let x = w[i];
+        if b != x {
+            return false;
+        }
+        i += 1;
+    }
+    true
+}
+
+// The same, where `w` may reach past the end of the text.
+fn starts_past(s: &[u8], at: usize, w: &[u8]) -> bool
     requires { ⌜ at ≤ length (now s) ⌝ }
     ensures { λ r. ⌜ r ≡ starts (now (s .entry)) at (now (w .entry)) ⌝ }
 {
@@ -60,4 +78,17 @@ pub fn starts_at(s: &[u8], at: usize, w: &[u8]) -> bool
         i += 1;
     }
     true
+}
+
+// Do the bytes of `w` stand at the place `at`?
+pub fn starts_at(s: &[u8], at: usize, w: &[u8]) -> bool
+    requires { ⌜ at ≤ length (now s) ⌝ }
+    ensures { λ r. ⌜ r ≡ starts (now (s .entry)) at (now (w .entry)) ⌝ }
+{
+    let end = at + w.len();
+    if end <= s.len() {
+        stands_at(s, at, w)
+    } else {
+        starts_past(s, at, w)
+    }
 }

@@ -1,7 +1,6 @@
 -- `word_is` meets its contract. Assumes nothing.
 use borrow.Author.Needs.{needs}
-use mathlib.Core.Path.{sym, ap, _∙_}
-use Rattle.text.specs.Bytes.{nameByte}
+use mathlib.Core.Path.{sym, _∙_}
 use Rattle.text.proofs.Spelling.{is-not, is-by}
 use Rattle.text.proofs.words.word_is.Statement.{statement}
 use Rattle.text.proofs.words.word_is.Tie as tie
@@ -12,20 +11,15 @@ starts-at-requires c κs = search needs
 add-next : tie.Need-add-next
 add-next c = search needs
 
-byte-at-requires : tie.Need-byte-at-requires
-byte-at-requires c κs = search needs
-
-name-byte-requires : tie.Need-name-byte-requires
-name-byte-requires c κs = search needs
+word-over-requires : tie.Need-word-over-requires
+word-over-requires c κs = search needs
 
 returns : tie.Need-returns
-returns c =
-    is-by _ _ _ _ (sym (c .before .before .before .starts-at .ensures) ∙ c .before .before .if1 .taken) (c .name-byte .ensures ∙ ap nameByte (c .before .byte-at .ensures))
+returns c = c .word-over .ensures ∙ is-by _ _ _ (sym (c .before .before .starts-at .ensures) ∙ c .before .if1 .taken)
 
 returns-2 : tie.Need-returns-2
 returns-2 c = is-not _ _ _ (sym (c .before .starts-at .ensures) ∙ c .if1 .left)
 
 pub word-is-spec : {M : Type 1} → statement M
 word-is-spec =
-    tie.close
-    (tie.spec starts-at-requires add-next byte-at-requires name-byte-requires returns returns-2)
+    tie.close (tie.spec starts-at-requires add-next word-over-requires returns returns-2)
