@@ -64,7 +64,8 @@ fn note_readings(s: &[u8], places: &[u64], window: usize, r: &[u8], noted: &mut 
 }
 
 // Takes the readings of the text into the table; at a refusal the table keeps every word.
-// A reading has at least 22 bytes, so a text of 32,768 bytes has at most 1,489. An array of ones is made by vector stores, one of noughts byte by byte.
+// A reading has at least 22 bytes, so a text of 32,768 bytes has at most 1,489. The array starts as ones, which vector stores write: noughts would be
+// written by `memset`, a byte an instruction as docs/BENCHMARKS.md counts them.
 pub fn take_readings(
     s: &[u8],
     places: &[u64],
