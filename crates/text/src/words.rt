@@ -103,7 +103,7 @@ pub fn same_word(s: &[u8], a: usize, r: &[u8], b: usize) -> bool
     }
 }
 
-// Searches the names, which stand at places of `s`, for the word at `at` of `r`, word by word.
+// What `find_name` finds, by comparing whole words.
 fn find_plain(s: &[u8], names: &[u64], r: &[u8], at: usize) -> usize
     requires { ⌜ at ≤ length (now r) ⌝ }
     ensures { λ v. ⌜ v ≡ findName (wordAt (now (r .entry)) at) (namesAt (now (s .entry)) (now (names .entry))) ⌝ }
@@ -119,7 +119,7 @@ fn find_plain(s: &[u8], names: &[u64], r: &[u8], at: usize) -> usize
     i
 }
 
-// The same for a word that is not empty and not longer than `s`, and that ends at `e`. Where the word's last byte should be mostly decides.
+// The same for a word up to `e` that is not empty and not longer than `s`. The last byte mostly decides: that of such a word at `a` is `lasts[a]`.
 fn find_quick(s: &[u8], names: &[u64], r: &[u8], at: usize, e: usize) -> usize
     requires { ⌜ (at < e) × (e ≡ wordEnd (now r) at) × (e ≤ length (now r)) × (e - at ≤ length (now s)) ⌝ }
     ensures { λ v. ⌜ v ≡ findName (wordAt (now (r .entry)) at) (namesAt (now (s .entry)) (now (names .entry))) ⌝ }
