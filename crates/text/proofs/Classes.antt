@@ -8,12 +8,10 @@ use Prim.Native.Nat.{ℕ, zero, suc, _+_, _<_, _≤_}
 use borrow.Author.Tests.{eqb-true}
 use native.Mathlib.Omega.{arith}
 use lib.Dec.{eqb}
-use lib.ListN.{length}
 use Rattle.text.specs.declared.bytes.Class.{Class}
 use Rattle.text.specs.declared.bytes.Class.the-variants.{Letter, Digit, Sign, Bracket, Other}
-use Rattle.text.specs.Bytes.{bytes, peek, pick, oneOf, letter, digit, classOf}
+use Rattle.text.specs.Bytes.{bytes, pick, oneOf, letter, digit, classOf}
 use Rattle.text.proofs.Tests.{allFrom, all-at}
-use Rattle.text.proofs.Places.{inside}
 
 unfoldable pub tag : Class → ℕ
 tag Letter = 0
@@ -50,11 +48,6 @@ pub class-run : (k : Class) (keys : List ℕ) (n a : ℕ) → allFrom (classed k
 class-run k keys n a h b l u e =
     let t = or-right (oneOf b keys) (eqb (tag (classOf b)) (tag k)) (all-at (classed k keys) n a h b l u) e in
     sym (untag-tag k) ∙ sym (ap untag (eqb-true (tag (classOf b)) (tag k) t)) ∙ untag-tag (classOf b)
-
--- A byte of a class but the last stands inside the text.
-pub class-inside : (s : List ℕ) (p : ℕ) {k : Class} → classOf (peek s p) ≡ k → (k ≡ Other → ⊥) → p < length s
-unfolding classOf
-class-inside s p e n = inside s p (λ i. n (sym e ∙ ap classOf i))
 
 other-tag : (k : Class) → 0 < tag k → k ≡ Letter → ⊥
 unfolding tag

@@ -20,7 +20,7 @@ use Rattle.text.proofs.Spelling.{is-word}
 use Rattle.text.proofs.Names.{named, name-reach}
 use Rattle.text.proofs.Values.{digits-reach, number-reach}
 use Rattle.text.proofs.Answers.{came}
-use Rattle.text.proofs.Keyed.{Placed, placed, line-is, whole-is, number-line-is, name-line-is, number-held, name-held}
+use Rattle.text.proofs.Keyed.{Placed, line-is, whole-is, number-line-is, name-line-is, number-held, name-held}
 
 -- A run that ends inside a text is the same if the text goes on.
 run-kept : (P : ℕ → Bool) (l x : List ℕ) → length (run P l) < length l → run P (l ++ x) ≡ run P l
@@ -101,9 +101,6 @@ module _ (r x : List ℕ) where
         let f : lineEnd r (p + length key) < length r = omega (arith, h .inside, ap (lineEnd r) i) in
         let d : e ≡ lineEnd (r ++ x) (p + length key) = h .ends ∙ ap (lineEnd r) i ∙ sym (runEnd-kept inLine (p + length key) f) in
         rw i (sym (line-is (r ++ x) p key form e (starts-kept p key (omega (arith, h .order, h .inside)) ∙ h .keyed) d (omega (arith, length-append r x, h .inside))))
-
-    pub line-kept : {v e : ℕ} → line r p key form ≡ got v e → line (r ++ x) p key form ≡ got v e
-    line-kept e = placed-kept (placed r p key form e)
 
     pub numberLine-kept : {y q : ℕ} → numberLine r p key form ≡ got y q → numberLine (r ++ x) p key form ≡ got y q
     numberLine-kept {y} e =
