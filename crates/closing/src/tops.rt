@@ -1,5 +1,6 @@
 // The tops marked, and the table closed after them. Assumes of the table what closing it assumes, and that each top is a row.
-use crate::sweeps::close;
+use crate::links::index;
+use crate::rounds::close;
 use marking::words::add_word;
 use marking::words::window_word;
 ghost use mathlib.Core.Path.{_≡_};
@@ -11,6 +12,7 @@ ghost use Rattle.table.specs.Puts.{Gains};
 ghost use Rattle.marking.specs.Gains.{HasRow};
 ghost use Rattle.marking.specs.Moves.{Sized};
 ghost use Rattle.closing.specs.Closes.{RowTrue, TopMarks, SettlesAll};
+ghost use Rattle.closing.specs.Items.{Roomy};
 
 // Marks a row true at every tick of the window.
 fn mark_true(marks: &mut [u64], n: usize, row: usize, window: usize)
@@ -23,13 +25,6 @@ fn mark_true(marks: &mut [u64], n: usize, row: usize, window: usize)
         add_word(marks, n, q, row, true, ticks);
         q += 1;
     }
-}
-
-// A top's row as a place.
-fn index(row: u16) -> usize
-    ensures { λ r. ⌜ r ≡ row ⌝ }
-{
-    row as usize
 }
 
 // Marks each of the first k rows in `tops` true at every tick of the window.
@@ -54,14 +49,16 @@ pub fn settle(
     k: usize,
     n: usize,
     window: usize,
+    todo: &mut [u64],
     marks: &mut [u64],
 )
     requires { ⌜ Coded count (now rows) ⌝ }
     requires { ⌜ (k ≤ length (now tops)) × ((i : ℕ) → i < k → getD (now tops) i 0 < count) ⌝ }
+    requires { ⌜ Roomy count n (now todo) ⌝ }
     requires { ⌜ Sized n count window (now marks) ⌝ }
     requires { ⌜ Inside window (Stands n (now marks)) ⌝ }
     ensures { λ _. ⌜ SettlesAll count (now (rows .entry)) (now (tops .entry)) k window n (now (marks .entry)) (now (marks .exit)) ⌝ }
 {
     crown(tops, k, n, window, marks);
-    close(rows, count, n, window, marks);
+    close(rows, count, n, window, todo, marks);
 }

@@ -1,24 +1,28 @@
--- A row of the program by its word: its node, the rows that the table has for it, and its step.
+-- A row of the program by its word: its node, and what the table has for its rules.
 -- Assumes nothing.
-use mathlib.Core.Path.{_≡_, sym, ap, _∙_, subst}
+use mathlib.Core.Path.{_≡_, ap, _∙_, subst}
 use mathlib.Core.Bool.{true}
 use mathlib.Core.List.{List}
 use Prim.Native.Nat.{ℕ, suc, _+_, _-_, _*_, _/_, _%_, _≤_, _<_}
 use native.Mathlib.Nat.{mul-le-mul-right}
 use native.Mathlib.Omega.{arith}
 use lib.ListN.{length, getD}
-use Rattle.tilco.specs.Inference.{Node, signal, notOf, gate, Program, node}
-use Rattle.tilco.specs.Table.{words, Stands}
+use Rattle.tilco.specs.Inference.{gate, Program, node}
+use Rattle.tilco.specs.Table.{words}
 use Rattle.rows.specs.Words.{unpacked}
 use Rattle.marking.specs.Codes.{Fine, Codes, Coded}
 use Rattle.marking.specs.Gains.{HasRow}
-use Rattle.marking.specs.Moves.{Moves, Spoken, SettledIn, ByNode, Stepped, Sized}
-use Rattle.marking.proofs.Moving.{idle}
+use Rattle.marking.specs.Moves.{Sized}
 
 -- A word of a row lies in the window.
 pub word-in-window : (W n q : ℕ) → n ≡ words W → q < n → q * 64 < W
 unfolding words
 word-in-window W n q e l = omega arith
+
+-- The words of a row cover the window.
+pub words-cover : (W n : ℕ) → n ≡ words W → W ≤ n * 64
+unfolding words
+words-cover W n e = omega arith
 
 -- The table has every row of the program.
 pub has-row : (n count W : ℕ) (T : List ℕ) (x : ℕ) → Sized n count W T → x < count → HasRow n T x
@@ -32,21 +36,21 @@ sized-as e s = record { some = s .some; most = s .most; words-are = s .words-are
 
 module _ (count : ℕ) (B : List ℕ) (r : ℕ) where
   -- the kind and the two numbers of the row's word
-  abbrev kind : ℕ
+  abbrev pub kind : ℕ
   kind = getD B r 0 % 8
 
-  abbrev left : ℕ
+  abbrev pub left : ℕ
   left = getD B r 0 / 8 % 65536
 
-  abbrev right : ℕ
+  abbrev pub right : ℕ
   right = getD B r 0 / 524288
 
   -- a kind past a look's: a not-row's
-  abbrev past : ℕ
+  abbrev pub past : ℕ
   past = suc (suc (suc (suc (kind - 4))))
 
   -- The row's node by the kind in its word.
-  node-as : (k : ℕ) → kind ≡ k → (P : Program) → Codes P count B → node P r ≡ unpacked k left right
+  pub node-as : (k : ℕ) → kind ≡ k → (P : Program) → Codes P count B → node P r ≡ unpacked k left right
   node-as k e P c = c .nodes r ∙ ap (λ (z : ℕ). unpacked z left right) e
 
   fine-as : (k : ℕ) → kind ≡ k → Coded count B → Fine r (unpacked k left right)
@@ -56,35 +60,23 @@ module _ (count : ℕ) (B : List ℕ) (r : ℕ) where
     abbrev has : (x : ℕ) → x < count → HasRow n T x
     has x h = has-row n count W T x s h
 
-    -- What the step of each kind asks of the table.
-    gate-asks : Fine r (gate true left right) → (q < n) × HasRow n T r × HasRow n T left × HasRow n T right
-    gate-asks f = (l, has r hi, has left (omega (arith, f .0)), has right (omega (arith, f .1)))
+    -- What the rules of each kind ask of the table.
+    abbrev pub GateAsks : Type 0
+    GateAsks = (q < n) × HasRow n T r × HasRow n T left × HasRow n T right × (left < r) × (right < r)
 
-    pub and-asks : kind ≡ 1 → (q < n) × HasRow n T r × HasRow n T left × HasRow n T right
+    gate-asks : Fine r (gate true left right) → GateAsks
+    gate-asks f = (l, has r hi, has left (omega (arith, f .0)), has right (omega (arith, f .1)), f .0, f .1)
+
+    pub and-asks : kind ≡ 1 → GateAsks
     and-asks e = gate-asks (fine-as 1 e c)
 
-    pub or-asks : kind ≡ 2 → (q < n) × HasRow n T r × HasRow n T left × HasRow n T right
+    pub or-asks : kind ≡ 2 → GateAsks
     or-asks e = gate-asks (fine-as 2 e c)
 
-    pub look-asks : kind ≡ 3 → (q < n) × HasRow n T r × HasRow n T left × (1 ≤ right) × (right ≤ 127) × (q * 64 < W)
+    pub look-asks : kind ≡ 3 → (q < n) × HasRow n T r × HasRow n T left × (left < r) × (right ≤ 127) × (n ≡ words W)
     look-asks e =
         let f = fine-as 3 e c in
-        (l, has r hi, has left (omega (arith, f .0)), f .1, f .2, word-in-window W n q (s .words-are) l)
+        (l, has r hi, has left (omega (arith, f .0)), f .0, f .2, s .words-are)
 
-    pub not-asks : 4 ≤ kind → (q < n) × HasRow n T r × HasRow n T left
-    not-asks h = (l, has r hi, has left (omega (arith, fine-as past (omega arith) c)))
-
-  module _ (n q W : ℕ) (T T′ : List ℕ) (x : ℕ) where
-    -- The step of the row's node is the step of the row.
-    pub stepped : (k : ℕ) → kind ≡ k → ByNode (unpacked k left right) r q (λ S. SettledIn q W S r (unpacked k left right)) W n T T′ x
-        → Stepped count B r q W n T T′ x
-    stepped k e f P c i =
-        let g = node-as k e P c in
-        subst (λ (d : Node). Moves n P W (Spoken q d r) (λ X. SettledIn q W (Stands n X) r d) T T′ x) (sym g) (f P g i)
-
-    pub not-stepped : 4 ≤ kind → ByNode (notOf left) r q (λ S. SettledIn q W S r (notOf left)) W n T T′ x → Stepped count B r q W n T T′ x
-    not-stepped h f = stepped past (omega arith) f
-
-  -- A signal's row has no rules.
-  pub signal-stepped : (n q W : ℕ) (T : List ℕ) → kind ≡ 0 → Stepped count B r q W n T T 0
-  signal-stepped n q W T e = stepped n q W T T 0 0 e (λ P g i. idle n P W (Spoken q signal r) (λ X. Unit {0}) T tt)
+    pub not-asks : 4 ≤ kind → (q < n) × HasRow n T r × HasRow n T left × (left < r)
+    not-asks h = let f = fine-as past (omega arith) c in (l, has r hi, has left (omega arith), f)

@@ -2,5 +2,6 @@
 pub mod OneWord
 pub mod Gaining
 pub mod Moving
+pub mod Settling
 pub mod RowRules
 pub mod Decoding

@@ -1,21 +1,21 @@
--- The ticks of one word of a row: as it stands, some ticks later, some ticks before, and those of the window.
+-- The ticks of one word of a row: as it stands, moved up or down, and those of the window.
 -- Assumes nothing; a word is one below 2 ^ 64.
 use mathlib.Core.Path.{_≡_, refl, sym, ap, _∙_, subst, subst₂}
 use mathlib.Core.Bool.{Bool}
 use mathlib.Core.List.{List}
-use mathlib.Core.Logic.{_⊎_, ⊎-elim}
+use mathlib.Core.Logic.{⊎-elim}
 use Prim.Native.Nat.{ℕ, _+_, _-_, _*_, _/_, _%_, _^_, _≤_, _<_}
 use native.Mathlib.Omega.{arith}
-use lib.Bits.{bitAnd, bitOr}
+use lib.Bits.{bitAnd}
 use lib.ListN.{getD}
 use lib.Pow.{ones-lt, ones-split, high}
 use Rattle.ticks.specs.Ticks.{bit, Has, block}
-use Rattle.ticks.proofs.Bits.{lt-or-ge, bit-shr, bit-low, bit-mask, has-below, and-in, and-out, or-left, or-right, or-out}
+use Rattle.ticks.proofs.Bits.{lt-or-ge, bit-shr, bit-low, bit-mask, has-below, and-in, and-out}
 use Rattle.ticks.proofs.Shifts.{bit-up, bit-under}
 use Rattle.ticks.proofs.Tables.{in-to, in-from}
 use Rattle.tilco.specs.Inference.{mark}
 use Rattle.tilco.specs.Table.{Stands}
-use Rattle.marking.specs.Gains.{Ticks, Both, Later, Earlier}
+use Rattle.marking.specs.Gains.{Ticks, Both, Apart, Seen}
 
 -- A word moved up by k, as the code does it: the bits that leave it are dropped.
 abbrev up : ℕ → ℕ → ℕ
@@ -55,68 +55,24 @@ module _ (n : ℕ) (T : List ℕ) (r : ℕ) (v : Bool) where
   word-ticks : (q : ℕ) → q < n → Ticks q (at q) (λ t. Stands n T (mark r t v))
   word-ticks q l b h = (stood q b (q * 64 + b) h refl l, stands q b (q * 64 + b) h refl)
 
-  module _ (q k : ℕ) (l : q < n) (small : k < 64) where
-    module _ (fits : at q < 2 ^ 64) where
-      low-out : (b : ℕ) → b < 64 → Has (at q / 2 ^ k) b → Later n T r v k (q * 64 + b)
-      low-out b h e =
-          let f : Has (at q) (k + b) = sym (bit-shr (at q) k b) ∙ e in
-          stood q (k + b) (q * 64 + b + k) (has-below (at q) 64 (k + b) fits f) (omega arith) l f
+  -- Word p moved up by k, as the code makes it of the word that it read: ticks of word q.
+  pub raised : (p q k : ℕ) {w : ℕ} → p < n → w ≡ at p → Ticks q (up w k) (Seen (Stands n T) r v p (Apart p q k))
+  raised p q k {w} l e b h = (
+    λ f. let x = up-out w k b h f in
+        (p * 64 + (b - k), omega (arith, x .0), omega (arith, x .0), stood p (b - k) (p * 64 + (b - k)) (omega arith) refl l (subst (λ (y : ℕ). Has y (b - k)) e (x .1))),
+    λ f. let g : k ≤ b = omega (arith, f .1, f .2) in
+        up-in w k b h g (subst (λ (y : ℕ). Has y (b - k)) (sym e) (stands p (b - k) (f .0) (omega arith) (omega (arith, f .1, f .2)) (f .3))),
+  )
 
-      low-into : (b : ℕ) → k + b < 64 → Later n T r v k (q * 64 + b) → Has (at q / 2 ^ k) b
-      low-into b h e = bit-shr (at q) k b ∙ stands q (k + b) (q * 64 + b + k) h (omega arith) e
-
-      -- ticks later, where no other word has any of them
-      all-low : (k ≡ 0) ⊎ (q + 1 ≡ n) → Ticks q (at q / 2 ^ k) (Later n T r v k)
-      all-low e b h = (low-out b h, λ f. low-into b (⊎-elim (λ z. omega arith) (λ z. omega (arith, f .within)) e) f)
-
-      -- ticks later, out of two words
-      low-and-next : q + 1 < n → 0 < k → Ticks q (bitOr (at q / 2 ^ k) (up (at (q + 1)) (64 - k))) (Later n T r v k)
-      low-and-next next some b h = (
-        λ e. ⊎-elim (low-out b h) (λ f. let x = up-out (at (q + 1)) (64 - k) b h f in
-            stood (q + 1) (b - (64 - k)) (q * 64 + b + k) (omega arith) (omega (arith, x .0)) next (x .1)) (or-out (at q / 2 ^ k) (up (at (q + 1)) (64 - k)) b e),
-        λ f. ⊎-elim (λ z. or-left (at q / 2 ^ k) (up (at (q + 1)) (64 - k)) b (low-into b z f))
-            (λ z. or-right (at q / 2 ^ k) (up (at (q + 1)) (64 - k)) b
-            (up-in (at (q + 1)) (64 - k) b h (omega arith) (stands (q + 1) (b - (64 - k)) (q * 64 + b + k) (omega arith) (omega arith) f))) (lt-or-ge (k + b) 64),
-      )
-
-    -- Ticks later, as the code makes them of the words that it read.
-    pub later-low : {w : ℕ} → w ≡ at q → w < 2 ^ 64 → (k ≡ 0) ⊎ (q + 1 ≡ n) → Ticks q (w / 2 ^ k) (Later n T r v k)
-    later-low e fits z = subst (λ (x : ℕ). Ticks q (x / 2 ^ k) (Later n T r v k)) (sym e) (all-low (subst (λ (x : ℕ). x < 2 ^ 64) e fits) z)
-
-    pub later-both : {w y : ℕ} → w ≡ at q → y ≡ at (q + 1) → w < 2 ^ 64 → q + 1 < n → 0 < k → Ticks q (bitOr (w / 2 ^ k) (up y (64 - k))) (Later n T r v k)
-    later-both e f fits next some =
-        subst₂ (λ (x y : ℕ). Ticks q (bitOr (x / 2 ^ k) (up y (64 - k))) (Later n T r v k)) (sym e) (sym f) (low-and-next (subst (λ (x : ℕ). x < 2 ^ 64) e fits) next some)
-
-    high-out : (b : ℕ) → b < 64 → Has (up (at q) k) b → Earlier n T r v k (q * 64 + b)
-    high-out b h e =
-        let x = up-out (at q) k b h e in
-        (omega (arith, x .0), stood q (b - k) (q * 64 + b - k) (omega arith) (omega (arith, x .0)) l (x .1))
-
-    high-into : (b : ℕ) → b < 64 → k ≤ b → Earlier n T r v k (q * 64 + b) → Has (up (at q) k) b
-    high-into b h g e = up-in (at q) k b h g (stands q (b - k) (q * 64 + b - k) (omega arith) (omega arith) (e .1))
-
-    -- ticks before, where no other word has any of them
-    all-high : (k ≡ 0) ⊎ (q ≡ 0) → Ticks q (up (at q) k) (Earlier n T r v k)
-    all-high e b h = (high-out b h, λ f. high-into b h (⊎-elim (λ z. omega arith) (λ z. omega (arith, f .0)) e) f)
-
-    -- ticks before, out of two words
-    high-and-last : 0 < q → 0 < k → at (q - 1) < 2 ^ 64 → Ticks q (bitOr (up (at q) k) (at (q - 1) / 2 ^ (64 - k))) (Earlier n T r v k)
-    high-and-last next some fits b h = (
-      λ e. ⊎-elim (high-out b h) (λ f. let x : Has (at (q - 1)) (64 - k + b) = sym (bit-shr (at (q - 1)) (64 - k) b) ∙ f in
-          let z : 64 - k + b < 64 = has-below (at (q - 1)) 64 (64 - k + b) fits x in
-          (omega arith, stood (q - 1) (64 - k + b) (q * 64 + b - k) z (omega arith) (omega arith) x)) (or-out (up (at q) k) (at (q - 1) / 2 ^ (64 - k)) b e),
-      λ f. ⊎-elim (λ z. or-right (up (at q) k) (at (q - 1) / 2 ^ (64 - k)) b
-          (bit-shr (at (q - 1)) (64 - k) b ∙ stands (q - 1) (64 - k + b) (q * 64 + b - k) (omega arith) (omega arith) (f .1)))
-          (λ z. or-left (up (at q) k) (at (q - 1) / 2 ^ (64 - k)) b (high-into b h z f)) (lt-or-ge b k),
-    )
-
-    -- Ticks before, as the code makes them of the words that it read.
-    pub earlier-high : {w : ℕ} → w ≡ at q → (k ≡ 0) ⊎ (q ≡ 0) → Ticks q (up w k) (Earlier n T r v k)
-    earlier-high e z = subst (λ (x : ℕ). Ticks q (up x k) (Earlier n T r v k)) (sym e) (all-high z)
-
-    pub earlier-both : {w y : ℕ} → w ≡ at q → y ≡ at (q - 1) → y < 2 ^ 64 → 0 < q → 0 < k → Ticks q (bitOr (up w k) (y / 2 ^ (64 - k))) (Earlier n T r v k)
-    earlier-both e f fits next some =
-        subst₂ (λ (x y : ℕ). Ticks q (bitOr (up x k) (y / 2 ^ (64 - k))) (Earlier n T r v k)) (sym e) (sym f) (high-and-last next some (subst (λ (x : ℕ). x < 2 ^ 64) f fits))
+  -- Word q moved down by k: ticks of word p.
+  pub lowered : (p q k : ℕ) {w : ℕ} → q < n → w < 2 ^ 64 → w ≡ at q → Ticks p (w / 2 ^ k) (Seen (Stands n T) r v q (λ s t. Apart p q k t s))
+  lowered p q k {w} l fits e b h = (
+    λ f. let x : Has w (k + b) = sym (bit-shr w k b) ∙ f in
+        let g : k + b < 64 = has-below w 64 (k + b) fits x in
+        (q * 64 + (k + b), omega arith, omega arith, stood q (k + b) (q * 64 + (k + b)) g refl l (subst (λ (y : ℕ). Has y (k + b)) e x)),
+    λ f. let g : k + b < 64 = omega (arith, f .1, f .2) in
+        bit-shr w k b ∙ subst (λ (y : ℕ). Has y (k + b)) (sym e) (stands q (k + b) (f .0) g (omega (arith, f .1, f .2)) (f .3)),
+  )
 
 -- Ticks at which two marks stand, as the code makes them of the words that it read.
 pub flow-ticks : (n : ℕ) (T : List ℕ) (a : ℕ) (x : Bool) (b : ℕ) (y : Bool) (q : ℕ) → q < n → {v w : ℕ}

@@ -43,13 +43,13 @@ pub record Joins (n : ℕ) (R : Marks) (T T′ : List ℕ) (changed : ℕ) : Typ
 abbrev pub Both : ℕ → List ℕ → ℕ → Bool → ℕ → Bool → ℕ → Type 0
 Both n T a x b y t = Stands n T (mark a t x) × Stands n T (mark b t y)
 
--- Ticks k before one at which a row's value stands.
-abbrev pub Later : ℕ → List ℕ → ℕ → Bool → ℕ → ℕ → Type 0
-Later n T r v k t = Stands n T (mark r (t + k) v)
+-- Tick t of word p and tick s of word q, k bits further up in its word.
+abbrev pub Apart : ℕ → ℕ → ℕ → ℕ → ℕ → Type 0
+Apart p q k t s = t + (q * 64 + k) ≡ s + p * 64
 
--- Ticks k after one at which a row's value stands.
-abbrev pub Earlier : ℕ → List ℕ → ℕ → Bool → ℕ → ℕ → Type 0
-Earlier n T r v k t = (k ≤ t) × Stands n T (mark r (t - k) v)
+-- Ticks s for which a tick of word p, at which row r has the value v, is in the relation R to s.
+abbrev pub Seen : Marks → ℕ → Bool → ℕ → (ℕ → ℕ → Type 0) → ℕ → Type 0
+Seen S r v p R s = (t : ℕ) × (t / 64 ≡ p) × R t s × S (mark r t v)
 
 -- Those of these ticks that are in the window.
 abbrev pub InWindow : ℕ → (ℕ → Type 0) → ℕ → Type 0

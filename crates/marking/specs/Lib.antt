@@ -1,4 +1,5 @@
 -- The definitions that the contracts cite, lowest layer first.
 pub mod Codes
 pub mod Gains
+pub mod Settled
 pub mod Moves

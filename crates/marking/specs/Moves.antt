@@ -1,103 +1,70 @@
--- What a piece of the closing does to the table: one promise for a rule, a step, a sweep. Assumes nothing.
--- n is how many words a row has for each value, q a word of a row, W the window, T the table before and T′ after.
+-- What a rule and a row's rules do to the table. Assumes nothing.
+-- n is how many words a row has for each value, q a word of a row, W the window, T the table before and T′ after. A number that tells
+-- of a change is 0 if there is none.
 use mathlib.Core.Path.{_≡_}
-use mathlib.Core.Bool.{Bool, not}
+use mathlib.Core.Bool.{Bool}
 use mathlib.Core.List.{List}
 use mathlib.Core.Logic.{_⊎_}
 use Prim.Native.Nat.{ℕ, _+_, _*_, _/_, _≤_, _<_}
 use lib.ListN.{length}
-use Rattle.tilco.specs.Inference.{Node, signal, notOf, gate, look, Program, node, Mark, mark, Marks, Shifted, Derives, _or_}
+use Rattle.tilco.specs.Inference.{Node, Program, node, Mark, mark, Marks, Shifted, One, Derives, _or_}
 use Rattle.tilco.specs.Table.{words, Stands, Inside}
-use Rattle.tilco.proofs.Closing.{GateSettled, SettledAt}
-use Rattle.marking.specs.Codes.{Codes}
-use Rattle.marking.specs.Gains.{room}
+use Rattle.marking.specs.Gains.{Apart, room}
+use Rattle.marking.specs.Settled.{LinkIn}
 
--- Nothing is lost, all that is new follows and is among the marks A; if nothing changed the table is the same and C holds of it, else
--- its words have less room to grow.
-pub record Moves (n : ℕ) (P : Program) (W : ℕ) (A : Marks) (C : List ℕ → Type 0) (T T′ : List ℕ) (changed : ℕ) : Type 0 where
+-- Nothing is lost, all that is new follows and is among the marks A; if nothing changed the table is the same, else its words have less
+-- room to grow.
+pub record Moves (n : ℕ) (P : Program) (W : ℕ) (A : Marks) (T T′ : List ℕ) (changed : ℕ) : Type 0 where
   pub size : length T′ ≡ length T
   pub grows : (m : Mark) → Stands n T m → Stands n T′ m
   pub sound : (m : Mark) → Stands n T′ m → Derives P W (Stands n T) m
   pub only : (m : Mark) → Stands n T′ m → (_or_ (Stands n T) A) m
-  pub still : changed ≡ 0 → (T′ ≡ T) × C T
+  pub still : changed ≡ 0 → T′ ≡ T
   pub moved : 0 < changed → room T′ < room T
 
--- The rows that a row's rules speak of: itself and its children.
-abbrev pub Speaks : Node → ℕ → ℕ → Type 0
-Speaks signal r x = x ≡ r
-Speaks (notOf y) r x = (x ≡ r) ⊎ (x ≡ y)
-Speaks (gate u a b) r x = (x ≡ r) ⊎ ((x ≡ a) ⊎ (x ≡ b))
-Speaks (look k c) r x = (x ≡ r) ⊎ (x ≡ c)
+-- The marks of row x's word q, if it is told that this word changed.
+abbrev pub Wrote : ℕ → ℕ → ℕ → Marks
+Wrote x q told (mark y t v) = (y ≡ x) × (t / 64 ≡ q) × (0 < told)
 
--- The marks of word q in these rows.
-abbrev pub Spoken : ℕ → Node → ℕ → Marks
-Spoken q d r (mark x t v) = (t / 64 ≡ q) × Speaks d r x
+-- The marks of row x in the word h words before word e, if it is told that this word changed.
+abbrev pub WroteBefore : ℕ → ℕ → ℕ → ℕ → Marks
+WroteBefore x h e told (mark y t v) = (y ≡ x) × (e ≡ t / 64 + h) × (0 < told)
 
--- Every mark.
-abbrev pub AnyMark : Marks
-AnyMark m = Unit {0}
+-- Those of these marks that have the value v.
+abbrev pub Valued : Bool → Marks → Marks
+Valued v A (mark x t w) = (w ≡ v) × A (mark x t w)
 
--- The rules of row r, by its node, add nothing to word q of any row.
-abbrev pub SettledIn : ℕ → ℕ → Marks → ℕ → Node → Type 0
-SettledIn q W S r signal = Unit {0}
-SettledIn q W S r (notOf x) = (t : ℕ) (v : Bool) → t / 64 ≡ q → (S (mark r t v) → S (mark x t (not v))) × (S (mark x t v) → S (mark r t (not v)))
-SettledIn q W S r (gate u a b) = (t : ℕ) → t / 64 ≡ q → GateSettled S u r a b t
-SettledIn q W S r (look k c) =
-    (t s : ℕ) (v : Bool) → Shifted t k s → t < W → s < W → (s / 64 ≡ q → S (mark r t v) → S (mark c s v)) × (t / 64 ≡ q → S (mark c s v) → S (mark r t v))
+-- The marks of a gate's row r and of its children's rows a and b in word q, as far as these words are told to have changed.
+abbrev pub GateWrote : ℕ → ℕ → ℕ → ℕ → ℕ → ℕ → ℕ → Marks
+GateWrote r a b q row left right = _or_ (Wrote r q row) (_or_ (Wrote a q left) (Wrote b q right))
 
--- In word q, the marks (a, x) and (b, y) at one tick give (r, v).
-abbrev pub Gives : ℕ → Marks → ℕ → Bool → ℕ → Bool → ℕ → Bool → Type 0
-Gives q S a x b y r v = (t : ℕ) → t / 64 ≡ q → S (mark a t x) → S (mark b t y) → S (mark r t v)
+-- The marks in row a's word p and in row b's word q, k bits further up, that answer each other, as far as these words are told to have changed.
+abbrev pub LinkWrote : ℕ → ℕ → ℕ → ℕ → ℕ → ℕ → ℕ → Marks
+LinkWrote a p b q k x y (mark z t v) =
+    ((z ≡ a) × (t / 64 ≡ p) × ((s : ℕ) × (s / 64 ≡ q) × Apart p q k t s) × (0 < x))
+    ⊎ ((z ≡ b) × (t / 64 ≡ q) × ((s : ℕ) × (s / 64 ≡ p) × Apart p q k s t) × (0 < y))
 
--- Row r is a gate u of a and b, its rules about the value u: And's true gives both true, and both true gives it true.
-abbrev pub WholeIn : ℕ → Marks → Bool → ℕ → ℕ → ℕ → Type 0
-WholeIn q S u r a b = Gives q S r u r u a u × Gives q S r u r u b u × Gives q S a u b u r u
+-- Of a look of row r at row c with the offset k: the marks in c's word q at ticks that r's word e - k / 64 looks at, and in that word.
+abbrev pub PartWrote : ℕ → ℕ → ℕ → ℕ → ℕ → ℕ → ℕ → Marks
+PartWrote r k c q e child own (mark z t v) =
+    ((z ≡ c) × (t / 64 ≡ q) × ((s : ℕ) → Shifted s k t → e ≡ s / 64 + k / 64) × (0 < child)) ⊎ ((z ≡ r) × (e ≡ t / 64 + k / 64) × (0 < own))
 
--- And its rules about the other value: a false child gives false, false and one child true gives the other false.
-abbrev pub PartIn : ℕ → Marks → Bool → ℕ → ℕ → ℕ → Type 0
-PartIn q S u r a b =
-    Gives q S a (not u) a (not u) r (not u) × Gives q S b (not u) b (not u) r (not u)
-    × Gives q S r (not u) b u a (not u) × Gives q S r (not u) a u b (not u)
+-- Of a look: the marks in its child's word q and in its own words that look at that word.
+abbrev pub LookWrote : ℕ → ℕ → ℕ → ℕ → ℕ → ℕ → ℕ → Marks
+LookWrote r k c q child before after = _or_ (Wrote c q child) (_or_ (WroteBefore r (k / 64) q before) (WroteBefore r (k / 64) (q + 1) after))
 
--- In word q, what row hi has k ticks after row lo they give each other, where both ticks are in the window.
-abbrev pub LinkedIn : ℕ → ℕ → Marks → ℕ → ℕ → ℕ → Type 0
-LinkedIn q W S hi lo k =
-    (t : ℕ) (v : Bool) → t + k < W → (t / 64 ≡ q → S (mark hi (t + k) v) → S (mark lo t v)) × ((t + k) / 64 ≡ q → S (mark lo t v) → S (mark hi (t + k) v))
+-- What a function does for every program in which row r is the node d: only the marks A are new, and C holds of the marks then.
+abbrev pub ByNode : Node → ℕ → Marks → (Marks → Type 0) → ℕ → ℕ → List ℕ → List ℕ → ℕ → Type 0
+ByNode d r A C W n T T′ changed = (P : Program) → node P r ≡ d → Inside W (Stands n T) → Moves n P W A T T′ changed × C (Stands n T′)
 
--- A look says that row hi has, k ticks later, what row lo has: hi is the child of a look ahead, or lo that of a look behind.
-abbrev pub Links : Program → ℕ → ℕ → ℕ → Type 0
-Links P hi lo k = (node P lo ≡ look (64 + k) hi) ⊎ ((o : ℕ) × (o + k ≡ 64) × (node P hi ≡ look o lo))
+-- In a program, row a in word p and row b in word q, k bits further up, give each other their values at the window's ticks.
+abbrev pub Mutual : Program → ℕ → ℕ → ℕ → ℕ → ℕ → ℕ → Type 0
+Mutual P W a p b q k = (t s : ℕ) (v : Bool) → Apart p q k t s → t < W → s < W → One P W (mark a t v) (mark b s v) × One P W (mark b s v) (mark a t v)
 
--- The marks of word q in the rows a and b.
-abbrev pub Pair : ℕ → ℕ → ℕ → Marks
-Pair q a b (mark x t v) = (t / 64 ≡ q) × ((x ≡ a) ⊎ (x ≡ b))
-
--- What a function does for every program in which row r is the node d: of word q it writes only the rows that r speaks of.
-abbrev pub ByNode : Node → ℕ → ℕ → (Marks → Type 0) → ℕ → ℕ → List ℕ → List ℕ → ℕ → Type 0
-ByNode d r q C W n T T′ changed =
-    (P : Program) → node P r ≡ d → Inside W (Stands n T) → Moves n P W (Spoken q d r) (λ X. C (Stands n X)) T T′ changed
-
--- What a function does for every program in which row hi has, k ticks later, what row lo has.
-abbrev pub ByLink : ℕ → ℕ → ℕ → ℕ → ℕ → ℕ → List ℕ → List ℕ → ℕ → Type 0
-ByLink hi lo k q W n T T′ changed =
-    (P : Program) → Links P hi lo k → Inside W (Stands n T) → Moves n P W (Pair q hi lo) (λ X. LinkedIn q W (Stands n X) hi lo k) T T′ changed
-
--- What a function does for every program whose rows are the words in B.
-abbrev pub ByRows : ℕ → List ℕ → (Program → Marks) → (Program → Marks → Type 0) → ℕ → ℕ → List ℕ → List ℕ → ℕ → Type 0
-ByRows count B A C W n T T′ changed =
-    (P : Program) → Codes P count B → Inside W (Stands n T) → Moves n P W (A P) (λ X. C P (Stands n X)) T T′ changed
-
--- A row's rules in word q: they write only rows that it speaks of.
-abbrev pub Stepped : ℕ → List ℕ → ℕ → ℕ → ℕ → ℕ → List ℕ → List ℕ → ℕ → Type 0
-Stepped count B r q W = ByRows count B (λ P. Spoken q (node P r) r) (λ P S. SettledIn q W S r (node P r)) W
-
--- The rules of the rows from lo to before hi add nothing.
-abbrev pub SettledFrom : ℕ → ℕ → ℕ → Program → Marks → Type 0
-SettledFrom lo hi W P S = (r : ℕ) → lo ≤ r → r < hi → SettledAt W S r (node P r)
-
--- The rules of the rows from lo to before hi.
-abbrev pub Swept : ℕ → List ℕ → ℕ → ℕ → ℕ → ℕ → List ℕ → List ℕ → ℕ → Type 0
-Swept count B lo hi W = ByRows count B (λ P. AnyMark) (SettledFrom lo hi W) W
+-- What a function does for every program in which they do so: they have the same values then.
+abbrev pub ByLink : ℕ → ℕ → ℕ → ℕ → ℕ → ℕ → ℕ → List ℕ → List ℕ → ℕ → ℕ → Type 0
+ByLink a p b q k W n T T′ x y =
+    (P : Program) → Mutual P W a p b q k → Inside W (Stands n T) → Moves n P W (LinkWrote a p b q k x y) T T′ (x + y) × LinkIn p q k W (Stands n T′) a b
 
 -- The table has n words for each value of `count` rows, and they cover the window.
 pub record Sized (n count W : ℕ) (T : List ℕ) : Type 0 where

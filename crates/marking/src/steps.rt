@@ -1,37 +1,72 @@
-// The rules of one row at the ticks of one word. Assumes that the table has the row and its children.
+// The rules of one row at the ticks of one word, once through: they add nothing to it then. Each function tells which words changed.
+// Assumes that the table has the row and its children, and that these stand before the row.
 use crate::rules::fall;
 use crate::rules::flow;
 use crate::rules::rise;
-ghost use Prim.Native.Nat.{ℕ, _*_, _<_, _≤_};
-ghost use Rattle.tilco.specs.Inference.{notOf, gate, look};
-ghost use Rattle.marking.specs.Codes.{Coded};
+ghost use mathlib.Core.Path.{_≡_};
+ghost use mathlib.Core.Bool.{not};
+ghost use Prim.Native.Nat.{ℕ, _+_, _*_, _/_, _<_, _≤_};
+ghost use Rattle.tilco.specs.Inference.{notOf, gate, look, _or_};
+ghost use Rattle.tilco.specs.Table.{words};
 ghost use Rattle.marking.specs.Gains.{HasRow};
-ghost use Rattle.marking.specs.Moves.{ByNode, ByLink, WholeIn, PartIn, SettledIn, Stepped, Sized};
+ghost use Rattle.marking.specs.Settled.{SettledIn, WholeIn, PartIn, LookIn};
+ghost use Rattle.marking.specs.Moves.{Wrote, Valued, GateWrote, PartWrote, LookWrote, ByNode, ByLink};
+
+// Whether the word of a row, of its left child and of its right child changed: 0 if not.
+pub struct Changed {
+    pub row: u64,
+    pub left: u64,
+    pub right: u64,
+}
 
 // A gate's rules about the value u, And's with true and Or's with false: it gives both children, both give it.
-fn gate_whole(marks: &mut [u64], n: usize, q: usize, row: usize, a: usize, b: usize, u: bool) -> u64
-    requires { ⌜ (q < n) × HasRow n (now marks) row × HasRow n (now marks) a × HasRow n (now marks) b ⌝ }
-    ensures { λ changed. ⌜ ((W : ℕ) → ByNode (gate u a b) row q (λ S. WholeIn q S u row a b) W n (now (marks .entry)) (now (marks .exit)) changed) ⌝ }
-    ensures { λ changed. ⌜ changed ≤ 3 ⌝ }
+fn gate_whole(
+    marks: &mut [u64],
+    n: usize,
+    q: usize,
+    row: usize,
+    a: usize,
+    b: usize,
+    u: bool,
+) -> Changed
+    requires { ⌜ (q < n) × HasRow n (now marks) row × HasRow n (now marks) a × HasRow n (now marks) b × (a < row) × (b < row) ⌝ }
+    ensures { λ c. ⌜ ((W : ℕ) → ByNode (gate u a b) row (Valued u (GateWrote row a b q (c .row) (c .left) (c .right))) (λ S. WholeIn q S u row a b) W n (now (marks .entry)) (now (marks .exit)) (c .row + c .left + c .right)) ⌝ }
+    ensures { λ c. ⌜ c .row + c .left + c .right ≤ 3 ⌝ }
 {
     let c1 = flow(marks, n, q, row, u, row, u, a, u);
     let c2 = flow(marks, n, q, row, u, row, u, b, u);
     let c3 = flow(marks, n, q, a, u, b, u, row, u);
-    c1 + c2 + c3
+    Changed {
+        row: c3,
+        left: c1,
+        right: c2,
+    }
 }
 
 // A gate's rules about the other value: a child gives it, it and one child's value u give the other child.
-fn gate_part(marks: &mut [u64], n: usize, q: usize, row: usize, a: usize, b: usize, u: bool) -> u64
-    requires { ⌜ (q < n) × HasRow n (now marks) row × HasRow n (now marks) a × HasRow n (now marks) b ⌝ }
-    ensures { λ changed. ⌜ ((W : ℕ) → ByNode (gate u a b) row q (λ S. PartIn q S u row a b) W n (now (marks .entry)) (now (marks .exit)) changed) ⌝ }
-    ensures { λ changed. ⌜ changed ≤ 4 ⌝ }
+fn gate_part(
+    marks: &mut [u64],
+    n: usize,
+    q: usize,
+    row: usize,
+    a: usize,
+    b: usize,
+    u: bool,
+) -> Changed
+    requires { ⌜ (q < n) × HasRow n (now marks) row × HasRow n (now marks) a × HasRow n (now marks) b × (a < row) × (b < row) ⌝ }
+    ensures { λ c. ⌜ ((W : ℕ) → ByNode (gate u a b) row (Valued (not u) (GateWrote row a b q (c .row) (c .left) (c .right))) (λ S. PartIn q S u row a b) W n (now (marks .entry)) (now (marks .exit)) (c .row + c .left + c .right)) ⌝ }
+    ensures { λ c. ⌜ c .row + c .left + c .right ≤ 4 ⌝ }
 {
     let f = !u;
     let c1 = flow(marks, n, q, a, f, a, f, row, f);
     let c2 = flow(marks, n, q, b, f, b, f, row, f);
     let c3 = flow(marks, n, q, row, f, b, u, a, f);
     let c4 = flow(marks, n, q, row, f, a, u, b, f);
-    c1 + c2 + c3 + c4
+    Changed {
+        row: c1 + c2,
+        left: c3,
+        right: c4,
+    }
 }
 
 // The rules of a row that is an And (u is true) or an Or of the rows a and b.
@@ -43,48 +78,123 @@ pub fn gate_step(
     a: usize,
     b: usize,
     u: bool,
-) -> u64
-    requires { ⌜ (q < n) × HasRow n (now marks) row × HasRow n (now marks) a × HasRow n (now marks) b ⌝ }
-    ensures { λ changed. ⌜ ((W : ℕ) → ByNode (gate u a b) row q (λ S. SettledIn q W S row (gate u a b)) W n (now (marks .entry)) (now (marks .exit)) changed) ⌝ }
+) -> Changed
+    requires { ⌜ (q < n) × HasRow n (now marks) row × HasRow n (now marks) a × HasRow n (now marks) b × (a < row) × (b < row) ⌝ }
+    ensures { λ c. ⌜ ((W : ℕ) → ByNode (gate u a b) row (GateWrote row a b q (c .row) (c .left) (c .right)) (λ S. SettledIn q W S row (gate u a b)) W n (now (marks .entry)) (now (marks .exit)) (c .row + c .left + c .right)) ⌝ }
+    ensures { λ c. ⌜ c .row + c .left + c .right ≤ 7 ⌝ }
 {
     let whole = gate_whole(marks, n, q, row, a, b, u);
     let part = gate_part(marks, n, q, row, a, b, u);
-    whole + part
+    Changed {
+        row: whole.row + part.row,
+        left: whole.left + part.left,
+        right: whole.right + part.right,
+    }
 }
 
-// The rules of a row that is the opposite of the row x.
-pub fn not_step(marks: &mut [u64], n: usize, q: usize, row: usize, x: usize) -> u64
-    requires { ⌜ (q < n) × HasRow n (now marks) row × HasRow n (now marks) x ⌝ }
-    ensures { λ changed. ⌜ ((W : ℕ) → ByNode (notOf x) row q (λ S. SettledIn q W S row (notOf x)) W n (now (marks .entry)) (now (marks .exit)) changed) ⌝ }
+// The rules of a row that is the opposite of the row x, its only child.
+pub fn not_step(marks: &mut [u64], n: usize, q: usize, row: usize, x: usize) -> Changed
+    requires { ⌜ (q < n) × HasRow n (now marks) row × HasRow n (now marks) x × (x < row) ⌝ }
+    ensures { λ c. ⌜ ((W : ℕ) → ByNode (notOf x) row (_or_ (Wrote row q (c .row)) (Wrote x q (c .left))) (λ S. SettledIn q W S row (notOf x)) W n (now (marks .entry)) (now (marks .exit)) (c .row + c .left)) ⌝ }
+    ensures { λ c. ⌜ c .row + c .left ≤ 4 ⌝ }
 {
     let c1 = flow(marks, n, q, row, true, row, true, x, false);
     let c2 = flow(marks, n, q, row, false, row, false, x, true);
     let c3 = flow(marks, n, q, x, true, x, true, row, false);
     let c4 = flow(marks, n, q, x, false, x, false, row, true);
-    c1 + c2 + c3 + c4
+    Changed {
+        row: c3 + c4,
+        left: c1 + c2,
+        right: 0,
+    }
 }
 
-// The rules of two rows of which hi has, k ticks later, what lo has.
+// Whether the words of two linked rows changed: 0 if not.
+struct Ends {
+    lo: u64,
+    hi: u64,
+}
+
+// The rules of two linked rows: hi has in its word q, k bits further up, what lo has in its word p.
 fn link_step(
     marks: &mut [u64],
     n: usize,
+    p: usize,
+    lo: usize,
     q: usize,
     hi: usize,
-    lo: usize,
     k: u64,
     window: usize,
-) -> u64
-    requires { ⌜ (q < n) × HasRow n (now marks) hi × HasRow n (now marks) lo × (k < 64) × (q * 64 < window) ⌝ }
-    ensures { λ changed. ⌜ ByLink hi lo k q window n (now (marks .entry)) (now (marks .exit)) changed ⌝ }
+) -> Ends
+    requires { ⌜ (p < n) × (q < n) × HasRow n (now marks) lo × HasRow n (now marks) hi × (k < 64) × (p * 64 < window) × (q * 64 < window) × (lo ≡ hi → ⊥) ⌝ }
+    ensures { λ c. ⌜ ByLink lo p hi q k window n (now (marks .entry)) (now (marks .exit)) (c .lo) (c .hi) ⌝ }
+    ensures { λ c. ⌜ c .lo + c .hi ≤ 4 ⌝ }
 {
-    let c1 = fall(marks, n, q, hi, lo, true, k);
-    let c2 = rise(marks, n, q, hi, lo, true, k, window);
-    let c3 = fall(marks, n, q, hi, lo, false, k);
-    let c4 = rise(marks, n, q, hi, lo, false, k, window);
-    c1 + c2 + c3 + c4
+    let c1 = rise(marks, n, p, lo, q, hi, true, k, window);
+    let c2 = fall(marks, n, p, lo, q, hi, true, k, window);
+    let c3 = rise(marks, n, p, lo, q, hi, false, k, window);
+    let c4 = fall(marks, n, p, lo, q, hi, false, k, window);
+    Ends {
+        lo: c2 + c4,
+        hi: c1 + c3,
+    }
 }
 
-// The rules of a row that looks at the row c, at an offset written with 64 added.
+// Of a look's rules those between the child's word q and the row's word q - offset / 64, if there is one: it looks at the lower ticks.
+fn look_before(
+    marks: &mut [u64],
+    n: usize,
+    q: usize,
+    row: usize,
+    c: usize,
+    offset: u64,
+    window: usize,
+) -> Ends
+    requires { ⌜ (q < n) × HasRow n (now marks) row × HasRow n (now marks) c × (c < row) × (offset ≤ 127) × (n ≡ words window) ⌝ }
+    ensures { λ x. ⌜ ByNode (look offset c) row (PartWrote row offset c q q (x .lo) (x .hi)) (λ S. LookIn q q window S row offset c) window n (now (marks .entry)) (now (marks .exit)) (x .lo + x .hi) ⌝ }
+    ensures { λ x. ⌜ (x .lo + x .hi ≤ 4) × (0 < x .hi → offset / 64 ≤ q) ⌝ }
+{
+    let back = (offset / 64) as usize;
+    let ticks = offset % 64;
+    if ticks == 0 {
+        return Ends { lo: 0, hi: 0 };
+    }
+    if q < back {
+        return Ends { lo: 0, hi: 0 };
+    }
+    link_step(marks, n, q, c, q - back, row, 64 - ticks, window)
+}
+
+// Those between the child's word q and the row's word after that, if there is one: it looks at the upper ticks.
+fn look_after(
+    marks: &mut [u64],
+    n: usize,
+    q: usize,
+    row: usize,
+    c: usize,
+    offset: u64,
+    window: usize,
+) -> Ends
+    requires { ⌜ (q < n) × HasRow n (now marks) row × HasRow n (now marks) c × (c < row) × (offset ≤ 127) × (n ≡ words window) ⌝ }
+    ensures { λ x. ⌜ ByNode (look offset c) row (PartWrote row offset c q (q + 1) (x .hi) (x .lo)) (λ S. LookIn q (q + 1) window S row offset c) window n (now (marks .entry)) (now (marks .exit)) (x .lo + x .hi) ⌝ }
+    ensures { λ x. ⌜ (x .lo + x .hi ≤ 4) × (0 < x .lo → q + 1 < n + offset / 64) ⌝ }
+{
+    let back = (offset / 64) as usize;
+    let next = q + 1 - back;
+    if n <= next {
+        return Ends { lo: 0, hi: 0 };
+    }
+    link_step(marks, n, next, row, q, c, offset % 64, window)
+}
+
+// Whether the word of a look's child changed, and of its own two words that look at it the one before and the one after: 0 if not.
+pub struct Looked {
+    pub child: u64,
+    pub before: u64,
+    pub after: u64,
+}
+
+// The rules of a row that looks at the row c, at an offset written with 64 added, for the ticks of the child's word q.
 pub fn look_step(
     marks: &mut [u64],
     n: usize,
@@ -93,42 +203,16 @@ pub fn look_step(
     c: usize,
     offset: u64,
     window: usize,
-) -> u64
-    requires { ⌜ (q < n) × HasRow n (now marks) row × HasRow n (now marks) c × (1 ≤ offset) × (offset ≤ 127) × (q * 64 < window) ⌝ }
-    ensures { λ changed. ⌜ ByNode (look offset c) row q (λ S. SettledIn q window S row (look offset c)) window n (now (marks .entry)) (now (marks .exit)) changed ⌝ }
+) -> Looked
+    requires { ⌜ (q < n) × HasRow n (now marks) row × HasRow n (now marks) c × (c < row) × (offset ≤ 127) × (n ≡ words window) ⌝ }
+    ensures { λ x. ⌜ ByNode (look offset c) row (LookWrote row offset c q (x .child) (x .before) (x .after)) (λ S. SettledIn q window S row (look offset c)) window n (now (marks .entry)) (now (marks .exit)) (x .child + x .before + x .after) ⌝ }
+    ensures { λ x. ⌜ (x .child + x .before + x .after ≤ 8) × (0 < x .before → offset / 64 ≤ q) × (0 < x .after → q + 1 < n + offset / 64) ⌝ }
 {
-    if 64 <= offset {
-        link_step(marks, n, q, c, row, offset - 64, window)
-    } else {
-        link_step(marks, n, q, row, c, 64 - offset, window)
-    }
-}
-
-// The rules of a row of the program, by its word. A signal's row has none.
-pub fn step(
-    rows: &[u64],
-    count: usize,
-    row: usize,
-    q: usize,
-    n: usize,
-    window: usize,
-    marks: &mut [u64],
-) -> u64
-    requires { ⌜ Coded count (now rows) ⌝ }
-    requires { ⌜ (row < count) × (q < n) ⌝ }
-    requires { ⌜ Sized n count window (now marks) ⌝ }
-    ensures { λ changed. ⌜ Stepped count (now (rows .entry)) row q window n (now (marks .entry)) (now (marks .exit)) changed ⌝ }
-{
-    let w = rows[row];
-    let kind = w % 8;
-    let a = (w / 8 % 65536) as usize;
-    let offset = w / 524288;
-    let b = offset as usize;
-    match kind {
-        0 => 0,
-        1 => gate_step(marks, n, q, row, a, b, true),
-        2 => gate_step(marks, n, q, row, a, b, false),
-        3 => look_step(marks, n, q, row, a, offset, window),
-        _ => not_step(marks, n, q, row, a),
+    let before = look_before(marks, n, q, row, c, offset, window);
+    let after = look_after(marks, n, q, row, c, offset, window);
+    Looked {
+        child: before.lo + after.hi,
+        before: before.hi,
+        after: after.lo,
     }
 }

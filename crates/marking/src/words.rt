@@ -1,11 +1,11 @@
-// The words of a table of marks: reading one, joining ticks to one, the ticks of a row some ticks later or before, and the window's.
+// The words of a table of marks: reading one, joining ticks to one, and the window's ticks.
 // Assumes that the table has the row.
 use table::block_of;
 ghost use mathlib.Core.Path.{_≡_};
 ghost use Prim.Native.Nat.{_+_, _*_, _<_};
 ghost use lib.ListN.{getD};
 ghost use Rattle.ticks.specs.Ticks.{block};
-ghost use Rattle.marking.specs.Gains.{HasRow, Ticks, Here, Bits, Joins, Later, Earlier};
+ghost use Rattle.marking.specs.Gains.{HasRow, Ticks, Here, Bits, Joins};
 
 // Word q of a row's marks of one value.
 pub fn word_at(marks: &[u64], n: usize, q: usize, row: usize, value: bool) -> u64
@@ -30,39 +30,6 @@ pub fn add_word(marks: &mut [u64], n: usize, q: usize, row: usize, value: bool, 
     }
     marks[i] = new;
     1
-}
-
-// Word q of what a row has k ticks later.
-pub fn later_word(marks: &[u64], n: usize, q: usize, row: usize, value: bool, k: u64) -> u64
-    requires { ⌜ (q < n) × HasRow n (now marks) row × (k < 64) ⌝ }
-    ensures { λ w. ⌜ Ticks q w (Later n (now (marks .entry)) row value k) ⌝ }
-{
-    let low = word_at(marks, n, q, row, value) >> k;
-    let next = q + 1;
-    if k == 0 {
-        return low;
-    }
-    if next == n {
-        return low;
-    }
-    let high = word_at(marks, n, next, row, value);
-    low | (high << (64 - k))
-}
-
-// Word q of what a row has k ticks before.
-pub fn earlier_word(marks: &[u64], n: usize, q: usize, row: usize, value: bool, k: u64) -> u64
-    requires { ⌜ (q < n) × HasRow n (now marks) row × (k < 64) ⌝ }
-    ensures { λ w. ⌜ Ticks q w (Earlier n (now (marks .entry)) row value k) ⌝ }
-{
-    let high = word_at(marks, n, q, row, value) << k;
-    if k == 0 {
-        return high;
-    }
-    if q == 0 {
-        return high;
-    }
-    let low = word_at(marks, n, q - 1, row, value);
-    high | (low >> (64 - k))
 }
 
 // The window's ticks in word q.

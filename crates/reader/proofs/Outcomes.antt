@@ -26,6 +26,7 @@ use Rattle.rows.specs.Words.{Blank}
 use Rattle.marking.specs.Codes.{Coded}
 use Rattle.marking.specs.Moves.{Sized}
 use Rattle.closing.specs.Closes.{SettlesAll}
+use Rattle.closing.specs.Items.{Roomy}
 use Rattle.closing.proofs.Outcomes.{settles-added}
 use Rattle.reader.specs.Results.{accepted, refused, gain}
 use Rattle.reader.specs.Opening.{sheetIn, Opens}
@@ -124,15 +125,25 @@ module _ {s T places B tops : List ℕ} {w t count : ℕ} (h : AtHand s T places
   pub readings-refused : (r U : List ℕ) {a p : ℕ} → (readings (namesAt s places) w r ≡ unread a p) × (U ≡ T) → Adds s r T U (refused a p)
   readings-refused r U {a} {p} f = not-read (h .1) (to-contents (λ l v m. readings (namesAt s l) v r ≡ unread a p) (f .0)) (f .1)
 
+  -- 16 words list every item of 1,024 rows with one word of ticks.
+  list-fits : (D : List ℕ) → 16 ≤ length D → Roomy count n D
+  list-fits D l =
+      let few : count ≤ 1024 = omega (arith, k .rows, known .rows) in
+      record { most = few; long = rw is-one (omega arith) }
+
   module _ (r T₁ : List ℕ) (a : Accepted-as (readings (namesAt s places) w r) n T T₁) where
-    pub settle-asks : Coded count B × (((t ≤ length tops) × ((i : ℕ) → i < t → getD tops i 0 < count)) × (Sized n count w T₁ × Inside w (Stands n T₁)))
-    settle-asks = (
+    pub settle-asks : (D : List ℕ) → 16 ≤ length D
+        → Coded count B × (((t ≤ length tops) × ((i : ℕ) → i < t → getD tops i 0 < count)) × (Roomy count n D × (Sized n count w T₁ × Inside w (Stands n T₁))))
+    settle-asks D l = (
       record { program = program (meant c); codes = k .codes },
       (
         (k .few, λ i l. omega (arith, top-is-row (meant c) (sheet-declared s (known .reads)) (getD tops i 0) (k .tops-are .given i l), k .rows)),
         (
-          record { some = some-window .0; most = omega (arith, some-window .1); words-are = e; long = omega (arith, table-length, a .puts .size) },
-          puts-inside (length (namesAt s places)) w n (readings-within (namesAt s places) w r (some-window .0) (a .all)) table-inside (a .puts),
+          list-fits D l,
+          (
+            record { some = some-window .0; most = omega (arith, some-window .1); words-are = e; long = omega (arith, table-length, a .puts .size) },
+            puts-inside (length (namesAt s places)) w n (readings-within (namesAt s places) w r (some-window .0) (a .all)) table-inside (a .puts),
+          ),
         ),
       ),
     )

@@ -38,7 +38,8 @@ fn add_opened(
     let r = take_readings(s, places, window, n, readings, table);
     match r {
         Outcome::Accepted => {
-            settle(rows, count, tops, k, n, window, table);
+            let mut todo = [0u64; 16];
+            settle(rows, count, tops, k, n, window, &mut todo, table);
             let after = count_facts(table, n, signals);
             let clash = clash_in(table, count, n);
             let new = after - before;

@@ -1,7 +1,7 @@
 -- `gate_part` meets its contract. Assumes nothing.
 use borrow.Author.Needs.{needs}
 use native.Mathlib.Omega.{arith}
-use Rattle.marking.proofs.RowRules.{part-moves}
+use Rattle.marking.proofs.RowRules.{part-steps}
 use Rattle.marking.proofs.steps.gate_part.Statement.{statement}
 use Rattle.marking.proofs.steps.gate_part.Tie as tie
 
@@ -17,27 +17,17 @@ flow-requires-3 c κs = search needs
 flow-requires-4 : tie.Need-flow-requires-4
 flow-requires-4 c κs = search needs
 
-add-result : tie.Need-add-result
-add-result c = search needs
-
-add-result-2 : tie.Need-add-result-2
-add-result-2 c = search needs
-
-add-result-3 : tie.Need-add-result-3
-add-result-3 c = search needs
+add-t21 : tie.Need-add-t21
+add-t21 c = search needs
 
 same-length : tie.Need-same-length
 same-length c = search needs
 
 returns : tie.Need-returns
 returns c =
-    let flow = c .before .before .before .before .before .before .before .before .before .before .before .before .before .before .flow in
-    let flow2 = c .before .before .before .before .before .before .before .before .before .before .flow2 in
-    let flow3 = c .before .before .before .before .before .before .flow3 in
-    let flow4 = c .before .before .flow4 in (
-      part-moves _ _ _ _ _ _ _ _ _ _ _ _ _ _ _
-          (flow .ensures) (flow2 .ensures) (flow3 .ensures) (flow4 .ensures),
-      omega (arith, flow .ensures .small, flow2 .ensures .small, flow3 .ensures .small, flow4 .ensures .small),
+    let o = c .before .before .before .before .before .before .before .before .before .before .before .before .before .before .before .before .before .pre in (
+      part-steps _ _ _ _ _ _ _ _ _ _ _ _ _ (o .4) (o .5) _ _ (c .before .before .before .before .before .before .before .before .before .before .before .before .before .before .flow .ensures) (c .before .before .before .before .before .before .before .before .before .before .flow2 .ensures) (c .before .before .before .before .before .before .flow3 .ensures) (c .before .before .flow4 .ensures),
+      omega (arith, c .before .before .before .before .before .before .before .before .before .before .before .before .before .before .flow .ensures .small, c .before .before .before .before .before .before .before .before .before .before .flow2 .ensures .small, c .before .before .before .before .before .before .flow3 .ensures .small, c .before .before .flow4 .ensures .small),
     )
 
 pub gate-part-spec : {M : Type 1} → statement M
@@ -48,8 +38,6 @@ gate-part-spec =
     flow-requires-2
     flow-requires-3
     flow-requires-4
-    add-result
-    add-result-2
-    add-result-3
+    add-t21
     same-length
     returns)

@@ -1,40 +1,30 @@
 -- `look_step` meets its contract. Assumes nothing.
 use borrow.Author.Needs.{needs}
-use Rattle.marking.proofs.RowRules.{ahead-moves, behind-moves}
+use native.Mathlib.Omega.{arith}
+use Rattle.marking.proofs.RowRules.{look-steps}
 use Rattle.marking.proofs.steps.look_step.Statement.{statement}
 use Rattle.marking.proofs.steps.look_step.Tie as tie
 
-link-step-requires : tie.Need-link-step-requires
-link-step-requires c κs = search needs
+look-before-requires : tie.Need-look-before-requires
+look-before-requires c κs = search needs
 
-sub-link-step : tie.Need-sub-link-step
-sub-link-step c = search needs
+look-after-requires : tie.Need-look-after-requires
+look-after-requires c κs = search needs
 
-link-step-requires-2 : tie.Need-link-step-requires-2
-link-step-requires-2 c κs = search needs
+add-t14 : tie.Need-add-t14
+add-t14 c = search needs
 
 same-length : tie.Need-same-length
 same-length c = search needs
 
 returns : tie.Need-returns
 returns c =
-    ahead-moves _ _ _ _ _ _ _ _ _ (c .before .before .before .before .if1 .taken) (c .before .before .link-step .ensures)
-
-same-length-2 : tie.Need-same-length-2
-same-length-2 c = search needs
-
-returns-2 : tie.Need-returns-2
-returns-2 c =
-    behind-moves _ _ _ _ _ _ _ _ _ (c .before .before .before .before .if1 .left) (c .before .before .link-step2 .ensures)
+    let before = c .before .before .before .before .before .before .before .before .look-before in
+    let after = c .before .before .before .before .look-after in (
+      look-steps _ _ _ _ _ _ _ _ _ _ _ _ _ (c .before .before .before .before .before .before .before .before .before .before .before .pre .3) (before .ensures .0) (after .ensures .0),
+      (omega (arith, before .ensures .1 .0, after .ensures .1 .0), before .ensures .1 .1, after .ensures .1 .1),
+    )
 
 pub look-step-spec : {M : Type 1} → statement M
 look-step-spec =
-    tie.close
-    (tie.spec
-    link-step-requires
-    sub-link-step
-    link-step-requires-2
-    same-length
-    returns
-    same-length-2
-    returns-2)
+    tie.close (tie.spec look-before-requires look-after-requires add-t14 same-length returns)

@@ -21,21 +21,24 @@ take-readings-requires c κs =
 enum-told : tie.Need-enum-told
 enum-told c = search needs
 
+slice-aggregate-settle : tie.Need-slice-aggregate-settle
+slice-aggregate-settle c = search needs
+
 settle-requires : tie.Need-settle-requires
-settle-requires c κs = settle-asks (c .before .before .before .before .before .before .before .before .before .before .before .before .before .before .before .before .pre) _ (c .before .before .before .before .before .before .before .before .before .words-of .ensures) _ _ (when-accepted (c .before .before .before .before .before .take-readings .ensures) (c .before .enum-told .given .1))
+settle-requires c κs = settle-asks (c .before .before .before .before .before .before .before .before .before .before .before .before .before .before .before .before .before .pre) _ (c .before .before .before .before .before .before .before .before .before .before .words-of .ensures) _ _ (when-accepted (c .before .before .before .before .before .before .take-readings .ensures) (c .before .before .enum-told .given .1)) _ (omega arith)
 
 count-facts-requires-2 : tie.Need-count-facts-requires-2
 count-facts-requires-2 c κs =
-    let z = same-size (c .before .before .before .before .before .before .before .before .before .before .before .before .before .before .before .before .before .before .before .before .pre) _ (c .before .before .before .before .before .before .before .before .before .before .before .before .before .words-of .ensures) _ _ (when-accepted (c .before .before .before .before .before .before .before .before .before .take-readings .ensures) (c .before .before .before .before .before .enum-told .given .1)) _ (c .before .before .before .settle .ensures) in
-    (some-words (c .before .before .before .before .before .before .before .before .before .before .before .before .before .before .before .before .before .before .before .before .pre) _ (c .before .before .before .before .before .before .before .before .before .before .before .before .before .words-of .ensures) .0, omega (arith, signals-fit (c .before .before .before .before .before .before .before .before .before .before .before .before .before .before .before .before .before .before .before .before .pre) _ (c .before .before .before .before .before .before .before .before .before .before .before .before .before .words-of .ensures) .0, z), signals-fit (c .before .before .before .before .before .before .before .before .before .before .before .before .before .before .before .before .before .before .before .before .pre) _ (c .before .before .before .before .before .before .before .before .before .before .before .before .before .words-of .ensures) .1)
+    let z = same-size (c .before .before .before .before .before .before .before .before .before .before .before .before .before .before .before .before .before .before .before .before .before .before .pre) _ (c .before .before .before .before .before .before .before .before .before .before .before .before .before .before .before .words-of .ensures) _ _ (when-accepted (c .before .before .before .before .before .before .before .before .before .before .before .take-readings .ensures) (c .before .before .before .before .before .before .before .enum-told .given .1)) _ (c .before .before .before .before .settle .ensures) in
+    (some-words (c .before .before .before .before .before .before .before .before .before .before .before .before .before .before .before .before .before .before .before .before .before .before .pre) _ (c .before .before .before .before .before .before .before .before .before .before .before .before .before .before .before .words-of .ensures) .0, omega (arith, signals-fit (c .before .before .before .before .before .before .before .before .before .before .before .before .before .before .before .before .before .before .before .before .before .before .pre) _ (c .before .before .before .before .before .before .before .before .before .before .before .before .before .before .before .words-of .ensures) .0, z), signals-fit (c .before .before .before .before .before .before .before .before .before .before .before .before .before .before .before .before .before .before .before .before .before .before .pre) _ (c .before .before .before .before .before .before .before .before .before .before .before .before .before .before .before .words-of .ensures) .1)
 
 clash-in-requires : tie.Need-clash-in-requires
 clash-in-requires c κs =
-    same-size (c .before .before .before .before .before .before .before .before .before .before .before .before .before .before .before .before .before .before .before .before .before .before .pre) _ (c .before .before .before .before .before .before .before .before .before .before .before .before .before .before .before .words-of .ensures) _ _ (when-accepted (c .before .before .before .before .before .before .before .before .before .before .before .take-readings .ensures) (c .before .before .before .before .before .before .before .enum-told .given .1)) _ (c .before .before .before .before .before .settle .ensures) ∙ table-length (c .before .before .before .before .before .before .before .before .before .before .before .before .before .before .before .before .before .before .before .before .before .before .pre) _ (c .before .before .before .before .before .before .before .before .before .before .before .before .before .before .before .words-of .ensures)
+    same-size (c .before .before .before .before .before .before .before .before .before .before .before .before .before .before .before .before .before .before .before .before .before .before .before .before .pre) _ (c .before .before .before .before .before .before .before .before .before .before .before .before .before .before .before .before .before .words-of .ensures) _ _ (when-accepted (c .before .before .before .before .before .before .before .before .before .before .before .before .before .take-readings .ensures) (c .before .before .before .before .before .before .before .before .before .enum-told .given .1)) _ (c .before .before .before .before .before .before .settle .ensures) ∙ table-length (c .before .before .before .before .before .before .before .before .before .before .before .before .before .before .before .before .before .before .before .before .before .before .before .before .pre) _ (c .before .before .before .before .before .before .before .before .before .before .before .before .before .before .before .before .before .words-of .ensures)
 
 sub-new : tie.Need-sub-new
 sub-new c =
-    no-fewer (c .before .before .before .before .before .before .before .before .before .before .before .before .before .before .before .before .before .before .before .before .before .before .before .pre) _ (c .before .before .before .before .before .before .before .before .before .before .before .before .before .before .before .before .words-of .ensures) _ _ (when-accepted (c .before .before .before .before .before .before .before .before .before .before .before .before .take-readings .ensures) (c .before .before .before .before .before .before .before .before .enum-told .given .1)) _ (c .before .before .before .before .before .before .settle .ensures) _ _ (c .before .before .before .before .before .before .before .before .before .before .before .before .before .before .count-facts .ensures) (c .before .before .count-facts2 .ensures) (λ i. omega (arith, c .before .before .before .before .before .before .before .before .before .before .before .before .before .before .before .before .before .slice-known .given i))
+    no-fewer (c .before .before .before .before .before .before .before .before .before .before .before .before .before .before .before .before .before .before .before .before .before .before .before .before .before .pre) _ (c .before .before .before .before .before .before .before .before .before .before .before .before .before .before .before .before .before .before .words-of .ensures) _ _ (when-accepted (c .before .before .before .before .before .before .before .before .before .before .before .before .before .before .take-readings .ensures) (c .before .before .before .before .before .before .before .before .before .before .enum-told .given .1)) _ (c .before .before .before .before .before .before .before .settle .ensures) _ _ (c .before .before .before .before .before .before .before .before .before .before .before .before .before .before .before .before .count-facts .ensures) (c .before .before .count-facts2 .ensures) (λ i. omega (arith, c .before .before .before .before .before .before .before .before .before .before .before .before .before .before .before .before .before .before .before .slice-known .given i))
 
 enum-known-r : tie.Need-enum-known-r
 enum-known-r c = search needs
@@ -45,7 +48,7 @@ same-length c = search needs
 
 returns : tie.Need-returns
 returns c =
-    gains (c .before .before .before .before .before .before .before .before .before .before .before .before .before .before .before .before .before .before .before .before .before .before .before .pre) _ (c .before .before .before .before .before .before .before .before .before .before .before .before .before .before .before .before .words-of .ensures) _ _ (when-accepted (c .before .before .before .before .before .before .before .before .before .before .before .before .take-readings .ensures) (c .before .before .before .before .before .before .before .before .enum-told .given .1)) _ (c .before .before .before .before .before .before .settle .ensures) _ _ (c .before .before .before .before .before .before .before .before .before .before .before .before .before .before .count-facts .ensures) (c .before .before .count-facts2 .ensures) _ (c .clash-in .ensures)
+    gains (c .before .before .before .before .before .before .before .before .before .before .before .before .before .before .before .before .before .before .before .before .before .before .before .before .before .pre) _ (c .before .before .before .before .before .before .before .before .before .before .before .before .before .before .before .before .before .before .words-of .ensures) _ _ (when-accepted (c .before .before .before .before .before .before .before .before .before .before .before .before .before .before .take-readings .ensures) (c .before .before .before .before .before .before .before .before .before .before .enum-told .given .1)) _ (c .before .before .before .before .before .before .before .settle .ensures) _ _ (c .before .before .before .before .before .before .before .before .before .before .before .before .before .before .before .before .count-facts .ensures) (c .before .before .count-facts2 .ensures) _ (c .clash-in .ensures)
 
 same-length-2 : tie.Need-same-length-2
 same-length-2 c = search needs
@@ -61,6 +64,7 @@ add-opened-spec =
     count-facts-requires
     take-readings-requires
     enum-told
+    slice-aggregate-settle
     settle-requires
     count-facts-requires-2
     clash-in-requires

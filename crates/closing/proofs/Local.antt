@@ -1,0 +1,67 @@
+-- What is settled stays settled where the words that it rests on are the same, and a row that is settled in every word is settled.
+-- Assumes nothing.
+use mathlib.Core.Path.{_≡_, refl}
+use mathlib.Core.Bool.{not}
+use mathlib.Core.List.{List}
+use mathlib.Core.Logic.{_⊎_, inl, inr, ⊎-elim}
+use Prim.Native.Nat.{ℕ, _+_, _*_, _/_, _%_, _≤_, _<_}
+use native.Mathlib.Omega.{arith}
+use Rattle.ticks.proofs.Bits.{lt-or-ge}
+use Rattle.tilco.specs.Inference.{Node, signal, notOf, gate, look, Mark, mark, Shifted}
+use Rattle.tilco.specs.Table.{Stands}
+use Rattle.tilco.proofs.Closing.{GateSettled, SettledAt}
+use Rattle.marking.specs.Settled.{SettledIn, Rests, SameWord}
+
+-- A look's tick t is in a word from which its child's word is seen.
+seen-from : (t k s q : ℕ) → Shifted t k s → s / 64 ≡ q → (q ≡ t / 64 + k / 64) ⊎ (q + 1 ≡ t / 64 + k / 64)
+seen-from t k s q d e = ⊎-elim (λ l. inr (omega arith)) (λ l. inl (omega arith)) (lt-or-ge (t % 64 + k % 64) 64)
+
+module _ (n W : ℕ) (T T′ : List ℕ) (grows : (m : Mark) → Stands n T m → Stands n T′ m) where
+  pub settled-local : (r q : ℕ) (d : Node) → ((x p : ℕ) → Rests d r q x p → SameWord n T T′ x p) → SettledIn q W (Stands n T) r d → SettledIn q W (Stands n T′) r d
+  settled-local r q signal f h = tt
+  settled-local r q (notOf x) f h =
+      λ t v e. (
+        λ i. grows (mark x t (not v)) (h t v e .0 (f r q (refl, inl refl) t v e i)),
+        λ i. grows (mark r t (not v)) (h t v e .1 (f x q (refl, inr refl) t v e i)),
+      )
+  settled-local r q (gate u a b) f h =
+      λ t e. let k = h t e in record {
+        down-left = λ i. grows (mark a t u) (k .down-left (own t u e i));
+        down-right = λ i. grows (mark b t u) (k .down-right (own t u e i));
+        up-both = λ i j. grows (mark r t u) (k .up-both (left t u e i) (right t u e j));
+        up-left = λ i. grows (mark r t (not u)) (k .up-left (left t (not u) e i));
+        up-right = λ i. grows (mark r t (not u)) (k .up-right (right t (not u) e i));
+        rest-right = λ i j. grows (mark b t (not u)) (k .rest-right (own t (not u) e i) (left t u e j));
+        rest-left = λ i j. grows (mark a t (not u)) (k .rest-left (own t (not u) e i) (right t u e j));
+      }
+    where
+      own : SameWord n T T′ r q
+      own = f r q (refl, inl refl)
+
+      left : SameWord n T T′ a q
+      left = f a q (refl, inr (inl refl))
+
+      right : SameWord n T T′ b q
+      right = f b q (refl, inr (inr refl))
+  settled-local r q (look k c) f h =
+      λ t s v d l m e. (
+        λ i. grows (mark c s v) (h t s v d l m e .0 (f r (t / 64) (inr (refl, seen-from t k s q d e)) t v refl i)),
+        λ i. grows (mark r t v) (h t s v d l m e .1 (f c q (inl (refl, refl)) s v e i)),
+      )
+
+-- Where the rules of a row add nothing to any word, they add nothing.
+pub settled-all : (n W : ℕ) (X : List ℕ) (r : ℕ) (d : Node) → W ≤ n * 64 → ((q : ℕ) → q < n → SettledIn q W (Stands n X) r d) → SettledAt W (Stands n X) r d
+settled-all n W X r signal l h = tt
+settled-all n W X r (notOf x) l h =
+    λ t v. (λ i. h (t / 64) (omega (arith, i .within)) t v refl .0 i, λ i. h (t / 64) (omega (arith, i .within)) t v refl .1 i)
+settled-all n W X r (gate u a b) l h =
+    λ t. let at : t < n * 64 → GateSettled (Stands n X) u r a b t = λ k. h (t / 64) (omega arith) t refl in record {
+      down-left = λ i. at (i .within) .down-left i;
+      down-right = λ i. at (i .within) .down-right i;
+      up-both = λ i. at (i .within) .up-both i;
+      up-left = λ i. at (i .within) .up-left i;
+      up-right = λ i. at (i .within) .up-right i;
+      rest-right = λ i. at (i .within) .rest-right i;
+      rest-left = λ i. at (i .within) .rest-left i;
+    }
+settled-all n W X r (look k c) l h = λ t s v d a b. h (s / 64) (omega arith) t s v d a b refl

@@ -1,0 +1,139 @@
+-- Stretches of visits: none, one after another, and a word of the list that is empty then.
+-- Assumes nothing.
+use mathlib.Core.Path.{_≡_, refl, ap, _∙_, subst}
+use mathlib.Core.List.{List}
+use mathlib.Core.Logic.{_⊎_, inl, inr, ⊎-elim}
+use Prim.Native.Nat.{ℕ, zero, suc, _+_, _*_, _/_, _%_, _^_, _≤_, _<_}
+use native.Mathlib.Nat.{le-of-eq}
+use native.Mathlib.Omega.{arith}
+use lib.Count.{trailingZeros}
+use lib.ListN.{getD}
+use Rattle.ticks.specs.Ticks.{Has}
+use Rattle.ticks.proofs.Bits.{lt-or-ge, has-below, no-ticks}
+use Rattle.ticks.proofs.Counts.{first-has}
+use Rattle.tilco.specs.Inference.{Program, mark, start}
+use Rattle.tilco.specs.Table.{Stands, Inside}
+use Rattle.tilco.proofs.Derives.{cut, stays-inside}
+use Rattle.marking.specs.Codes.{Codes, Coded}
+use Rattle.marking.specs.Gains.{room}
+use Rattle.closing.specs.Items.{per}
+use Rattle.closing.specs.Rounds.{Worked, Works, Taken, NoItem, InWord, InColumn}
+
+some-or-none : (k : ℕ) → (0 < k) ⊎ (k ≡ 0)
+some-or-none zero = inr refl
+some-or-none (suc k) = inl (omega arith)
+
+room-falls : {count : ℕ} {B : List ℕ} {n : ℕ} {P : Program} {W : ℕ} {Z : ℕ → ℕ → Type 0} {T T′ D D′ : List ℕ} {x : ℕ} → Worked count B n P W Z T T′ D D′ x → room T′ ≤ room T
+room-falls {x = x} m = ⊎-elim (λ l. omega (arith, m .moved l)) (λ e. le-of-eq (ap room (m .still e))) (some-or-none x)
+
+module _ (count : ℕ) (B : List ℕ) (W n : ℕ) where
+  -- Nothing done, and none of no items left.
+  pub works-none : (Z : ℕ → ℕ → Type 0) (T D : List ℕ) → ((r q : ℕ) → Z r q → ⊥) → Works count B W n Z T T D D 0
+  works-none Z T D f = record {
+    long = refl;
+    each = λ P c. record {
+      size = refl;
+      grows = λ m i. i;
+      sound = λ m i. start i;
+      moved = λ l. absurd (omega arith);
+      still = λ e. refl;
+      left = λ e r q h b t. (t, f r q);
+      rests = λ d. d;
+    };
+  }
+
+  -- Fewer items that none is left of.
+  pub works-as : (Y Z : ℕ → ℕ → Type 0) {T T′ D D′ : List ℕ} {x : ℕ} → ((r q : ℕ) → r < count → q < n → Z r q → Y r q) → Works count B W n Y T T′ D D′ x → Works count B W n Z T T′ D D′ x
+  works-as Y Z f a = record {
+    long = a .long;
+    each = λ P c. let m = a .each P c in record {
+      size = m .size;
+      grows = m .grows;
+      sound = m .sound;
+      moved = m .moved;
+      still = m .still;
+      left = λ e r q h b t. let u = m .left e r q h b t in (u .0, λ z. u .1 (f r q h b z));
+      rests = m .rests;
+    };
+  }
+
+  -- No mark leaves the window.
+  pub works-inside : (Z : ℕ → ℕ → Type 0) {T T′ D D′ : List ℕ} {x : ℕ} → Coded count B → Inside W (Stands n T) → Works count B W n Z T T′ D D′ x → Inside W (Stands n T′)
+  works-inside Z k w a r t v i = stays-inside w r t v (a .each (k .program) (k .codes) .sound (mark r t v) i)
+
+  -- One stretch after another; z says whether one of them changed the table.
+  pub works-then : (Y Z U : ℕ → ℕ → Type 0) {T T′ T″ D D′ D″ : List ℕ} {x y : ℕ} (z : ℕ) → ((r q : ℕ) → r < count → U r q → Y r q ⊎ Z r q)
+      → (z ≡ 0 → x + y ≡ 0) → (0 < z → 0 < x + y)
+      → Works count B W n Y T T′ D D′ x → Works count B W n Z T′ T″ D′ D″ y → Works count B W n U T T″ D D″ z
+  works-then Y Z U {T} {T′} {T″} {D} {D′} {D″} {x} {y} z among none some a b = record { long = b .long ∙ a .long; each = both }
+    where
+      both : (P : Program) → Codes P count B → Worked count B n P W U T T″ D D″ z
+      both P c =
+          let m = a .each P c in
+          let k = b .each P c in
+          record {
+            size = k .size ∙ m .size;
+            grows = λ p i. k .grows p (m .grows p i);
+            sound = λ p i. cut (m .sound) (k .sound p i);
+            moved = λ l. ⊎-elim (λ h. omega (arith, m .moved h, room-falls k)) (λ h. omega (arith, k .moved (omega (arith, some l)), room-falls m)) (some-or-none x);
+            still = λ e. k .still (omega (arith, none e)) ∙ m .still (omega (arith, none e));
+            left = λ e r q h l t.
+                let u = k .left (omega (arith, none e)) r q h l t in
+                let v = m .left (omega (arith, none e)) r q h l (u .0) in
+                (v .0, λ i. ⊎-elim (v .1) (u .1) (among r q h i));
+            rests = λ d. k .rests (m .rests d);
+          }
+
+  -- The words of the list for word q before the m-th, and the words of ticks before m.
+  abbrev pub FirstWords : ℕ → ℕ → ℕ → ℕ → Type 0
+  FirstWords q m r p = (p ≡ q) × (r / 64 < m)
+
+  abbrev pub FirstColumns : ℕ → ℕ → ℕ → Type 0
+  FirstColumns m r p = p < m
+
+  module _ {T T′ T″ D D′ D″ : List ℕ} {x y : ℕ} (z : ℕ) (none : z ≡ 0 → x + y ≡ 0) (some : 0 < z → 0 < x + y) where
+    pub works-item : Works count B W n NoItem T T′ D D′ x → Works count B W n NoItem T′ T″ D′ D″ y → Works count B W n NoItem T T″ D D″ z
+    works-item a b = works-then NoItem NoItem NoItem z (λ r q h i. inl i) none some a b
+
+    pub works-words : (q m : ℕ) → Works count B W n (FirstWords q m) T T′ D D′ x → Works count B W n (InWord q m) T′ T″ D′ D″ y → Works count B W n (FirstWords q (m + 1)) T T″ D D″ z
+    works-words q m a b =
+        works-then (FirstWords q m) (InWord q m) (FirstWords q (m + 1)) z (λ r p h i. ⊎-elim (λ l. inl (i .0, l)) (λ l. inr (i .0, omega (arith, i .1))) (lt-or-ge (r / 64) m)) none some a b
+
+    pub works-columns : (m : ℕ) → Works count B W n (FirstColumns m) T T′ D D′ x → Works count B W n (InColumn m) T′ T″ D′ D″ y → Works count B W n (FirstColumns (m + 1)) T T″ D D″ z
+    works-columns m a b =
+        works-then (FirstColumns m) (InColumn m) (FirstColumns (m + 1)) z (λ r p h i. ⊎-elim inl (λ l. inr (omega arith)) (lt-or-ge p m)) none some a b
+
+  -- Where a word of the list is 0 none of its items is left.
+  pub works-word : (q i : ℕ) (T T′ D D′ : List ℕ) (x : ℕ) → getD D′ (q * per count + i) 0 ≡ 0 → Works count B W n NoItem T T′ D D′ x → Works count B W n (InWord q i) T T′ D D′ x
+  works-word q i T T′ D D′ x zero-there a = record {
+    long = a .long;
+    each = λ P c. let m = a .each P c in record {
+      size = m .size;
+      grows = m .grows;
+      sound = m .sound;
+      moved = m .moved;
+      still = m .still;
+      left = λ e r p h b t. (m .left e r p h b t .0, λ z. none r p t z);
+      rests = m .rests;
+    };
+  }
+    where
+      none : (r p : ℕ) → Has (getD D′ (p * per count + r / 64) 0) (r % 64) → InWord q i r p → ⊥
+      none r p t z =
+          let e : p * per count + r / 64 ≡ q * per count + i = rw (z .0, z .1) refl in
+          omega (arith, no-ticks (r % 64), subst (λ (w : ℕ). Has w (r % 64)) (ap (λ (v : ℕ). getD D′ v 0) e ∙ zero-there) t)
+
+-- ---- the items of one word of the list, the lowest first
+
+-- A word that is not 0 has a lowest bit.
+pub lowest : (x : ℕ) → (x ≡ 0 → ⊥) → x < 2 ^ 64 → (trailingZeros 64 x < 64) × Has x (trailingZeros 64 x)
+lowest x f small =
+    let h : Has x (trailingZeros 64 x) = first-has 64 x (omega (arith, f)) small in
+    (has-below x 64 (trailingZeros 64 x) small h, h)
+
+-- An item taken leaves the table less room, or the word smaller.
+pub taken-less : (count : ℕ) (B : List ℕ) (W n j : ℕ) (T T′ D D′ : List ℕ) (x : ℕ) → Coded count B → getD D′ j 0 < 2 ^ 64 → Taken count B W n j T T′ D D′ x
+    → room T′ * 2 ^ 64 + getD D′ j 0 < room T * 2 ^ 64 + getD D j 0
+taken-less count B W n j T T′ D D′ x k small a =
+    let m = a .works .each (k .program) (k .codes) in
+    ⊎-elim (λ l. omega (arith, m .moved l)) (λ e. omega (arith, a .less e, ap room (m .still e))) (some-or-none x)

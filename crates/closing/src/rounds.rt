@@ -1,0 +1,227 @@
+// Closes a table: items of the list are visited, word of ticks by word of ticks, until a round over all of them changes nothing.
+// Assumes that the words are a program's rows, that the table has them, and that no mark is outside the window.
+use crate::items::fill;
+use crate::links::link_rows;
+use crate::visits::visit;
+ghost use mathlib.Core.Path.{_≡_};
+ghost use Prim.Native.Nat.{_+_, _-_, _*_, _/_, _^_, _<_, _≤_};
+ghost use lib.ListN.{length, getD, set};
+ghost use Rattle.ticks.specs.Ticks.{Has};
+ghost use Rattle.tilco.specs.Table.{Stands, Inside};
+ghost use Rattle.marking.specs.Codes.{Coded};
+ghost use Rattle.marking.specs.Moves.{Sized};
+ghost use Rattle.closing.specs.Closes.{ClosesAll};
+ghost use Rattle.closing.specs.Items.{per, Roomy, Full};
+ghost use Rattle.closing.specs.Visits.{Visits};
+ghost use Rattle.closing.specs.Rounds.{Works, Taken, InWord, InColumn, AnyItem};
+ghost use Rattle.closing.specs.Links.{Linked};
+
+// Clears bit k, which is set, of word j of the list.
+fn clear_bit(todo: &mut [u64], j: usize, k: u64)
+    requires { ⌜ (j < length (now todo)) × (k < 64) × Has (getD (now todo) j 0) k ⌝ }
+    ensures { λ _. ⌜ now (todo .exit) ≡ set (now (todo .entry)) j (getD (now (todo .entry)) j 0 - 2 ^ k) ⌝ }
+{
+    let bit: u64 = 1 << k;
+    todo[j] = todo[j] - bit;
+}
+
+// Visits an item, if its row is one of the program.
+fn visit_row(
+    rows: &[u64],
+    count: usize,
+    row: usize,
+    q: usize,
+    n: usize,
+    window: usize,
+    heads: &[u16],
+    nexts: &[u16],
+    todo: &mut [u64],
+    marks: &mut [u64],
+) -> u64
+    requires { ⌜ Coded count (now rows) ⌝ }
+    requires { ⌜ q < n ⌝ }
+    requires { ⌜ Linked count (now rows) (now heads) (now nexts) ⌝ }
+    requires { ⌜ Roomy count n (now todo) ⌝ }
+    requires { ⌜ Sized n count window (now marks) ⌝ }
+    ensures { λ changed. ⌜ Visits count (now (rows .entry)) row q window n (now (marks .entry)) (now (marks .exit)) (now (todo .entry)) (now (todo .exit)) changed ⌝ }
+    ensures { λ _. ⌜ (count ≤ row → now (todo .exit) ≡ now (todo .entry)) ⌝ }
+{
+    if count <= row {
+        return 0;
+    }
+    visit(rows, count, row, q, n, window, heads, nexts, todo, marks)
+}
+
+// Visits the item of word q that bit k of its i-th word in the list stands for, and takes it off the list after that.
+fn take_item(
+    rows: &[u64],
+    count: usize,
+    i: usize,
+    k: u64,
+    q: usize,
+    n: usize,
+    window: usize,
+    heads: &[u16],
+    nexts: &[u16],
+    todo: &mut [u64],
+    marks: &mut [u64],
+) -> u64
+    requires { ⌜ Coded count (now rows) ⌝ }
+    requires { ⌜ (q < n) × (i < per count) × (k < 64) × Has (getD (now todo) (q * per count + i) 0) k ⌝ }
+    requires { ⌜ Linked count (now rows) (now heads) (now nexts) ⌝ }
+    requires { ⌜ Roomy count n (now todo) ⌝ }
+    requires { ⌜ Sized n count window (now marks) ⌝ }
+    requires { ⌜ Inside window (Stands n (now marks)) ⌝ }
+    ensures { λ changed. ⌜ Taken count (now (rows .entry)) window n (q * per count + i) (now (marks .entry)) (now (marks .exit)) (now (todo .entry)) (now (todo .exit)) changed ⌝ }
+{
+    let stride = (count + 63) / 64;
+    let j = q * stride + i;
+    let row = 64 * i + (k as usize);
+    let changed = visit_row(rows, count, row, q, n, window, heads, nexts, todo, marks);
+    clear_bit(todo, j, k);
+    changed
+}
+
+// Visits the items of word q in its i-th word of the list until none is left there.
+fn work_word(
+    rows: &[u64],
+    count: usize,
+    i: usize,
+    q: usize,
+    n: usize,
+    window: usize,
+    heads: &[u16],
+    nexts: &[u16],
+    todo: &mut [u64],
+    marks: &mut [u64],
+) -> u64
+    requires { ⌜ Coded count (now rows) ⌝ }
+    requires { ⌜ (q < n) × (i < per count) ⌝ }
+    requires { ⌜ Linked count (now rows) (now heads) (now nexts) ⌝ }
+    requires { ⌜ Roomy count n (now todo) ⌝ }
+    requires { ⌜ Sized n count window (now marks) ⌝ }
+    requires { ⌜ Inside window (Stands n (now marks)) ⌝ }
+    ensures { λ changed. ⌜ Works count (now (rows .entry)) window n (InWord q i) (now (marks .entry)) (now (marks .exit)) (now (todo .entry)) (now (todo .exit)) changed ⌝ }
+{
+    let stride = (count + 63) / 64;
+    let j = q * stride + i;
+    let mut changed: u64 = 0;
+    while todo[j] != 0 {
+        let k = u64::trailing_zeros(todo[j]) as u64;
+        let c = take_item(rows, count, i, k, q, n, window, heads, nexts, todo, marks);
+        if c != 0 {
+            changed = 1;
+        }
+    }
+    changed
+}
+
+// Visits the items of word q.
+fn work_column(
+    rows: &[u64],
+    count: usize,
+    q: usize,
+    n: usize,
+    window: usize,
+    heads: &[u16],
+    nexts: &[u16],
+    todo: &mut [u64],
+    marks: &mut [u64],
+) -> u64
+    requires { ⌜ Coded count (now rows) ⌝ }
+    requires { ⌜ q < n ⌝ }
+    requires { ⌜ Linked count (now rows) (now heads) (now nexts) ⌝ }
+    requires { ⌜ Roomy count n (now todo) ⌝ }
+    requires { ⌜ Sized n count window (now marks) ⌝ }
+    requires { ⌜ Inside window (Stands n (now marks)) ⌝ }
+    ensures { λ changed. ⌜ Works count (now (rows .entry)) window n (InColumn q) (now (marks .entry)) (now (marks .exit)) (now (todo .entry)) (now (todo .exit)) changed ⌝ }
+{
+    let stride = (count + 63) / 64;
+    let mut changed: u64 = 0;
+    let mut i: usize = 0;
+    while i < stride {
+        let c = work_word(rows, count, i, q, n, window, heads, nexts, todo, marks);
+        if c != 0 {
+            changed = 1;
+        }
+        i += 1;
+    }
+    changed
+}
+
+// Visits the items of every word.
+fn work_round(
+    rows: &[u64],
+    count: usize,
+    n: usize,
+    window: usize,
+    heads: &[u16],
+    nexts: &[u16],
+    todo: &mut [u64],
+    marks: &mut [u64],
+) -> u64
+    requires { ⌜ Coded count (now rows) ⌝ }
+    requires { ⌜ Linked count (now rows) (now heads) (now nexts) ⌝ }
+    requires { ⌜ Roomy count n (now todo) ⌝ }
+    requires { ⌜ Sized n count window (now marks) ⌝ }
+    requires { ⌜ Inside window (Stands n (now marks)) ⌝ }
+    ensures { λ changed. ⌜ Works count (now (rows .entry)) window n AnyItem (now (marks .entry)) (now (marks .exit)) (now (todo .entry)) (now (todo .exit)) changed ⌝ }
+{
+    let mut changed: u64 = 0;
+    let mut q: usize = 0;
+    while q < n {
+        let c = work_column(rows, count, q, n, window, heads, nexts, todo, marks);
+        if c != 0 {
+            changed = 1;
+        }
+        q += 1;
+    }
+    changed
+}
+
+// Rounds from a full list until one changes nothing: it leaves the list empty, so every row is settled in every word.
+fn work_off(
+    rows: &[u64],
+    count: usize,
+    n: usize,
+    window: usize,
+    heads: &[u16],
+    nexts: &[u16],
+    todo: &mut [u64],
+    marks: &mut [u64],
+)
+    requires { ⌜ Coded count (now rows) ⌝ }
+    requires { ⌜ Linked count (now rows) (now heads) (now nexts) ⌝ }
+    requires { ⌜ Roomy count n (now todo) × Full count n (now todo) ⌝ }
+    requires { ⌜ Sized n count window (now marks) ⌝ }
+    requires { ⌜ Inside window (Stands n (now marks)) ⌝ }
+    ensures { λ _. ⌜ ClosesAll count (now (rows .entry)) window n (now (marks .entry)) (now (marks .exit)) ⌝ }
+{
+    let mut go: u64 = 1;
+    while go != 0 {
+        go = work_round(rows, count, n, window, heads, nexts, todo, marks);
+    }
+}
+
+// Closes the table under the rules, although a clash appears: it has every consequence of its marks then, and no other mark.
+// The list is lent; what it holds before and after says nothing.
+pub fn close(
+    rows: &[u64],
+    count: usize,
+    n: usize,
+    window: usize,
+    todo: &mut [u64],
+    marks: &mut [u64],
+)
+    requires { ⌜ Coded count (now rows) ⌝ }
+    requires { ⌜ Roomy count n (now todo) ⌝ }
+    requires { ⌜ Sized n count window (now marks) ⌝ }
+    requires { ⌜ Inside window (Stands n (now marks)) ⌝ }
+    ensures { λ _. ⌜ ClosesAll count (now (rows .entry)) window n (now (marks .entry)) (now (marks .exit)) ⌝ }
+{
+    let mut heads = [1u16; 1024];
+    let mut nexts = [1u16; 2048];
+    link_rows(rows, count, &mut heads, &mut nexts);
+    fill(count, n, todo);
+    work_off(rows, count, n, window, &heads, &nexts, todo, marks);
+}

@@ -1,0 +1,55 @@
+-- A row whose rules add nothing to a word of ticks, and the words on which that rests. Assumes nothing.
+-- n is how many words a row has for each value, q and p words of a row, W the window, T the table before and T′ after.
+use mathlib.Core.Path.{_≡_}
+use mathlib.Core.Bool.{Bool, not}
+use mathlib.Core.List.{List}
+use mathlib.Core.Logic.{_⊎_}
+use Prim.Native.Nat.{ℕ, _+_, _/_, _<_}
+use Rattle.tilco.specs.Inference.{Node, signal, notOf, gate, look, mark, Marks, Shifted}
+use Rattle.tilco.specs.Table.{Stands}
+use Rattle.tilco.proofs.Closing.{GateSettled}
+use Rattle.marking.specs.Gains.{Apart}
+
+-- The rules of row r, by its node, add nothing to the ticks of word q; a look's ticks are its child's.
+abbrev pub SettledIn : ℕ → ℕ → Marks → ℕ → Node → Type 0
+SettledIn q W S r signal = Unit {0}
+SettledIn q W S r (notOf x) = (t : ℕ) (v : Bool) → t / 64 ≡ q → (S (mark r t v) → S (mark x t (not v))) × (S (mark x t v) → S (mark r t (not v)))
+SettledIn q W S r (gate u a b) = (t : ℕ) → t / 64 ≡ q → GateSettled S u r a b t
+SettledIn q W S r (look k c) =
+    (t s : ℕ) (v : Bool) → Shifted t k s → t < W → s < W → s / 64 ≡ q → (S (mark r t v) → S (mark c s v)) × (S (mark c s v) → S (mark r t v))
+
+-- Whether row r's rules add something to word q rests on word p of row x. A look's offset k is written with 64 added (1..127), so
+-- the ticks of its word p look at its child's words p + k / 64 - 1 and p + k / 64.
+abbrev pub Rests : Node → ℕ → ℕ → ℕ → ℕ → Type 0
+Rests signal r q x p = ⊥
+Rests (notOf y) r q x p = (p ≡ q) × ((x ≡ r) ⊎ (x ≡ y))
+Rests (gate u a b) r q x p = (p ≡ q) × ((x ≡ r) ⊎ ((x ≡ a) ⊎ (x ≡ b)))
+Rests (look k c) r q x p = ((x ≡ c) × (p ≡ q)) ⊎ ((x ≡ r) × ((q ≡ p + k / 64) ⊎ (q + 1 ≡ p + k / 64)))
+
+-- Word p of row x is the same in both tables.
+abbrev pub SameWord : ℕ → List ℕ → List ℕ → ℕ → ℕ → Type 0
+SameWord n T T′ x p = (t : ℕ) (v : Bool) → t / 64 ≡ p → Stands n T′ (mark x t v) → Stands n T (mark x t v)
+
+-- In word q, the marks (a, x) and (b, y) at one tick give (r, v).
+abbrev pub Gives : ℕ → Marks → ℕ → Bool → ℕ → Bool → ℕ → Bool → Type 0
+Gives q S a x b y r v = (t : ℕ) → t / 64 ≡ q → S (mark a t x) → S (mark b t y) → S (mark r t v)
+
+-- Row r is a gate u of a and b, its rules about the value u: And's true gives both true, and both true gives it true.
+abbrev pub WholeIn : ℕ → Marks → Bool → ℕ → ℕ → ℕ → Type 0
+WholeIn q S u r a b = Gives q S r u r u a u × Gives q S r u r u b u × Gives q S a u b u r u
+
+-- And its rules about the other value: a false child gives false, false and one child true gives the other false.
+abbrev pub PartIn : ℕ → Marks → Bool → ℕ → ℕ → ℕ → Type 0
+PartIn q S u r a b =
+    Gives q S a (not u) a (not u) r (not u) × Gives q S b (not u) b (not u) r (not u)
+    × Gives q S r (not u) b u a (not u) × Gives q S r (not u) a u b (not u)
+
+-- Row r looks at row c with the offset k: at the ticks of c's word q they have the same values, where r's tick is in the word e - k / 64.
+abbrev pub LookIn : ℕ → ℕ → ℕ → Marks → ℕ → ℕ → ℕ → Type 0
+LookIn q e W S r k c =
+    (t s : ℕ) (v : Bool) → Shifted t k s → t < W → s < W → s / 64 ≡ q → e ≡ t / 64 + k / 64 → (S (mark r t v) → S (mark c s v)) × (S (mark c s v) → S (mark r t v))
+
+-- Row a in word p and row b in word q, k bits further up, have the same values.
+abbrev pub LinkIn : ℕ → ℕ → ℕ → ℕ → Marks → ℕ → ℕ → Type 0
+LinkIn p q k W S a b =
+    (t s : ℕ) (v : Bool) → Apart p q k t s → t < W → s < W → t / 64 ≡ p → s / 64 ≡ q → (S (mark a t v) → S (mark b s v)) × (S (mark b s v) → S (mark a t v))
