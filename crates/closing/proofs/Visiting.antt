@@ -2,11 +2,12 @@
 use mathlib.Core.Path.{_≡_, refl, sym, _∙_, subst}
 use mathlib.Core.Bool.{Bool}
 use mathlib.Core.List.{List}
-use mathlib.Core.Logic.{⊎-elim}
+use mathlib.Core.Logic.{_⊎_, ⊎-elim}
 use Prim.Native.Nat.{ℕ, _+_, _/_, _≤_, _<_}
 use native.Mathlib.Omega.{arith}
+use lib.Dec.{eqb}
 use Rattle.rows.specs.Words.{rowAt, unpacked}
-use Rattle.tilco.specs.Inference.{Node, signal, notOf, mark, Marks, _or_}
+use Rattle.tilco.specs.Inference.{Node, signal, notOf, gate, mark, Marks, _or_}
 use Rattle.tilco.specs.Table.{Stands}
 use Rattle.marking.specs.Settled.{SettledIn, Rests}
 use Rattle.marking.specs.Moves.{Wrote, WroteBefore, ByNode}
@@ -73,6 +74,13 @@ module _ (count : ℕ) (B : List ℕ) (n : ℕ) where
   module _ (r q W : ℕ) (T T′ D D′ : List ℕ) (x : ℕ) where
     pub visits-as : (k : ℕ) → kind count B r ≡ k → VisitsBy (unpacked k (left count B r) (right count B r)) count B r q W n T T′ D D′ x → Visits count B r q W n T T′ D D′ x
     visits-as k e f P c inside = f P (node-as count B r k e P c) inside
+
+    pub visits-gate : (kind count B r ≡ 1) ⊎ (kind count B r ≡ 2) → VisitsBy (gate (eqb (kind count B r) 1) (left count B r) (right count B r)) count B r q W n T T′ D D′ x
+        → Visits count B r q W n T T′ D D′ x
+    visits-gate k f = ⊎-elim (λ e. visits-as 1 e (by e)) (λ e. visits-as 2 e (by e)) k
+      where
+        by : {z : ℕ} → kind count B r ≡ z → VisitsBy (gate (eqb z 1) (left count B r) (right count B r)) count B r q W n T T′ D D′ x
+        by e = subst (λ (z : ℕ). VisitsBy (gate (eqb z 1) (left count B r) (right count B r)) count B r q W n T T′ D D′ x) e f
 
     pub visits-not : 4 ≤ kind count B r → VisitsBy (notOf (left count B r)) count B r q W n T T′ D D′ x → Visits count B r q W n T T′ D D′ x
     visits-not h f = visits-as (past count B r) (omega arith) f

@@ -1,15 +1,15 @@
 -- Stretches of visits: none, one after another, and a word of the list that is empty then.
 -- Assumes nothing.
-use mathlib.Core.Path.{_≡_, refl, ap, _∙_, subst}
+use mathlib.Core.Path.{_≡_, refl, sym, ap, _∙_, subst}
 use mathlib.Core.List.{List}
 use mathlib.Core.Logic.{_⊎_, inl, inr, ⊎-elim}
 use Prim.Native.Nat.{ℕ, zero, suc, _+_, _*_, _/_, _%_, _^_, _≤_, _<_}
-use native.Mathlib.Nat.{le-of-eq}
+use native.Mathlib.Nat.{le-of-eq, div-le-self}
 use native.Mathlib.Omega.{arith}
 use lib.Count.{trailingZeros}
 use lib.ListN.{getD}
 use Rattle.ticks.specs.Ticks.{Has}
-use Rattle.ticks.proofs.Bits.{lt-or-ge, has-below, no-ticks}
+use Rattle.ticks.proofs.Bits.{lt-or-ge, bit-shr, has-below, no-ticks}
 use Rattle.ticks.proofs.Counts.{first-has}
 use Rattle.tilco.specs.Inference.{Program, mark, start}
 use Rattle.tilco.specs.Table.{Stands, Inside}
@@ -130,6 +130,13 @@ pub lowest : (x : ℕ) → (x ≡ 0 → ⊥) → x < 2 ^ 64 → (trailingZeros 6
 lowest x f small =
     let h : Has x (trailingZeros 64 x) = first-has 64 x (omega (arith, f)) small in
     (has-below x 64 (trailingZeros 64 x) small h, h)
+
+-- What is left of it above a bit has its lowest bit in the word too.
+pub lowest-from : (x k : ℕ) → x < 2 ^ 64 → (x / 2 ^ k ≡ 0 → ⊥) → (k + trailingZeros 64 (x / 2 ^ k) < 64) × Has x (k + trailingZeros 64 (x / 2 ^ k))
+lowest-from x k small f =
+    let l = lowest (x / 2 ^ k) f (omega (arith, div-le-self x (2 ^ k))) in
+    let h : Has x (k + trailingZeros 64 (x / 2 ^ k)) = sym (bit-shr x k (trailingZeros 64 (x / 2 ^ k))) ∙ l .1 in
+    (has-below x 64 _ small h, h)
 
 -- An item taken leaves the table less room, or the word smaller.
 pub taken-less : (count : ℕ) (B : List ℕ) (W n j : ℕ) (T T′ D D′ : List ℕ) (x : ℕ) → Coded count B → getD D′ j 0 < 2 ^ 64 → Taken count B W n j T T′ D D′ x

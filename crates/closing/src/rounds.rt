@@ -82,7 +82,19 @@ fn take_item(
     changed
 }
 
-// Visits the items of word q in its i-th word of the list until none is left there.
+// The first set bit of a word from bit `from` on; if there is none, its first at all.
+fn next_bit(word: u64, from: u64) -> u64
+    requires { ⌜ (0 < word) × (from < 64) ⌝ }
+    ensures { λ k. ⌜ (k < 64) × Has word k ⌝ }
+{
+    let rest = word >> from;
+    if rest == 0 {
+        return u64::trailing_zeros(word) as u64;
+    }
+    from + u64::trailing_zeros(rest) as u64
+}
+
+// Visits the items of word q in its i-th word of the list, round and round, until none is left there.
 fn work_word(
     rows: &[u64],
     count: usize,
@@ -106,8 +118,10 @@ fn work_word(
     let stride = (count + 63) / 64;
     let j = q * stride + i;
     let mut changed: u64 = 0;
+    let mut from: u64 = 0;
     while todo[j] != 0 {
-        let k = u64::trailing_zeros(todo[j]) as u64;
+        let k = next_bit(todo[j], from);
+        from = (k + 1) % 64;
         let c = take_item(rows, count, i, k, q, n, window, heads, nexts, todo, marks);
         if c != 0 {
             changed = 1;

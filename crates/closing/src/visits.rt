@@ -153,7 +153,7 @@ pub fn visit(
     let b = offset as usize;
     match kind {
         0 => 0,
-        1 => visit_gate(
+        1 | 2 => visit_gate(
             rows,
             count,
             row,
@@ -161,21 +161,7 @@ pub fn visit(
             n,
             a,
             b,
-            true,
-            heads,
-            nexts,
-            todo,
-            marks,
-        ),
-        2 => visit_gate(
-            rows,
-            count,
-            row,
-            q,
-            n,
-            a,
-            b,
-            false,
+            kind == 1,
             heads,
             nexts,
             todo,

@@ -1,13 +1,14 @@
 -- A row of the program by its word: its node, and what the table has for its rules.
 -- Assumes nothing.
 use mathlib.Core.Path.{_≡_, ap, _∙_, subst}
-use mathlib.Core.Bool.{true}
 use mathlib.Core.List.{List}
+use mathlib.Core.Logic.{_⊎_, inl, inr, ⊎-elim}
 use Prim.Native.Nat.{ℕ, suc, _+_, _-_, _*_, _/_, _%_, _≤_, _<_}
 use native.Mathlib.Nat.{mul-le-mul-right}
 use native.Mathlib.Omega.{arith}
 use lib.ListN.{length, getD}
-use Rattle.tilco.specs.Inference.{gate, Program, node}
+use Rattle.ticks.proofs.Bits.{lt-or-ge}
+use Rattle.tilco.specs.Inference.{Program, node}
 use Rattle.tilco.specs.Table.{words}
 use Rattle.rows.specs.Words.{unpacked}
 use Rattle.marking.specs.Codes.{Fine, Codes, Coded}
@@ -33,6 +34,10 @@ has-row n count W T x s l =
 -- A table of the same length is as large.
 pub sized-as : {n count W : ℕ} {T T′ : List ℕ} → length T′ ≡ length T → Sized n count W T → Sized n count W T′
 sized-as e s = record { some = s .some; most = s .most; words-are = s .words-are; long = omega (arith, e, s .long) }
+
+-- The kinds of gates.
+pub one-or-two : (k : ℕ) → 0 < k → k ≤ 2 → (k ≡ 1) ⊎ (k ≡ 2)
+one-or-two k l h = ⊎-elim (λ a. inl (omega arith)) (λ a. inr (omega arith)) (lt-or-ge k 2)
 
 module _ (count : ℕ) (B : List ℕ) (r : ℕ) where
   -- the kind and the two numbers of the row's word
@@ -61,17 +66,10 @@ module _ (count : ℕ) (B : List ℕ) (r : ℕ) where
     has x h = has-row n count W T x s h
 
     -- What the rules of each kind ask of the table.
-    abbrev pub GateAsks : Type 0
-    GateAsks = (q < n) × HasRow n T r × HasRow n T left × HasRow n T right × (left < r) × (right < r)
-
-    gate-asks : Fine r (gate true left right) → GateAsks
-    gate-asks f = (l, has r hi, has left (omega (arith, f .0)), has right (omega (arith, f .1)), f .0, f .1)
-
-    pub and-asks : kind ≡ 1 → GateAsks
-    and-asks e = gate-asks (fine-as 1 e c)
-
-    pub or-asks : kind ≡ 2 → GateAsks
-    or-asks e = gate-asks (fine-as 2 e c)
+    pub gate-asks : (kind ≡ 1) ⊎ (kind ≡ 2) → (q < n) × HasRow n T r × HasRow n T left × HasRow n T right × (left < r) × (right < r)
+    gate-asks k =
+        let f = ⊎-elim (λ e. fine-as 1 e c) (λ e. fine-as 2 e c) k in
+        (l, has r hi, has left (omega (arith, f .0)), has right (omega (arith, f .1)), f .0, f .1)
 
     pub look-asks : kind ≡ 3 → (q < n) × HasRow n T r × HasRow n T left × (left < r) × (right ≤ 127) × (n ≡ words W)
     look-asks e =

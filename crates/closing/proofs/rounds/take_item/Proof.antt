@@ -36,11 +36,10 @@ clear-bit-requires : tie.Need-clear-bit-requires
 clear-bit-requires c κs =
     let o = c .before .before .before .before .before .before .before .before .before .before .before .before .before .pre in
     let a = c .before .before .before .before .before .before .before .before .before .before .before .before .before .args in
-    let v = c .before .before .before .before .before .visit-row .ensures in
-    (
-    omega (arith, column-in _ (a .n) (a .q) _ (o .1 .0 .0) (o .1 .1 .1 .0 .long)),
-    o .1 .0 .2,
-    kept-bit _ _ _ _ _ _ _ _ _ _ _ _ (o .1 .0 .0) (o .1 .0 .1) (o .1 .0 .2) (o .0) (o .1 .1 .1 .1 .1) (v .0) (v .1) (o .1 .0 .3),
+    let v = c .before .before .before .before .before .visit-row .ensures in (
+      omega (arith, column-in _ (a .n) (a .q) _ (o .1 .0 .0) (o .1 .1 .1 .0 .long)),
+      o .1 .0 .2,
+      kept-bit _ _ _ _ _ _ _ _ _ _ _ _ (o .1 .0 .0) (o .1 .0 .1) (o .1 .0 .2) (o .0) (o .1 .1 .1 .1 .1) (v .0) (v .1) (o .1 .0 .3),
     )
 
 same-length : tie.Need-same-length

@@ -1,22 +1,22 @@
 -- `work_word` meets its contract. The invariant: a stretch of visits. The measure: the table's room, and then the word. Assumes nothing.
 use native.Mathlib.Omega.{arith}
-use Prim.Native.Nat.{_+_, _*_, _^_}
-use lib.Count.{trailing-le}
+use Prim.Native.Nat.{_+_, _*_, _^_, _<_}
 use lib.ListN.{getD}
 use Rattle.marking.specs.Gains.{room}
 use Rattle.marking.proofs.Decoding.{sized-as}
 use Rattle.closing.specs.Items.{per}
 use Rattle.closing.specs.Rounds.{Works, NoItem}
-use Rattle.closing.proofs.Working.{works-none, works-item, works-inside, works-word, lowest, taken-less}
+use Rattle.closing.proofs.Working.{works-none, works-item, works-inside, works-word, taken-less}
 use Rattle.closing.proofs.Noting.{column-in, roomy-as}
 use Rattle.closing.proofs.rounds.work_word.Statement.{statement}
 use Rattle.closing.proofs.rounds.work_word.Tie as tie
 
 abbrev Inv-loop : tie.InvT-loop
-Inv-loop rows count i q n window heads nexts todo₀ marks₀ stride j changed₀ todo marks changed = Works count rows window n NoItem marks₀ marks todo₀ todo changed
+Inv-loop rows count i q n window heads nexts todo₀ marks₀ stride j changed₀ from₀ todo marks changed from =
+    Works count rows window n NoItem marks₀ marks todo₀ todo changed × (from < 64)
 
 abbrev μ-loop : tie.MeasureT-loop
-μ-loop rows count i q n window heads nexts todo₀ marks₀ stride j changed₀ todo marks changed = room marks * 2 ^ 64 + getD todo j 0
+μ-loop rows count i q n window heads nexts todo₀ marks₀ stride j changed₀ from₀ todo marks changed from = room marks * 2 ^ 64 + getD todo j 0
 
 add-stride : tie.Need-add-stride Inv-loop μ-loop
 add-stride c =
@@ -36,84 +36,77 @@ add-j c =
     omega (arith, column-in _ (a .n) (a .q) _ (o .1 .0 .0) (o .1 .1 .1 .0 .long))
 
 loop-holds : tie.Need-loop-holds Inv-loop μ-loop
-loop-holds c = works-none _ _ _ _ _ _ _ (λ r q z. z)
+loop-holds c = (works-none _ _ _ _ _ _ _ (λ r q z. z), omega arith)
 
 mul-if1 : tie.Need-mul-if1 Inv-loop μ-loop
 mul-if1 c =
     let o = c .before .before .before .before .before .before .pre in
     let a = c .before .before .before .before .before .before .args in
-    omega (arith, column-in _ (a .n) (a .q) _ (o .1 .0 .0) (o .1 .1 .1 .0 .long), c .loop .inv .long)
+    omega (arith, column-in _ (a .n) (a .q) _ (o .1 .0 .0) (o .1 .1 .1 .0 .long), c .loop .inv .0 .long)
 
 slice-read-if1 : tie.Need-slice-read-if1 Inv-loop μ-loop
 slice-read-if1 c =
-    let l = c .before .loop in
     let o = c .before .before .before .before .before .before .before .pre in
     let a = c .before .before .before .before .before .before .before .args in
-    omega (arith, column-in _ (a .n) (a .q) _ (o .1 .0 .0) (o .1 .1 .1 .0 .long), l .inv .long)
+    omega (arith, column-in _ (a .n) (a .q) _ (o .1 .0 .0) (o .1 .1 .1 .0 .long), c .before .loop .inv .0 .long)
 
-mul-k : tie.Need-mul-k Inv-loop μ-loop
-mul-k c =
-    let l = c .before .before .loop in
+mul-next-bit : tie.Need-mul-next-bit Inv-loop μ-loop
+mul-next-bit c =
     let o = c .before .before .before .before .before .before .before .before .pre in
     let a = c .before .before .before .before .before .before .before .before .args in
-    omega (arith, column-in _ (a .n) (a .q) _ (o .1 .0 .0) (o .1 .1 .1 .0 .long), l .inv .long)
+    omega (arith, column-in _ (a .n) (a .q) _ (o .1 .0 .0) (o .1 .1 .1 .0 .long), c .before .before .loop .inv .0 .long)
 
-slice-read-k : tie.Need-slice-read-k Inv-loop μ-loop
-slice-read-k c =
-    let l = c .before .before .before .loop in
+slice-read-next-bit : tie.Need-slice-read-next-bit Inv-loop μ-loop
+slice-read-next-bit c =
     let o = c .before .before .before .before .before .before .before .before .before .pre in
     let a = c .before .before .before .before .before .before .before .before .before .args in
-    omega (arith, column-in _ (a .n) (a .q) _ (o .1 .0 .0) (o .1 .1 .1 .0 .long), l .inv .long)
+    omega (arith, column-in _ (a .n) (a .q) _ (o .1 .0 .0) (o .1 .1 .1 .0 .long), c .before .before .before .loop .inv .0 .long)
 
-cast-k : tie.Need-cast-k Inv-loop μ-loop
-cast-k c =
-    let l = c .before .before .before .loop in
-    let a = c .before .before .before .before .before .before .before .before .before .args in
-    omega (arith, trailing-le 64 (getD (l .todo) (a .q * per (a .count) + a .i) 0))
+next-bit-requires : tie.Need-next-bit-requires Inv-loop μ-loop
+next-bit-requires c κs = (omega arith, c .before .before .before .loop .inv .1)
+
+add-from : tie.Need-add-from Inv-loop μ-loop
+add-from c = omega (arith, c .next-bit .ensures .0)
 
 take-item-requires : tie.Need-take-item-requires Inv-loop μ-loop
 take-item-requires c κs =
-    let o = c .before .before .before .before .before .before .before .before .before .before .before .pre in
-    let a = c .before .before .before .before .before .before .before .before .before .before .before .args in
-    let l = c .before .before .before .before .before .loop in
-    let w = l .inv in
-    let j = a .q * per (a .count) + a .i in
-    let low = lowest (getD (l .todo) j 0) (λ e. omega (arith, e)) (omega (arith, c .before .before .before .before .slice-known3 .given j)) in
-    (o .0, ((o .1 .0 .0, o .1 .0 .1, low .0, low .1), (o .1 .1 .0, (roomy-as (w .long) (o .1 .1 .1 .0), (sized-as (w .each (o .0 .program) (o .0 .codes) .size) (o .1 .1 .1 .1 .0), works-inside _ _ _ _ _ (o .0) (o .1 .1 .1 .1 .1) w)))))
+    let o = c .before .before .before .before .before .before .before .before .before .before .before .before .pre in
+    let w = c .before .before .before .before .before .before .loop .inv .0 in
+    let b = c .before .before .next-bit .ensures in
+    (o .0, ((o .1 .0 .0, o .1 .0 .1, b .0, b .1), (o .1 .1 .0, (roomy-as (w .long) (o .1 .1 .1 .0), (sized-as (w .each (o .0 .program) (o .0 .codes) .size) (o .1 .1 .1 .1 .0), works-inside _ _ _ _ _ (o .0) (o .1 .1 .1 .1 .1) w)))))
 
 loop-less : tie.Need-loop-less Inv-loop μ-loop
 loop-less c =
-    let o = c .before .before .before .before .before .before .before .before .before .before .before .before .before .before .before .before .before .pre in
-    let a = c .before .before .before .before .before .before .before .before .before .before .before .before .before .before .before .before .before .args in
+    let o = c .before .before .before .before .before .before .before .before .before .before .before .before .before .before .before .before .before .before .pre in
+    let a = c .before .before .before .before .before .before .before .before .before .before .before .before .before .before .before .before .before .before .args in
     taken-less _ _ _ _ _ _ _ _ _ _ (o .0) (omega (arith, c .before .before .before .slice-known5 .given (a .q * per (a .count) + a .i))) (c .before .before .before .before .before .take-item .ensures)
 
 loop-again : tie.Need-loop-again Inv-loop μ-loop
 loop-again c =
-    let l = c .before .before .before .before .before .before .before .before .before .before .before .loop in
-    works-item _ _ _ _ 1 (λ e. absurd (omega arith)) (λ e. omega arith) (l .inv) (c .before .before .before .before .before .take-item .ensures .works)
+    let l = c .before .before .before .before .before .before .before .before .before .before .before .before .loop in
+    (works-item _ _ _ _ 1 (λ e. absurd (omega arith)) (λ e. omega arith) (l .inv .0) (c .before .before .before .before .before .take-item .ensures .works), omega arith)
 
 loop-less-2 : tie.Need-loop-less-2 Inv-loop μ-loop
 loop-less-2 c =
-    let o = c .before .before .before .before .before .before .before .before .before .before .before .before .before .before .before .before .before .pre in
-    let a = c .before .before .before .before .before .before .before .before .before .before .before .before .before .before .before .before .before .args in
+    let o = c .before .before .before .before .before .before .before .before .before .before .before .before .before .before .before .before .before .before .pre in
+    let a = c .before .before .before .before .before .before .before .before .before .before .before .before .before .before .before .before .before .before .args in
     taken-less _ _ _ _ _ _ _ _ _ _ (o .0) (omega (arith, c .before .before .before .slice-known5 .given (a .q * per (a .count) + a .i))) (c .before .before .before .before .before .take-item .ensures)
 
 loop-again-2 : tie.Need-loop-again-2 Inv-loop μ-loop
 loop-again-2 c =
-    let l = c .before .before .before .before .before .before .before .before .before .before .before .loop in
-    works-item _ _ _ _ _ (λ e. omega arith) (λ e. omega arith) (l .inv) (c .before .before .before .before .before .take-item .ensures .works)
+    let l = c .before .before .before .before .before .before .before .before .before .before .before .before .loop in
+    (works-item _ _ _ _ _ (λ e. omega arith) (λ e. omega arith) (l .inv .0) (c .before .before .before .before .before .take-item .ensures .works), omega arith)
 
 same-length : tie.Need-same-length Inv-loop μ-loop
-same-length c = c .before .before .loop .inv .long
+same-length c = c .before .before .loop .inv .0 .long
 
 same-length-2 : tie.Need-same-length-2 Inv-loop μ-loop
 same-length-2 c =
-    let l = c .before .before .loop in
     let o = c .before .before .before .before .before .before .before .before .pre in
-    l .inv .each (o .0 .program) (o .0 .codes) .size
+    c .before .before .loop .inv .0 .each (o .0 .program) (o .0 .codes) .size
 
 returns : tie.Need-returns Inv-loop μ-loop
-returns c = works-word _ _ _ _ _ _ _ _ _ _ _ (omega arith) (c .before .before .loop .inv)
+returns c = works-word _ _ _ _ _ _ _ _ _ _ _ (omega arith) (c .before .before .loop .inv .0)
 
 pub work-word-spec : {M : Type 1} → statement M
 work-word-spec =
@@ -127,9 +120,10 @@ work-word-spec =
     loop-holds
     mul-if1
     slice-read-if1
-    mul-k
-    slice-read-k
-    cast-k
+    mul-next-bit
+    slice-read-next-bit
+    next-bit-requires
+    add-from
     take-item-requires
     loop-less
     loop-again
