@@ -127,9 +127,7 @@ module _ {s T places B tops : List ℕ} {w t count : ℕ} (h : AtHand s T places
 
   -- 16 words list every item of 1,024 rows with one word of ticks.
   list-fits : (D : List ℕ) → 16 ≤ length D → Roomy count n D
-  list-fits D l =
-      let few : count ≤ 1024 = omega (arith, k .rows, known .rows) in
-      record { most = few; long = rw is-one (omega arith) }
+  list-fits D l = record { most = signals-few .2; long = rw is-one (omega (arith, signals-few)) }
 
   module _ (r T₁ : List ℕ) (a : Accepted-as (readings (namesAt s places) w r) n T T₁) where
     pub settle-asks : (D : List ℕ) → 16 ≤ length D
