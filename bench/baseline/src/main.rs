@@ -1,5 +1,5 @@
 //! The rule reader in plain Rust, for comparison. In a folder with sheet.txt and readings.txt:
-//! `baseline` prints the listing; `baseline N [add|check|read]` does one operation N times and prints what the last one answered.
+//! `baseline` prints the listing; `baseline N [add|check]` does one operation N times and prints what the last one answered.
 mod closing;
 mod formula;
 mod lowering;
@@ -46,12 +46,6 @@ fn runs(text: &[u8], readings: &[u8], times: usize, operation: &str) -> Result<S
         let (text, readings) = (black_box(text), black_box(readings));
         let last = i == times;
         match operation {
-            "read" => {
-                let sheet = black_box(sheet::read(text)?);
-                if last {
-                    answer = format!("rules={}\n", sheet.rules.len());
-                }
-            }
             "check" => {
                 let rows = black_box(check(text)?);
                 if last {

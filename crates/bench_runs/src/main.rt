@@ -1,14 +1,12 @@
 // Runs one operation again and again, so that its instructions can be counted: on the sheet and the readings in the current folder, sheet.txt
-// and readings.txt, as often as the first argument says. The second argument is add, check (the sheet is read and lowered) or read (it is
-// only read). Prints what the last run answered.
+// and readings.txt, as often as the first argument says. The second argument is add or check (the sheet is read and lowered). Prints what
+// the last run answered.
 use reader::adding::Adding;
 use reader::adding::add;
 use reader::checking::Checking;
 use reader::checking::check;
 use run_cases::print_number;
 use run_cases::print_refusal;
-use sheet::whole::Outline;
-use sheet::whole::read_sheet;
 use text::numbers::Number;
 use text::numbers::number_at;
 use text::words::word_is;
@@ -39,33 +37,15 @@ fn number_of(text: &[u8]) -> usize {
 
 // How far a run goes.
 enum Run {
-    Read,
     Check,
     Add,
 }
 
-// What a run answers: how many rules or rows the sheet has; how many facts are new, and whether there is a clash; or a refusal.
+// What a run answers: how many rows the sheet has; how many facts are new, and whether there is a clash; or a refusal.
 enum Answer {
-    Rules(usize),
     Rows(usize),
     Added { new: usize, clash: bool },
     Refused(usize, usize),
-}
-
-// Reads the sheet.
-fn read_once(s: &[u8]) -> Answer {
-    let mut places = [0u64; 64];
-    let o = read_sheet(s, &mut places);
-    match o {
-        Outline::Sheet {
-            window: _,
-            signals: _,
-            rules,
-            hidden: _,
-            first: _,
-        } => Answer::Rules(rules),
-        Outline::Refused(n, p) => Answer::Refused(n, p),
-    }
 }
 
 // Checks the sheet.
@@ -99,7 +79,6 @@ fn add_once(s: &[u8], readings: &[u8], table: &mut [u64]) -> Answer {
 // One run.
 fn run_once(run: Run, s: &[u8], readings: &[u8], table: &mut [u64]) -> Answer {
     match run {
-        Run::Read => read_once(s),
         Run::Check => check_once(s),
         Run::Add => add_once(s, readings, table),
     }
@@ -129,9 +108,7 @@ fn words_for(s: &[u8]) -> usize
 
 // The run that a word names; an add if it names none.
 fn run_named(word: &[u8]) -> Run {
-    if word_is(word, 0, b"read") {
-        Run::Read
-    } else if word_is(word, 0, b"check") {
+    if word_is(word, 0, b"check") {
         Run::Check
     } else {
         Run::Add
@@ -141,7 +118,6 @@ fn run_named(word: &[u8]) -> Run {
 // Prints an answer.
 fn print_answer(answer: Answer) {
     match answer {
-        Answer::Rules(n) => print_number(b"rules=", n as u64, b"\n"),
         Answer::Rows(n) => print_number(b"rows=", n as u64, b"\n"),
         Answer::Added { new, clash } => {
             print_number(b"facts=", new as u64, b"\n");

@@ -1,3 +1,2 @@
--- The definitions that the contracts cite, lowest layer first.
-pub mod Lines
-pub mod Sheets
+-- The definitions that the contracts cite.
+pub mod Rules

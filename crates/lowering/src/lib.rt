@@ -1,3 +1,4 @@
-// A sheet's rows: each rule is read again into one arena and lowered before the next. Assumes that the sheet was accepted.
-pub mod line;
+// A sheet's rows: each rule is read once into one arena and lowered before the next is read. Assumes that the head was accepted.
+pub mod guess;
+pub mod rules;
 pub mod whole;

@@ -22,7 +22,7 @@ use Rattle.sheet.proofs.Accepted.{sheet-declared}
 use Rattle.readings.specs.Readings.{readings}
 use Rattle.readings.proofs.Bounds.{readings-within, puts-inside}
 use Rattle.readings.proofs.Outcomes.{Accepted-as}
-use Rattle.rows.specs.Words.{Blank}
+use Rattle.rows.specs.Words.{packed, word, Blank}
 use Rattle.marking.specs.Codes.{Coded}
 use Rattle.marking.specs.Moves.{Sized}
 use Rattle.closing.specs.Closes.{SettlesAll}
@@ -37,8 +37,9 @@ use Rattle.reader.specs.Operations.Adds.{not-read, added}
 use Rattle.reader.specs.Operations.Asks.{out-of-range, asked}
 use Rattle.reader.proofs.Tables.{InSheet, in-sheet, one-word}
 
--- A buffer of zeros has no rows.
-pub no-rows : (n : ℕ) → Blank (replicate n 0)
+-- A buffer of signals' words has no rows.
+pub no-rows : (n : ℕ) → Blank (replicate n 8)
+unfolding word packed
 no-rows zero i = refl
 no-rows (suc n) zero = refl
 no-rows (suc n) (suc i) = no-rows n i

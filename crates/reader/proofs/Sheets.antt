@@ -2,35 +2,39 @@
 -- Assumes nothing.
 use mathlib.Core.Path.{_≡_, refl, sym, ap, _∙_, subst}
 use mathlib.Core.Bool.{Bool, true, false, and-false}
-use mathlib.Core.Logic.{_⊎_, ⊎-elim}
+use mathlib.Core.Logic.{_⊎_, inl, inr, ⊎-elim}
 use mathlib.Core.List.{List, [], _∷_, List·Memᴰ, List·Memᴰ·head, List·Memᴰ·tail}
 use Prim.Native.Nat.{ℕ, zero, suc, _+_, _≤_, _<_}
 use native.Mathlib.Omega.{arith}
 use borrow.Author.Tests.{le-leb, lt-leb}
 use lib.Dec.{leb}
 use lib.ListN.{length, getD, take, drop, List·getD-append}
-use lib.Seq.{sets, sets-eq, take-length, length-take-le}
+use lib.Seq.{sets, sets-eq, length-take-le}
 use Rattle.text.specs.Read.Read.{got, refused as unread}
 use Rattle.text.specs.Words.{namesAt}
 use Rattle.tilco.specs.Lists.{total}
 use Rattle.tilco.specs.Formula.{stepOf, hiddens, Sheet, signalRows, formulas}
 use Rattle.tilco.specs.Inference.{Node, signal, notOf, gate, look, node}
 use Rattle.tilco.specs.Lowering.{lows, topsAll, program, rowCount}
-use Rattle.tilco.proofs.Order.{Ordered, LooksWithin, children-before, looks-within}
-use Rattle.sheet.specs.Sheet.{headOf, rules, Contents, contents, sheetOf, meant, near}
-use Rattle.sheet.specs.Reading.{Sizes, Whole}
+use Rattle.tilco.proofs.Order.{Ordered, LooksWithin, row-count, children-before, looks-within}
+use Rattle.sheet.specs.Sheet.{headOf, head, rules, Contents, contents, sheetOf, meant, near}
+use Rattle.sheet.specs.Reading.{Sizes, Headed, Rules}
+use Rattle.sheet.specs.declared.head.Heading.{Heading}
+use Rattle.sheet.specs.declared.head.Heading.the-variants as heading
+use Rattle.sheet.proofs.Answers.{when-headed}
 use Rattle.sheet.proofs.Accepted.{sheet-fits, sheet-declared}
 use Rattle.sheet.proofs.Heads.{head-past}
-use Rattle.rows.specs.Words.{Blank}
+use Rattle.sheet.proofs.Ruled.{rules-many}
+use Rattle.sheet.proofs.Wholes.{refused-rule, refused-more, sheet-is}
 use Rattle.rule_rows.specs.Rules.{LowersAll}
-use Rattle.rule_rows.specs.declared.rules.AllLowered.the-variants.{Next}
+use Rattle.rule_rows.specs.declared.rules.AllLowered.{AllLowered}
+use Rattle.rule_rows.specs.declared.rules.AllLowered.the-variants.{Next, Full}
 use Rattle.rule_rows.proofs.InTurn.{tops-length, went-all}
-use Rattle.rule_rows.proofs.Sheets.{sheet-row}
-use Rattle.lowering.specs.Sheets.{Outlined, SheetLowers}
-use Rattle.lowering.specs.declared.whole.SheetLowered.{SheetLowered}
-use Rattle.lowering.specs.declared.whole.SheetLowered.the-variants.{Rows, Over}
-use Rattle.lowering.proofs.Answers.{Fitted, when-rows, when-over}
-use Rattle.lowering.proofs.Sheets.{rules-many, tops-many}
+use Rattle.rule_rows.proofs.Sheets.{sheet-used, sheet-row}
+use Rattle.lowering.specs.Rules.{Legible, InPlace, RulesStand}
+use Rattle.lowering.specs.declared.rules.RuleLines.{RuleLines}
+use Rattle.lowering.specs.declared.rules.RuleLines.the-variants as lines
+use Rattle.lowering.proofs.Standing.{tops-many, when-placed, when-over, when-stand, when-no-rules}
 use Rattle.marking.specs.Codes.{Fine, TopsAre}
 use Rattle.reader.specs.Results.{accepted, refused}
 use Rattle.reader.specs.declared.opening.Opening.the-variants as opening
@@ -100,50 +104,81 @@ module _ (s : Sheet) (B B′ ts ts′ : List ℕ) (at used : ℕ) (w : LowersAll
 
 -- ---- all of it
 
-module _ (s T : List ℕ) (w n m h p : ℕ) (o : Whole s T w n m h p) where
-  abbrev held : Contents
-  held = contents w (take n T) (o .lines .all)
+-- The text is not too long, and its head was read: the window w, n signals whose names' places are the table's first numbers, m rules, and
+-- the place p of the first one's line.
+pub record Begun (s T : List ℕ) (w n m p : ℕ) : Type 0 where
+  pub short : length s ≤ 32768
+  pub table : length T ≡ 64
+  pub sizes : Sizes w n m
+  pub head-is : head s ≡ got (headOf w (take n T) m) p
 
-  -- What lowering asks: the outline over the names' places alone.
-  pub outlined : n ≤ length T → Outlined s (take n T) m h p
-  outlined l =
-      let e : take (length (take n T)) (take n T) ≡ take n T = take-length (take n T) in (
-        w,
-        record {
-          sizes = subst (λ (i : ℕ). Sizes w i m) (sym (length-take-le n T l)) (o .sizes);
-          head-is = o .head-is ∙ ap (λ (t : List ℕ). got (headOf w t m) p) (sym e);
-          end = o .end;
-          lines = record { all = o .lines .all; reads = ap (λ (t : List ℕ). rules (namesAt s t) s m p) e ∙ o .lines .reads; hidden = o .lines .hidden };
-          reads = o .reads ∙ ap (λ (t : List ℕ). got (contents w t (o .lines .all)) (o .end)) (sym e);
-        },
-      )
+pub begun : {s T : List ℕ} {r : Heading} {w n m p : ℕ} → Headed s T r → r ≡ heading.Lines w n m p → length s ≤ 32768 → length T ≡ 64 → Begun s T w n m p
+begun x e l k = let h = when-headed x e in record { short = l; table = k; sizes = h .1; head-is = h .0 }
 
-  module _ (B B′ ts ts′ : List ℕ) (blank : Blank B) (long : length B ≡ 1024) (wide : length ts ≡ 96) (r : SheetLowered)
-      (x : (k : Contents) (q : ℕ) → sheetOf s ≡ got k q → SheetLowers (meant k) B B′ ts ts′ r) where
-    pub not-fitting : r ≡ Over → SheetOpens s T B′ ts′ (opening.Refused 9 0)
-    not-fitting e = refused-at (in-over s (o .reads) (when-over (x held (o .end) (o .reads)) e))
+module _ {s T : List ℕ} {w n m p : ℕ} (o : Begun s T w n m p) where
+  abbrev places : List ℕ
+  places = take n T
 
-    readied : (count : ℕ) → r ≡ Rows count → Ready s (take n T) B′ ts′ w (m + h) count
-    readied count e =
-        let f : Fitted (meant held) B B′ ts ts′ count = when-rows (x held (o .end) (o .reads)) e in
-        let d = f .done in
-        let g = went-all (lows (formulas (meant held))) (signalRows (meant held)) B B′ 0 ts ts′ (Next (f .at) (rowCount (meant held))) d (f .at) (rowCount (meant held)) refl in
-        let many : m + h ≡ length (lows (formulas (meant held))) = omega (arith, tops-many (meant held), rules-many (namesAt s (take n T)) s m p (head-past s (o .head-is) .inside) (o .lines .reads), o .lines .hidden) in
-        record {
-          contents = held;
-          holds = in-fits s (o .reads) (f .hidden) (f .rows);
-          window-is = refl;
-          names-are = refl;
-          rows = f .is-count;
-          codes = record {
-            long = omega (arith, f .is-count, f .rows, g .long);
-            rows-are = sym (f .is-count);
-            nodes = λ i. sym (sheet-row (meant held) (sheet-declared s (o .reads)) B B′ 0 ts ts′ (f .at) (rowCount (meant held)) blank d (omega arith) i);
-            fine = λ i. fine-row (signalRows (meant held)) i (node (program (meant held)) i) (children-before (meant held) (sheet-declared s (o .reads)) i) (looks-within (meant held) near near-steps (sheet-fits s (o .reads)) i);
-          };
-          tops-are = tops-stand (meant held) B B′ ts ts′ (f .at) (rowCount (meant held)) d (m + h) many (omega (arith, f .hidden, o .lines .hidden, o .sizes .rules-high));
-          few = omega (arith, f .hidden, o .lines .hidden, o .sizes .rules-high, g .wide);
-        }
+  pub places-long : length places ≡ n
+  places-long = length-take-le n T (omega (arith, o .table, o .sizes .signals-high))
 
-    pub fitting : length T ≡ 64 → (count : ℕ) → r ≡ Rows count → SheetOpens s T B′ ts′ (opening.Sheet w n (m + h) count)
-    fitting full count e = ready {n = n} (omega (arith, o .sizes .signals-high)) (readied count e)
+  -- the rules' lines can be read
+  pub legible : Legible s places m p
+  legible =
+      let a = head-past s (o .head-is) in
+      record { within = a .inside; before = a .before; few = omega (arith, places-long, o .sizes .signals-high); most = o .sizes .rules-high }
+
+  module _ {B ts : List ℕ} {r : RuleLines} (x : RulesStand (rules (namesAt s places) s m p) (length places) B ts r) where
+    -- a rule is refused
+    pub rule-refused : {i k : ℕ} → r ≡ lines.Refused i k → SheetOpens s T B ts (opening.Refused i k)
+    rule-refused e = refused-at (in-refused s (refused-rule s (o .short) (o .head-is) (when-no-rules x e)))
+
+    module _ {h q : ℕ} {l : AllLowered} (e : r ≡ lines.Read h q l) where
+      abbrev found : Rules (rules (namesAt s places) s m p) h q
+      found = when-stand x e .0
+
+      -- bytes follow the last line
+      pub more-follow : (q ≡ length s → ⊥) → SheetOpens s T B ts (opening.Refused 2 q)
+      more-follow f = refused-at {n = 2} (in-refused s (refused-more s (o .short) (o .head-is) (found .reads) f))
+
+      module _ (end : q ≡ length s) where
+        abbrev held : Contents
+        held = contents w places (found .all)
+
+        reads : sheetOf s ≡ got held q
+        reads = sheet-is s (o .short) (o .head-is) (found .reads) end
+
+        -- the sheet is over its size
+        pub not-fitting : l ≡ Full → SheetOpens s T B ts (opening.Refused 9 0)
+        not-fitting f =
+            refused-at (in-over s reads (⊎-elim (λ i. inl (omega (arith, i, found .hidden))) (λ i. inr (omega (arith, i, found .hidden, row-count (meant held)))) (when-over (when-stand x e .1) f)))
+
+        readied : (t count : ℕ) → l ≡ Next t count → Ready s places B ts w t count
+        readied t count f =
+            let a : InPlace (held .rules) (length places) h t count B ts = when-placed (when-stand x e .1) f in
+            let few : total hiddens (held .rules) ≤ 32 = omega (arith, a .few, found .hidden) in
+            let d : LowersAll (lows (formulas (meant held))) (signalRows (meant held)) (a .rows) B 0 (a .tops) ts (Next t count)
+            = subst (λ (i : ℕ). LowersAll (lows (formulas (meant held))) (length places + i) (a .rows) B 0 (a .tops) ts (Next t count)) (found .hidden) (a .done) in
+            let g = went-all (lows (formulas (meant held))) (signalRows (meant held)) (a .rows) B 0 (a .tops) ts (Next t count) d t count refl in
+            let c = sheet-used (meant held) (a .rows) B 0 (a .tops) ts t count d in
+            let many = rules-many (namesAt s places) s m p (legible .within) (found .reads) in
+            let tops-fit : t ≤ length (a .tops) = omega (arith, g .tops, tops-many (held .rules) (length places), many, few, o .sizes .rules-high, a .lent .wide) in
+            record {
+              contents = held;
+              holds = in-fits s reads few (omega (arith, c .1, a .lent .long));
+              window-is = refl;
+              names-are = refl;
+              rows = c .0;
+              codes = record {
+                long = omega (arith, g .room, g .long);
+                rows-are = sym (c .0);
+                nodes = λ i. sym (sheet-row (meant held) (sheet-declared s reads) (a .rows) B 0 (a .tops) ts t count (a .lent .blank) d (omega (arith, a .lent .long)) i);
+                fine = λ i. fine-row (signalRows (meant held)) i (node (program (meant held)) i) (children-before (meant held) (sheet-declared s reads) i) (looks-within (meant held) near near-steps (sheet-fits s reads) i);
+              };
+              tops-are = tops-stand (meant held) (a .rows) B (a .tops) ts t count d t (omega (arith, g .tops)) tops-fit;
+              few = omega (arith, tops-fit, g .wide);
+            }
+
+        -- it is accepted
+        pub fitting : (t count : ℕ) → l ≡ Next t count → SheetOpens s T B ts (opening.Sheet w n t count)
+        fitting t count f = ready {n = n} (omega (arith, o .table, o .sizes .signals-high)) (readied t count f)

@@ -54,7 +54,7 @@ pub fn add(s: &[u8], readings: &[u8], table: &mut [u64]) -> Adding
     ensures { λ r. ⌜ Adds (now (s .entry)) (now (readings .entry)) (now (table .entry)) (now (table .exit)) (addingSays r) ⌝ }
 {
     let mut places = [0u64; 64];
-    let mut rows = [0u64; 1024];
+    let mut rows = [8u64; 1024];
     let mut tops = [0u16; 96];
     let o = open_table(s, &mut places, &mut rows, &mut tops, table);
     match o {

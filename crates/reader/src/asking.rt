@@ -19,7 +19,7 @@ pub fn ask(s: &[u8], table: &[u64], signal: usize, tick: usize) -> Asking
     ensures { λ r. ⌜ Asks (now (s .entry)) (now (table .entry)) signal tick (askingSays r) ⌝ }
 {
     let mut places = [0u64; 64];
-    let mut rows = [0u64; 1024];
+    let mut rows = [8u64; 1024];
     let mut tops = [0u16; 96];
     let o = open_table(s, &mut places, &mut rows, &mut tops, table);
     match o {

@@ -16,7 +16,7 @@ pub fn check(s: &[u8]) -> Checking
     ensures { λ r. ⌜ checkingSays r ≡ checked (now (s .entry)) ⌝ }
 {
     let mut places = [0u64; 64];
-    let mut rows = [0u64; 1024];
+    let mut rows = [8u64; 1024];
     let mut tops = [0u16; 96];
     let o = open_sheet(s, &mut places, &mut rows, &mut tops);
     match o {

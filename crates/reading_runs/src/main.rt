@@ -1,6 +1,8 @@
 // Runs the readers on a table of cases and prints each text with its answer. Assumes nothing of the cases, which are on standard input.
 // A text stands under a heading: `=== sheet` or `=== readings`, then what it shows. Readings are read against the sheet before them.
 use libc::STDIN_FILENO;
+use reader::checking::Checking;
+use reader::checking::check;
 use readings::whole::Outcome;
 use readings::whole::take_readings;
 use run_cases::heading;
@@ -9,33 +11,27 @@ use run_cases::print;
 use run_cases::print_number;
 use run_cases::print_refusal;
 use run_cases::text_under;
-use sheet::whole::Outline;
-use sheet::whole::read_sheet;
+use sheet::head::Heading;
+use sheet::head::head;
 use text::bytes::starts_at;
 ghost use Prim.Native.Nat.{_<_};
 ghost use lib.ListN.{length};
 
-// Reads the sheet under the heading at `at`.
+// Checks the sheet under the heading at `at`.
 fn run_sheet(cases: &[u8], at: usize)
     requires { ⌜ at < length (now cases) ⌝ }
 {
     let mut buffer = io::large_buffer();
     let n = text_under(cases, at, &mut buffer);
-    let mut places = [0u64; 64];
-    let answer = read_sheet(&buffer[..n], &mut places);
+    let answer = check(&buffer[..n]);
     match answer {
-        Outline::Sheet {
-            window: _,
-            signals: _,
-            rules: _,
-            hidden,
-            first: _,
-        } => print_number(b"--- accepted, hidden signals: ", hidden as u64, b"\n"),
-        Outline::Refused(number, place) => print_refusal(number, place),
+        Checking::Rows(rows) => print_number(b"--- accepted, rows: ", rows as u64, b"\n"),
+        Checking::Refused(number, place) => print_refusal(number, place),
     }
 }
 
-// Reads the readings under the heading at `at`, against the sheet under that at `above`, into a table with a word for each of 64 signals and each value.
+// Reads the readings under the heading at `at`, against the head of the sheet under that at `above`, into a table with a word for each of 64
+// signals and each value.
 fn run_readings(cases: &[u8], above: usize, at: usize)
     requires { ⌜ (above < length (now cases)) × (at < length (now cases)) ⌝ }
 {
@@ -45,13 +41,12 @@ fn run_readings(cases: &[u8], above: usize, at: usize)
     let m = text_under(cases, at, &mut buffer);
     let mut places = [0u64; 64];
     let s = &lines[..n];
-    let Outline::Sheet {
+    let Heading::Lines {
         window,
         signals,
         rules: _,
-        hidden: _,
         first: _,
-    } = read_sheet(s, &mut places)
+    } = head(s, &mut places)
     else {
         print(b"--- no sheet\n");
         return;

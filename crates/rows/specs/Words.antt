@@ -13,7 +13,7 @@ packed kind a b = kind + 8 * (a + 65536 * b)
 
 -- A row's word.
 unfoldable pub word : Node → ℕ
-word signal = 0
+word signal = packed 0 1 0
 word (notOf x) = packed 4 x 0
 word (gate true a b) = packed 1 a b
 word (gate false a b) = packed 2 a b
@@ -37,4 +37,4 @@ rowAt m r = rowOf (getD m r 0)
 
 -- A buffer without rows: every word is a signal's.
 abbrev pub Blank : List ℕ → Type 0
-Blank m = (i : ℕ) → getD m i 0 ≡ 0
+Blank m = (i : ℕ) → getD m i (word signal) ≡ word signal

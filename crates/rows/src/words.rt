@@ -1,4 +1,4 @@
-// Rows as words, one row more in the buffer, and a signal in a sense. A signal's own row is not written: its word is 0.
+// Rows as words, one row more in the buffer, and a signal in a sense. A signal's own row is not written: its word is 8, which the buffer is lent with.
 ghost use mathlib.Core.Path.{_≡_};
 ghost use mathlib.Core.List.{[], _∷_};
 ghost use Prim.Native.Nat.{_≤_};

@@ -112,6 +112,12 @@ module _ (cs ds : List BTL) (b : ℕ) (m m₁ : List ℕ) (k : ℕ) (ts ts₁ : 
             ∙ ap (sets ts k) (sym (laid-append size (λ c i. topOf c i ∷ []) cs ds b u (W .next)))
     all-then Full h = (omega (arith, h .0, W .next, W .long, total-append size cs ds), h .1 ∙ W .long)
 
+-- A formula was tried, and none follows.
+pub one-alone : (f : Formula) (fs : List Formula) → length fs ≡ 0 → (b : ℕ) (m m₁ : List ℕ) (k : ℕ) (ts ts₁ : List ℕ) (r : AllLowered)
+    → LowersAll (lows (f ∷ [])) b m m₁ k ts ts₁ r → LowersAll (lows (f ∷ fs)) b m m₁ k ts ts₁ r
+one-alone f [] e b m m₁ k ts ts₁ r w = w
+one-alone f (g ∷ gs) e b m m₁ k ts ts₁ r w = absurd (omega arith)
+
 -- The same of formulas before they are lowered: some were tried, others follow.
 module _ (fs gs : List Formula) (b : ℕ) (m m₁ : List ℕ) (k : ℕ) (ts ts₁ : List ℕ) (r₁ : AllLowered) (w : LowersAll (lows fs) b m m₁ k ts ts₁ r₁) where
   pub rules-full : (ts₂ : List ℕ) → r₁ ≡ Full → LowersAll (lows (fs ++ gs)) b m m₁ k ts ts₂ Full

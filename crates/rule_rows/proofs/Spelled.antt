@@ -1,15 +1,12 @@
 -- A rule that stands in the arena is lowered as the sheet spells it: its own formula, then the defining rules of its hidden signals.
 -- Assumes nothing.
-use mathlib.Core.Path.{_≡_, refl, ap, ap₂, subst, _∙_}
+use mathlib.Core.Path.{_≡_, refl, ap, ap₂, _∙_}
 use mathlib.Core.List.{List, _∷_}
 use Prim.Native.Nat.{ℕ, suc, _+_}
 use native.Mathlib.Omega.{arith}
 use lib.ListN.{length, length-append}
 use Rattle.tilco.specs.Formula.{Written, Formula, hiddens, definings, spelled}
-use Rattle.tilco.specs.Lowering.{lows}
 use Rattle.arena.specs.Readings.{formAt, definingsAt, Held}
-use Rattle.rule_rows.specs.Rules.{LowersAll}
-use Rattle.rule_rows.specs.declared.rules.AllLowered.{AllLowered}
 
 -- One defining rule for each hidden signal.
 pub definings-length : (x : ℕ) (w : Written) → length (definings x w) ≡ hiddens w
@@ -26,11 +23,6 @@ module _ {a : List ℕ} {x n : ℕ} {w : Written} (h : Held a x n w) where
   pub held-definings : length (definingsAt a n) ≡ hiddens w
   held-definings = ap length (h .definings) ∙ definings-length x w
 
-  -- What `lower_whole_rule` lowers.
-  held-spelled : formAt a n ∷ definingsAt a n ≡ spelled w x
+  -- What `lower_whole_rule` lowers is the rule as the sheet spells it.
+  pub held-spelled : formAt a n ∷ definingsAt a n ≡ spelled w x
   held-spelled = ap₂ (λ (f : Formula) (fs : List Formula). f ∷ fs) (h .form) (h .definings)
-
-  -- So its promise speaks of the rule as the sheet spells it.
-  pub held-lowers : (b : ℕ) (m m′ : List ℕ) (k : ℕ) (ts ts′ : List ℕ) (r : AllLowered)
-      → LowersAll (lows (formAt a n ∷ definingsAt a n)) b m m′ k ts ts′ r → LowersAll (lows (spelled w x)) b m m′ k ts ts′ r
-  held-lowers b m m′ k ts ts′ r = subst (λ (fs : List Formula). LowersAll (lows fs) b m m′ k ts ts′ r) held-spelled

@@ -4,6 +4,7 @@ use crate::formulas::lower;
 use arena::Node;
 use arena::node_at;
 use rows::words::Lowered;
+ghost use mathlib.Core.Path.{_≡_};
 ghost use mathlib.Core.List.{[], _∷_, _++_};
 ghost use Prim.Native.Nat.{_+_, _≤_, _<_};
 ghost use lib.ListN.{length};
@@ -100,26 +101,31 @@ fn both_definings(
     lower_definings(arena, right, tops, free, out, next)
 }
 
-// A rule's own formula, then the defining rules of its hidden signals.
+// A rule's own formula, then the defining rules of its hidden signals, of which there are so many.
 pub fn lower_whole_rule(
     arena: &[u16],
     node: usize,
+    hidden: usize,
     tops: &mut [u16],
     at: usize,
     out: &mut [u64],
     used: usize,
 ) -> AllLowered
-    requires { ⌜ Arena (node + 1) (now arena) ⌝ }
-    requires { ⌜ at + 1 + length (definingsAt (now arena) node) ≤ length (now tops) ⌝ }
+    requires { ⌜ Arena (node + 1) (now arena) × (length (definingsAt (now arena) node) ≡ hidden) ⌝ }
+    requires { ⌜ at + 1 + hidden ≤ length (now tops) ⌝ }
     requires { ⌜ (length (now out) ≤ 1024) × (used ≤ length (now out)) ⌝ }
     ensures { λ r. ⌜ LowersAll (lows (formAt (now (arena .entry)) node ∷ definingsAt (now (arena .entry)) node)) used (now (out .entry)) (now (out .exit)) at (now (tops .entry)) (now (tops .exit)) r ⌝ }
 {
+    let r = lower_rule(arena, node, tops, at, out, used);
+    if hidden == 0 {
+        return r;
+    }
     let AllLowered::Next {
         at: free,
         used: next,
-    } = lower_rule(arena, node, tops, at, out, used)
+    } = r
     else {
-        return AllLowered::Full;
+        return r;
     };
     lower_definings(arena, node, tops, free, out, next)
 }

@@ -40,7 +40,7 @@ fn settle_into(s: &[u8], readings: &[u8], out: &mut [u8]) -> Next
     ensures { λ v. ⌜ Printed (now (s .entry)) (now (readings .entry)) (now (out .entry)) (now (out .exit)) v ⌝ }
 {
     let mut places = [0u64; 64];
-    let mut rows = [0u64; 1024];
+    let mut rows = [8u64; 1024];
     let mut tops = [0u16; 96];
     let o = open_sheet(s, &mut places, &mut rows, &mut tops);
     match o {

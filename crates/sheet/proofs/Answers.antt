@@ -4,8 +4,6 @@ use mathlib.Core.Path.{_≡_, subst}
 use mathlib.Core.List.{List}
 use Prim.Native.Nat.{ℕ}
 use lib.ListN.{take}
-use Rattle.text.specs.declared.lines.Step.{Step}
-use Rattle.text.specs.declared.lines.Step.the-variants as step
 use Rattle.text.specs.Read.{Read}
 use Rattle.text.specs.Read.Read.{got, refused}
 use Rattle.tilco.specs.Formula.{Written}
@@ -13,14 +11,10 @@ use Rattle.formula.specs.declared.parser.Parsed.{Parsed}
 use Rattle.formula.specs.declared.parser.Parsed.the-variants as parsed
 use Rattle.sheet.specs.declared.head.Heading.{Heading}
 use Rattle.sheet.specs.declared.head.Heading.the-variants as heading
-use Rattle.sheet.specs.declared.whole.Outline.{Outline}
-use Rattle.sheet.specs.declared.whole.Outline.the-variants as outline
-use Rattle.sheet.specs.Sheet.{headOf, head, sheetOf}
-use Rattle.sheet.specs.Reading.{Sizes, Headed, Rule, RuleRead, Rules, RulesRead, Whole, SheetRead}
+use Rattle.sheet.specs.Sheet.{headOf, head}
+use Rattle.sheet.specs.Reading.{Sizes, Headed, Rule, RuleRead}
 use Rattle.sheet.specs.Reading.Headed.{headed, refused-at as no-head}
 use Rattle.sheet.specs.Reading.RuleRead.{read as rule-read, refused-at as no-rule}
-use Rattle.sheet.specs.Reading.RulesRead.{read as rules-read, refused-at as no-rules}
-use Rattle.sheet.specs.Reading.SheetRead.{read as sheet-read, refused-at as no-sheet}
 
 -- of the head's
 of-head : {s T : List ℕ} {w n m p : ℕ} → Headed s T (heading.Lines w n m p) → (head s ≡ got (headOf w (take n T) m) p) × Sizes w n m
@@ -53,35 +47,3 @@ module _ {a : List ℕ} {h : ℕ} {R : Read Written} {r : Parsed} (x : RuleRead 
   -- the line is refused
   pub when-no-rule : {k p : ℕ} → r ≡ parsed.Refused k p → R ≡ refused k p
   when-no-rule e = of-no-rule (subst (RuleRead a h R) e x)
-
--- of the rules'
-of-rules : {R : Read (List Written)} {h q : ℕ} → RulesRead R (step.Got h q) → Rules R h q
-of-rules (rules-read w) = w
-
-of-no-rules : {R : Read (List Written)} {k p : ℕ} → RulesRead R (step.Refused k p) → R ≡ refused k p
-of-no-rules (no-rules e) = e
-
-module _ {R : Read (List Written)} {r : Step} (x : RulesRead R r) where
-  -- the rules were read
-  pub when-rules : {h q : ℕ} → r ≡ step.Got h q → Rules R h q
-  when-rules e = of-rules (subst (RulesRead R) e x)
-
-  -- a rule is refused
-  pub when-no-rules : {k p : ℕ} → r ≡ step.Refused k p → R ≡ refused k p
-  when-no-rules e = of-no-rules (subst (RulesRead R) e x)
-
--- of the sheet's
-of-sheet : {s T : List ℕ} {w n m h p : ℕ} → SheetRead s T (outline.Sheet w n m h p) → Whole s T w n m h p
-of-sheet (sheet-read x) = x
-
-of-no-sheet : {s T : List ℕ} {k p : ℕ} → SheetRead s T (outline.Refused k p) → sheetOf s ≡ refused k p
-of-no-sheet (no-sheet e) = e
-
-module _ {s T : List ℕ} {r : Outline} (x : SheetRead s T r) where
-  -- the sheet was read
-  pub when-sheet : {w n m h p : ℕ} → r ≡ outline.Sheet w n m h p → Whole s T w n m h p
-  when-sheet e = of-sheet (subst (SheetRead s T) e x)
-
-  -- the sheet is refused
-  pub when-no-sheet : {k p : ℕ} → r ≡ outline.Refused k p → sheetOf s ≡ refused k p
-  when-no-sheet e = of-no-sheet (subst (SheetRead s T) e x)

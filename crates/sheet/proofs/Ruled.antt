@@ -1,22 +1,22 @@
 -- The lines of the rules: each answer of the reader of a line, what follows a line, and a loop over them.
 -- Assumes nothing.
-use mathlib.Core.Path.{_≡_, refl, sym, ap, _∙_}
+use mathlib.Core.Path.{_≡_, sym, ap, _∙_}
 use mathlib.Core.Bool.{Bool, true, false}
-use mathlib.Core.List.{List, [], _∷_, _++_, append-nil, append-assoc}
-use Prim.Native.Nat.{ℕ, zero, suc, _+_, _-_, _*_, _<_, _≤_}
+use mathlib.Core.List.{List, [], _∷_, _++_}
+use Prim.Native.Nat.{ℕ, _+_, _-_, _*_, _<_, _≤_}
 use native.Mathlib.Omega.{arith}
 use lib.ListN.{length, take}
 use lib.Seq.{length-take-le}
-use Rattle.text.specs.Read.{Read, andThen}
+use Rattle.text.specs.Read.{andThen}
 use Rattle.text.specs.Read.Read.{got, refused}
 use Rattle.text.specs.Bytes.{bytes, pick, between}
 use Rattle.text.specs.Words.{namesAt}
 use Rattle.text.specs.Lines.{line, inTurn}
 use Rattle.text.proofs.Tests.{between-in, between-low, between-high}
 use Rattle.text.proofs.Places.{Reach}
-use Rattle.text.proofs.Answers.{not-both, same-value, same-place, came}
+use Rattle.text.proofs.Answers.{not-both, same-place, came}
 use Rattle.text.proofs.Keyed.{placed}
-use Rattle.text.proofs.Loops.{turn-start, turn-next, turn-off, turn-end}
+use Rattle.text.proofs.Loops.{turn-start, turn-next, turn-off, turn-end, turn-reach}
 use Rattle.tilco.specs.Formula.{Written, hiddens}
 use Rattle.tilco.specs.Lists.{total}
 use Rattle.tilco.proofs.Lists.{total-append}
@@ -27,7 +27,7 @@ use Rattle.formula.specs.Parsed as formula
 use Rattle.formula.specs.Parsed.{Parses}
 use Rattle.formula.specs.Parsed.Parses.{parsed, refuses}
 use Rattle.sheet.specs.Sheet.{ruleTo, ruleLine, rules}
-use Rattle.sheet.specs.Reading.{Ready, Ended, Rule, RuleRead}
+use Rattle.sheet.specs.Reading.{Ready, Ended, RuleRead}
 use Rattle.sheet.specs.Reading.RuleRead.{read, refused-at}
 use Rattle.sheet.proofs.Cut.{names-kept}
 use Rattle.sheet.proofs.Signals.{up-to}
@@ -144,47 +144,35 @@ rule-past names s p {w} {q} x =
 
 -- ---- the lines of m rules from `at` on
 
--- What is read in turn begins with what was read before.
-pub turn-part : {A : Type 0} (P : List A → ℕ → Read A) (n : ℕ) (t : List A) (p : ℕ) {u : List A} {q : ℕ} → inTurn P n t p ≡ got u q → (rest : List A) × (u ≡ t ++ rest)
-unfolding inTurn
-turn-part P zero t p e = ([], sym (same-value e) ∙ sym (append-nil t))
-turn-part P (suc n) t p e =
-    let d = came (P t p) (λ a q. inTurn P n (t ++ (a ∷ [])) q) e in
-    let r = turn-part P n (t ++ (d .value ∷ [])) (d .place) (d .then) in
-    (d .value ∷ r .0, r .1 ∙ append-assoc t (d .value ∷ []) (r .0))
-
--- i of the rules are read, up to p: these are ws, and they have h hidden signals.
-pub record Passed (names : List (List ℕ)) (s : List ℕ) (m at i p h : ℕ) (ws : List Written) : Type 0 where
+-- i of the rules are read, up to p: these are ws.
+pub record Passed (names : List (List ℕ)) (s : List ℕ) (m at i p : ℕ) (ws : List Written) : Type 0 where
   pub same : rules names s m at ≡ inTurn (λ _ q. ruleLine names s q) (m - i) ws p
-  pub hidden : h ≡ total hiddens ws
-  pub few : h ≤ 256 * i
+  pub few : total hiddens ws ≤ 256 * i
   pub most : i ≤ m
   pub ahead : at ≤ p
   pub inside : p ≤ length s
 
 module _ (names : List (List ℕ)) (s : List ℕ) (m at : ℕ) where
   -- none are read at first
-  pub passed-none : at ≤ length s → Passed names s m at 0 at 0 []
+  pub passed-none : at ≤ length s → Passed names s m at 0 at []
   unfolding rules
   passed-none h = record {
     same = turn-start (λ _ q. ruleLine names s q) m [] at;
-    hidden = refl;
     few = omega arith;
     most = omega arith;
     ahead = omega arith;
     inside = h;
   }
 
-  module _ {i p h : ℕ} {ws : List Written} (z : Passed names s m at i p h ws) where
+  module _ {i p : ℕ} {ws : List Written} (z : Passed names s m at i p ws) where
     -- one more is read
-    pub passed-one : {a : List ℕ} {q u h′ : ℕ} → i < m → (w : Rule a h (ruleLine names s p) q u h′) → Passed names s m at (i + 1) q h′ (ws ++ (w .rule ∷ []))
-    passed-one l w =
-        let r = rule-past names s p (w .reads) in
-        let t = total-append hiddens ws (w .rule ∷ []) in
+    pub passed-one : {w : Written} {q : ℕ} → i < m → ruleLine names s p ≡ got w q → hiddens w ≤ 256 → Passed names s m at (i + 1) q (ws ++ (w ∷ []))
+    passed-one {w} l e k =
+        let r = rule-past names s p e in
+        let t = total-append hiddens ws (w ∷ []) in
         record {
-          same = z .same ∙ turn-next (λ _ q. ruleLine names s q) m i ws p l (w .reads);
-          hidden = omega (arith, z .hidden, w .next);
-          few = omega (arith, z .few, w .few);
+          same = z .same ∙ turn-next (λ _ q. ruleLine names s q) m i ws p l e;
+          few = omega (arith, z .few, k, t);
           most = omega arith;
           ahead = omega (arith, z .ahead, r .ahead);
           inside = r .inside;
@@ -198,10 +186,9 @@ module _ (names : List (List ℕ)) (s : List ℕ) (m at : ℕ) where
     pub passed-all : m ≤ i → rules names s m at ≡ got ws p
     passed-all l = z .same ∙ turn-end (λ _ q. ruleLine names s q) (m - i) ws p (omega arith)
 
-    -- Where the rules were all read before: the next one is not refused,
-    pub passed-again : {all : List Written} {q n k : ℕ} → rules names s m at ≡ got all q → i < m → ruleLine names s p ≡ refused n k → ⊥
-    passed-again e l x = not-both (sym e ∙ passed-off l x)
-
-    -- and those that are read begin all of them.
-    pub passed-part : {all : List Written} {q : ℕ} → rules names s m at ≡ got all q → (rest : List Written) × (all ≡ ws ++ rest)
-    passed-part e = turn-part (λ _ q. ruleLine names s q) (m - i) ws p (sym (z .same) ∙ e)
+-- As many rules are read as there are lines.
+pub rules-many : (names : List (List ℕ)) (s : List ℕ) (m p : ℕ) {ws : List Written} {q : ℕ} → p ≤ length s → rules names s m p ≡ got ws q → length ws ≡ m
+unfolding rules
+rules-many names s m p h e =
+    let r = turn-reach (λ _ x. ruleLine names s x) s (λ t x a y g. let w = rule-past names s x g in record { ahead = omega (arith, w .ahead); inside = w .inside }) m [] p h e in
+    omega (arith, r .1)

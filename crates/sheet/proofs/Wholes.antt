@@ -1,26 +1,20 @@
--- A whole sheet: each answer of its reader, what an accepted one has, and that two answers for one text coincide.
+-- A whole sheet: what each answer of its parts makes of it, and what an accepted one has.
 -- Assumes nothing.
 use mathlib.Core.Path.{_≡_, sym, ap, ap₂, _∙_}
 use mathlib.Core.Bool.{Bool, true, false}
 use mathlib.Core.List.{List}
 use Prim.Native.Nat.{ℕ, _<_, _≤_}
-use native.Mathlib.Omega.{arith}
 use borrow.Author.Tests.{eq-eqb, ne-eqb, le-leb, lt-leb}
 use lib.Dec.{leb, eqb}
-use lib.ListN.{length, take}
-use lib.Seq.{length-take-le}
-use Rattle.text.specs.Read.{Read, andThen}
+use lib.ListN.{length}
+use Rattle.text.specs.Read.{andThen}
 use Rattle.text.specs.Read.Read.{got, refused}
 use Rattle.text.specs.Bytes.{pick}
 use Rattle.text.specs.Words.{namesAt}
-use Rattle.text.proofs.Answers.{not-both, same-value, same-place, through, came}
-use Rattle.tilco.specs.Formula.{Written, hiddens}
-use Rattle.tilco.specs.Lists.{total}
-use Rattle.sheet.specs.declared.whole.Outline.{Outline}
-use Rattle.sheet.specs.declared.whole.Outline.the-variants.{Sheet}
-use Rattle.sheet.specs.Sheet.{Head, headOf, head, rules, Contents, contents, atEnd, sheetOf}
-use Rattle.sheet.specs.Reading.{Sizes, Rules, Whole, SheetRead}
-use Rattle.sheet.specs.Reading.SheetRead.{read, refused-at}
+use Rattle.text.proofs.Answers.{not-both, through, came}
+use Rattle.tilco.specs.Formula.{Written}
+use Rattle.sheet.specs.Sheet.{headOf, head, rules, Contents, contents, atEnd, sheetOf}
+use Rattle.sheet.specs.Reading.{Sizes}
 use Rattle.sheet.proofs.Heads.{head-past}
 
 -- A sheet over its length is refused.
@@ -70,37 +64,3 @@ sheet-head s {k} {q} e = go (leb (length s) 32768) e
 
 pub sheet-sizes : (s : List ℕ) {k : Contents} {q : ℕ} → sheetOf s ≡ got k q → (m : ℕ) × Sizes (k .window) (length (k .places)) m
 sheet-sizes s e = let h = sheet-head s e in (h .0, head-past s (h .2) .sizes)
-
--- What an accepted sheet's answer says.
-pub sheet-read : (s T : List ℕ) {w n m h p q : ℕ} → length s ≤ 32768 → head s ≡ got (headOf w (take n T) m) p → Sizes w n m
-    → Rules (rules (namesAt s (take n T)) s m p) h q → q ≡ length s → SheetRead s T (Sheet w n m h p)
-sheet-read s T {w} {n} {m} {h} {p} {q} short a z b e =
-    read {w = w} {n = n} {m = m} {h = h} {p = p} (record { sizes = z; head-is = a; end = q; lines = b; reads = sheet-is s short a (b .reads) e })
-
--- Two accepted answers for one text have the same numbers, and leave the same names' places.
-pub one-sheet : (s T T′ : List ℕ) {w n m h p w′ n′ m′ h′ p′ : ℕ} → 64 ≤ length T → 64 ≤ length T′ → Whole s T w n m h p → Whole s T′ w′ n′ m′ h′ p′
-    → (Sheet w n m h p ≡ Sheet w′ n′ m′ h′ p′) × (take n T ≡ take n′ T′)
-one-sheet s T T′ {w} {n} {m} {h} {p} {w′} {n′} {m′} {h′} {p′} l l′ x y =
-    let e = sym (x .head-is) ∙ y .head-is in
-    let f : headOf w (take n T) m ≡ headOf w′ (take n′ T′) m′ = same-value e in
-    let i : w ≡ w′ = ap (λ (k : Head). k .window) f in
-    let j : take n T ≡ take n′ T′ = ap (λ (k : Head). k .places) f in
-    let k : m ≡ m′ = ap (λ (k : Head). k .count) f in
-    let o : p ≡ p′ = same-place e in
-    let a : length (take n T) ≡ n = length-take-le n T (omega (arith, x .sizes .signals-high)) in
-    let b : length (take n′ T′) ≡ n′ = length-take-le n′ T′ (omega (arith, y .sizes .signals-high)) in
-    let c : n ≡ n′ = sym a ∙ ap length j ∙ b in
-    let g : contents w (take n T) (x .lines .all) ≡ contents w′ (take n′ T′) (y .lines .all) = same-value (sym (x .reads) ∙ y .reads) in
-    let d : h ≡ h′ = x .lines .hidden ∙ ap (λ (k : Contents). total hiddens (k .rules)) g ∙ sym (y .lines .hidden) in
-    (cc, j)
-
--- Two answers for one text coincide.
-pub answers-coincide : (s T T′ : List ℕ) {r r′ : Outline} → 64 ≤ length T → 64 ≤ length T′ → SheetRead s T r → SheetRead s T′ r′ → r ≡ r′
-answers-coincide s T T′ l l′ (read x) (read y) = one-sheet s T T′ l l′ x y .0
-answers-coincide s T T′ l l′ (read x) (refused-at e) = absurd (not-both (sym (x .reads) ∙ e))
-answers-coincide s T T′ l l′ (refused-at e) (read y) = absurd (not-both (sym (y .reads) ∙ e))
-answers-coincide s T T′ l l′ (refused-at {k = k} {p = p} e) (refused-at {k = k′} {p = p′} f) =
-    let z : _≡_ {A = Read Contents} (refused k p) (refused k′ p′) = sym e ∙ f in
-    let i : k ≡ k′ = cc in
-    let j : p ≡ p′ = cc in
-    cc

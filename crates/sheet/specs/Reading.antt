@@ -9,7 +9,6 @@ use Rattle.text.specs.declared.lines.Step.the-variants as step
 use Rattle.text.specs.Read.{Read}
 use Rattle.text.specs.Read.Read.{got, refused}
 use Rattle.text.specs.Bytes.{byte, peek}
-use Rattle.text.specs.Words.{namesAt}
 use Rattle.tilco.specs.Formula.{Written, hiddens}
 use Rattle.tilco.specs.Lists.{All, total}
 use Rattle.arena.specs.Readings.{Arena, Held}
@@ -17,9 +16,7 @@ use Rattle.formula.specs.declared.parser.Parsed.{Parsed}
 use Rattle.formula.specs.declared.parser.Parsed.the-variants as parsed
 use Rattle.sheet.specs.declared.head.Heading.{Heading}
 use Rattle.sheet.specs.declared.head.Heading.the-variants as heading
-use Rattle.sheet.specs.declared.whole.Outline.{Outline}
-use Rattle.sheet.specs.declared.whole.Outline.the-variants as outline
-use Rattle.sheet.specs.Sheet.{headOf, head, rules, contents, sheetOf}
+use Rattle.sheet.specs.Sheet.{headOf, head}
 
 -- What each case of the signals' reader says: the names' places are the table's first n numbers.
 abbrev pub placesOf : ℕ → List ℕ → Step → Read (List ℕ)
@@ -79,22 +76,3 @@ pub record Rules (R : Read (List Written)) (h q : ℕ) : Type 0 where
   pub all : List Written
   pub reads : R ≡ got all q
   pub hidden : h ≡ total hiddens all
-
--- What each case of the rules' reader says.
-pub data RulesRead (R : Read (List Written)) : Step → Type 0 where
-  read : {h q : ℕ} → Rules R h q → RulesRead R (step.Got h q)
-  refused-at : {k p : ℕ} → R ≡ refused k p → RulesRead R (step.Refused k p)
-
--- The sheet was read: the window w, n signals whose names' places are the table's first numbers, m rules with h hidden signals, and the
--- place p of the first rule's line.
-pub record Whole (s T : List ℕ) (w n m h p : ℕ) : Type 0 where
-  pub sizes : Sizes w n m
-  pub head-is : head s ≡ got (headOf w (take n T) m) p
-  pub end : ℕ
-  pub lines : Rules (rules (namesAt s (take n T)) s m p) h end
-  pub reads : sheetOf s ≡ got (contents w (take n T) (lines .all)) end
-
--- What each case of the sheet's reader says.
-pub data SheetRead (s T : List ℕ) : Outline → Type 0 where
-  read : {w n m h p : ℕ} → Whole s T w n m h p → SheetRead s T (outline.Sheet w n m h p)
-  refused-at : {k p : ℕ} → sheetOf s ≡ refused k p → SheetRead s T (outline.Refused k p)

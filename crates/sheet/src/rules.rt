@@ -1,14 +1,11 @@
-// The lines of the rules. Assumes nothing of the text. The names are those at `places` of the sheet text `s`, before the rules.
+// A rule's line. Assumes nothing of the text. The names are those at `places` of the sheet text `s`, before the rules.
 use formula::parser::Parsed;
 use formula::parser::rule;
 use text::lines::Step;
 use text::lines::line_at;
-ghost use Prim.Native.Nat.{_≤_};
-ghost use lib.ListN.{length};
 ghost use Rattle.text.specs.Words.{namesAt};
-ghost use Rattle.tilco.specs.Lists.{All};
-ghost use Rattle.sheet.specs.Sheet.{ruleTo, ruleLine, rules};
-ghost use Rattle.sheet.specs.Reading.{Ready, Ended, RuleRead, RulesRead};
+ghost use Rattle.sheet.specs.Sheet.{ruleTo, ruleLine};
+ghost use Rattle.sheet.specs.Reading.{Ready, Ended, RuleRead};
 
 // The rule from `v` to its LF at `e`, read into the arena. Its hidden signals are numbered from `hidden`.
 fn rule_to(s: &[u8], places: &[u64], arena: &mut [u16], v: usize, e: usize, hidden: usize) -> Parsed
@@ -38,27 +35,4 @@ pub fn rule_line(s: &[u8], places: &[u64], arena: &mut [u16], at: usize, hidden:
         Step::Got(v, e) => rule_to(s, places, arena, v, e, hidden),
         Step::Refused(n, p) => Parsed::Refused(n, p),
     }
-}
-
-// The lines of `m` rules from `at` on: how many hidden signals they have, and the place after the lines. The arena serves each rule in turn.
-pub fn check_rules(s: &[u8], places: &[u64], m: usize, at: usize) -> Step
-    requires { ⌜ (m ≤ 64) × (at ≤ length (now s)) × (length (now places) ≤ 64) × All (λ v. v ≤ at) (now places) ⌝ }
-    ensures { λ r. ⌜ RulesRead (rules (namesAt (now (s .entry)) (now (places .entry))) (now (s .entry)) m at) r ⌝ }
-{
-    let mut arena = [0u16; 1024];
-    let mut i = 0;
-    let mut p = at;
-    let mut hidden = 0;
-    while i < m {
-        let r = rule_line(s, places, &mut arena, p, hidden);
-        match r {
-            Parsed::Got(next, _, rows) => {
-                p = next;
-                hidden = rows;
-                i += 1;
-            }
-            Parsed::Refused(n, k) => return Step::Refused(n, k),
-        }
-    }
-    Step::Got(hidden, p)
 }

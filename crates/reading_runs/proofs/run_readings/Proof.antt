@@ -1,7 +1,7 @@
 -- `run_readings` meets its contract. Assumes nothing.
 use native.Mathlib.Omega.{arith}
 use lib.ListN.{length-take}
-use Rattle.sheet.proofs.Answers.{when-sheet}
+use Rattle.sheet.proofs.Answers.{when-headed}
 use borrow.Author.Needs.{needs}
 use Rattle.reading_runs.proofs.run_readings.Statement.{statement}
 use Rattle.reading_runs.proofs.run_readings.Tie as tie
@@ -30,11 +30,11 @@ array-share-prefix-lines c = search needs
 slice-aggregate-s : tie.Need-slice-aggregate-s
 slice-aggregate-s c = search needs
 
-slice-aggregate-read-sheet : tie.Need-slice-aggregate-read-sheet
-slice-aggregate-read-sheet c = search needs
+slice-aggregate-head : tie.Need-slice-aggregate-head
+slice-aggregate-head c = search needs
 
-read-sheet-requires : tie.Need-read-sheet-requires
-read-sheet-requires c κs = search needs
+head-requires : tie.Need-head-requires
+head-requires c κs = search needs
 
 enum-known-window : tie.Need-enum-known-window
 enum-known-window c = search needs
@@ -52,10 +52,10 @@ returns : tie.Need-returns
 returns c = search needs
 
 array-share-prefix-places : tie.Need-array-share-prefix-places
-array-share-prefix-places c = let w = when-sheet (c .before .before .before .before .read-sheet .ensures) (c .before .window .given .1) in omega (arith, w .sizes .signals-high)
+array-share-prefix-places c = let h = when-headed (c .before .before .before .before .head .ensures) (c .before .window .given .1) in omega (arith, h .1 .signals-high)
 
 slice-aggregate-take-readings : tie.Need-slice-aggregate-take-readings
-slice-aggregate-take-readings c = let w = when-sheet (c .before .before .before .before .before .read-sheet .ensures) (c .before .before .window .given .1) in simp length-take (omega (arith, w .sizes .signals-high))
+slice-aggregate-take-readings c = let h = when-headed (c .before .before .before .before .before .head .ensures) (c .before .before .window .given .1) in simp length-take (omega (arith, h .1 .signals-high))
 
 array-share-prefix-buffer : tie.Need-array-share-prefix-buffer
 array-share-prefix-buffer c = search needs
@@ -68,8 +68,8 @@ slice-aggregate-take-readings-3 c = search needs
 
 take-readings-requires : tie.Need-take-readings-requires
 take-readings-requires c κs =
-    let w = when-sheet (c .before .before .before .before .before .before .before .read-sheet .ensures) (c .before .before .before .before .window .given .1) in
-    (w .sizes .window-low, omega (arith, w .sizes .window-high), omega (arith, w .sizes .window-high), simp length-take (omega (arith, w .sizes .signals-high)), simp length-take (omega (arith, w .sizes .signals-high)))
+    let h = when-headed (c .before .before .before .before .before .before .before .head .ensures) (c .before .before .before .before .window .given .1) in
+    (h .1 .window-low, omega (arith, h .1 .window-high), omega (arith, h .1 .window-high), simp length-take (omega (arith, h .1 .signals-high)), simp length-take (omega (arith, h .1 .signals-high)))
 
 enum-told-2 : tie.Need-enum-told-2
 enum-told-2 c = search needs
@@ -104,8 +104,8 @@ run-readings-spec =
     text-under-requires-2
     array-share-prefix-lines
     slice-aggregate-s
-    slice-aggregate-read-sheet
-    read-sheet-requires
+    slice-aggregate-head
+    head-requires
     enum-known-window
     enum-told
     slice-aggregate-print

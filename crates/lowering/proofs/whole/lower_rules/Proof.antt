@@ -1,83 +1,88 @@
--- `lower_rules` meets its contract. The invariant: the rules read so far are lowered. Assumes nothing.
-use borrow.Author.Needs.{needs}
+-- `lower_rules` meets its contract. Assumes nothing.
 use native.Mathlib.Omega.{arith}
-use Prim.Native.Nat.{_-_}
-use mathlib.Core.Path.{_≡_, refl}
-use lib.ListN.{length}
-use mathlib.Core.List.{List, []}
-use Rattle.text.specs.Words.{namesAt}
-use Rattle.tilco.specs.Formula.{Written}
-use Rattle.sheet.proofs.Signals.{up-to}
-use Rattle.lowering.proofs.Answers.{when-line, when-full}
-use Rattle.lowering.proofs.Rules.{Underway, underway-none, still-free, same-rows, same-tops, row-small, next-legible, underway-full, underway-all, underway-one}
+use mathlib.Core.Path.{subst, _∙_}
+use mathlib.Core.Logic.{inl}
+use Rattle.lowering.specs.Rules.{RulesRead}
+use Rattle.lowering.specs.Rules.Sized.{over}
+use Rattle.lowering.specs.Rules.RulesStand.{stand}
+use Rattle.lowering.proofs.Standing.{same-hidden, when-read, when-not-read, stands}
+use borrow.Author.Needs.{needs}
 use Rattle.lowering.proofs.whole.lower_rules.Statement.{statement}
 use Rattle.lowering.proofs.whole.lower_rules.Tie as tie
 
-abbrev Inv-loop : tie.InvT-loop
-Inv-loop s places m first tops₀ out₀ used arena₀ i₀ place₀ row₀ at₀ count₀ tops out arena i place row at count = (ws : List Written) × Underway (namesAt s places) s m first (length places) used out₀ tops₀ i place row at count ws out tops × (length arena ≡ 1024)
+guess-hidden-requires : tie.Need-guess-hidden-requires
+guess-hidden-requires c κs = search needs
 
-abbrev μ-loop : tie.MeasureT-loop
-μ-loop s places m first tops₀ out₀ used arena₀ i₀ place₀ row₀ at₀ count₀ tops out arena i place row at count = m - i
+read-rules-requires : tie.Need-read-rules-requires
+read-rules-requires c κs = search needs
 
-loop-holds : tie.Need-loop-holds Inv-loop μ-loop
-loop-holds c = ([], underway-none _ _ _ _ _ _ _ _ (c .before .before .before .before .pre .0 .within) (c .before .before .before .before .pre .1 .1), refl)
+enum-known-r : tie.Need-enum-known-r
+enum-known-r c = search needs
 
-slice-aggregate-lower-line : tie.Need-slice-aggregate-lower-line Inv-loop μ-loop
-slice-aggregate-lower-line c = search needs
-
-lower-line-requires : tie.Need-lower-line-requires Inv-loop μ-loop
-lower-line-requires c κs = let z = c .before .before .before .before .loop .inv .1 in let L = c .before .before .before .before .before .before .before .before .before .pre .0 in (record { within = z .inside; before = up-to (z .ahead) (c .before .before .before .before .before .before .before .before .before .args .places .now) (L .before); few = L .few; room = omega arith; rows = row-small _ _ _ _ _ _ _ _ z (L .reads) (c .before .before .before .loop-test .taken) (L .few) (L .hidden) }, (next-legible _ _ _ _ _ _ _ _ z (L .reads) (c .before .before .before .loop-test .taken) (L .room), still-free _ _ _ _ _ _ _ _ z (c .before .before .before .before .before .before .before .before .before .pre .1 .0)))
-
-enum-known-l : tie.Need-enum-known-l Inv-loop μ-loop
-enum-known-l c = search needs
-
-enum-told : tie.Need-enum-told Inv-loop μ-loop
+enum-told : tie.Need-enum-told
 enum-told c = search needs
 
-same-length : tie.Need-same-length Inv-loop μ-loop
-same-length c = omega (arith, same-tops _ _ _ _ _ _ _ _ (c .before .before .before .before .before .before .before .before .before .before .before .before .loop .inv .1))
+same-length : tie.Need-same-length
+same-length c = search needs
 
-same-length-2 : tie.Need-same-length-2 Inv-loop μ-loop
-same-length-2 c = omega (arith, same-rows _ _ _ _ _ _ _ _ (c .before .before .before .before .before .before .before .before .before .before .before .before .loop .inv .1))
+same-length-2 : tie.Need-same-length-2
+same-length-2 c = search needs
 
-returns : tie.Need-returns Inv-loop μ-loop
-returns c = λ ws q e. let f = when-full (c .before .before .before .before .before .before .before .lower-line .ensures) (c .enum-told .given .1) in underway-full _ _ _ _ _ _ _ _ (c .before .before .before .before .before .before .before .before .before .before .before .before .loop .inv .1) e (c .before .before .before .before .before .before .before .before .before .before .before .loop-test .taken) (f .1 .reads) _ _ (f .1 .done)
+returns : tie.Need-returns
+returns c = when-not-read _ _ (c .before .before .before .before .before .before .read-rules .ensures) (c .enum-told .given .1)
 
-add-i : tie.Need-add-i Inv-loop μ-loop
-add-i c = search needs
+same-length-3 : tie.Need-same-length-3
+same-length-3 c = search needs
 
-loop-less : tie.Need-loop-less Inv-loop μ-loop
-loop-less c = search needs
+same-length-4 : tie.Need-same-length-4
+same-length-4 c = search needs
 
-loop-again : tie.Need-loop-again Inv-loop μ-loop
-loop-again c = let f = when-line (c .before .before .before .before .before .before .before .before .lower-line .ensures) (c .before .l .given .1) in (_, underway-one _ _ _ _ _ _ _ _ (c .before .before .before .before .before .before .before .before .before .before .before .before .before .loop .inv .1) (c .before .before .before .before .before .before .before .before .before .before .before .before .loop-test .taken) (f .0 .reads) (f .1) _ _ _ _ (f .0 .done), omega arith)
+returns-2 : tie.Need-returns-2
+returns-2 c = let w = when-read (c .before .before .before .before .before .before .before .before .read-rules .ensures) (c .before .before .r .given .1) in stands _ _ _ _ (c .before .before .before .before .before .before .before .before .before .before .before .before .before .before .before .before .pre .0) _ _ _ _ (c .before .before .before .before .before .before .before .before .before .before .before .before .before .before .before .before .pre .1) (c .before .before .before .before .before .before .before .before .before .before .before .guess-hidden .ensures) (λ h q v. same-hidden v w ∙ c .if1 .taken) _ (subst (RulesRead _ _ _ _ _ _ _) (c .before .before .r .given .1) (c .before .before .before .before .before .before .before .before .read-rules .ensures))
 
-same-length-3 : tie.Need-same-length-3 Inv-loop μ-loop
-same-length-3 c = same-tops _ _ _ _ _ _ _ _ (c .before .loop .inv .1)
+same-length-5 : tie.Need-same-length-5
+same-length-5 c = search needs
 
-same-length-4 : tie.Need-same-length-4 Inv-loop μ-loop
-same-length-4 c = same-rows _ _ _ _ _ _ _ _ (c .before .loop .inv .1)
+same-length-6 : tie.Need-same-length-6
+same-length-6 c = search needs
 
-returns-2 : tie.Need-returns-2 Inv-loop μ-loop
-returns-2 c = λ ws q e. underway-all _ _ _ _ _ _ _ _ (c .before .loop .inv .1) e (omega arith)
+returns-3 : tie.Need-returns-3
+returns-3 c = stand (when-read (c .before .before .before .before .before .before .before .before .before .read-rules .ensures) (c .before .before .before .r .given .1)) (over (inl (c .if2 .taken)))
+
+blank-rows-requires : tie.Need-blank-rows-requires
+blank-rows-requires c κs = search needs
+
+read-rules-requires-2 : tie.Need-read-rules-requires-2
+read-rules-requires-2 c κs = ((c .before .before .before .before .before .before .before .before .before .before .before .before .before .before .before .before .before .before .before .before .before .before .before .pre .0, omega arith), (omega (arith, c .before .before .before .before .before .before .before .before .before .before .before .before .before .before .before .before .before .before .before .before .before .before .before .pre .1 .long), omega (arith, c .before .before .before .before .before .before .before .before .before .before .before .before .before .before .before .before .before .before .before .before .before .before .before .pre .1 .wide)))
+
+same-length-7 : tie.Need-same-length-7
+same-length-7 c = search needs
+
+same-length-8 : tie.Need-same-length-8
+same-length-8 c = search needs
+
+returns-4 : tie.Need-returns-4
+returns-4 c = let w = when-read (c .before .before .before .before .before .before .before .before .before .before .before .before .before .before .before .before .before .before .before .before .read-rules .ensures) (c .before .before .before .before .before .before .before .before .before .before .before .before .before .before .r .given .1) in stands _ _ _ _ (c .before .before .before .before .before .before .before .before .before .before .before .before .before .before .before .before .before .before .before .before .before .before .before .before .before .before .before .before .pre .0) _ _ _ _ (record { blank = c .before .before .before .before .before .before .before .before .before .blank-rows .ensures; long = omega (arith, c .before .before .before .before .before .before .before .before .before .before .before .before .before .before .before .before .before .before .before .before .before .before .before .before .before .before .before .before .pre .1 .long); wide = omega (arith, c .before .before .before .before .before .before .before .before .before .before .before .before .before .before .before .before .before .before .before .before .before .before .before .before .before .before .before .before .pre .1 .wide) }) (c .before .before .before .before .before .before .before .before .before .before .before .if2 .left) (λ h q v. same-hidden v w) _ (c .before .before .before .before .read-rules2 .ensures)
 
 pub lower-rules-spec : {M : Type 1} → statement M
 lower-rules-spec =
     tie.close
     (tie.spec
-    Inv-loop
-    μ-loop
-    loop-holds
-    slice-aggregate-lower-line
-    lower-line-requires
-    enum-known-l
+    guess-hidden-requires
+    read-rules-requires
+    enum-known-r
     enum-told
     same-length
     same-length-2
     returns
-    add-i
-    loop-less
-    loop-again
     same-length-3
     same-length-4
-    returns-2)
+    returns-2
+    same-length-5
+    same-length-6
+    returns-3
+    blank-rows-requires
+    read-rules-requires-2
+    same-length-7
+    same-length-8
+    returns-4)
