@@ -165,7 +165,7 @@ module _ (s : List ℕ) (p : ℕ) where
 
 -- ---- an end has one number
 
-valueOf : List ℕ → ℕ
+unfoldable pub valueOf : List ℕ → ℕ
 valueOf [] = 0
 valueOf (b ∷ w) = pick (eqb b (byte "0")) (λ _. 10000) (pick (eqb b (byte "-")) (λ _. 10000 - decimal 0 w) (10000 + decimal 0 (b ∷ w)))
 
@@ -179,7 +179,7 @@ minus-value : {w : List ℕ} {v : ℕ} → Numeral w v → 10000 - v ≡ valueOf
 unfolding valueOf
 minus-value (Numeral.numeral {b} h k l) = refl
 
-end-value : {w : List ℕ} {v : ℕ} → End w v → v ≡ valueOf w
+pub end-value : {w : List ℕ} {v : ℕ} → End w v → v ≡ valueOf w
 unfolding valueOf
 end-value End.nought = refl
 end-value (End.plus n) = plus-value n

@@ -14,4 +14,7 @@ pub mod Walk
 pub mod Faults
 pub mod TimedFaults
 pub mod PlainFaults
+pub mod TokenPlaces
+pub mod Known
+pub mod OneFault
 pub mod RuleFaults

@@ -17,7 +17,7 @@ use Rattle.text.specs.Read.Read.{got, refused}
 use Rattle.text.specs.Bytes.{bytes, pick, between, starts}
 use Rattle.text.specs.Words.{wordAt, namesAt, findName, nameAt}
 use Rattle.text.specs.Numbers as numbers
-use Rattle.text.specs.Lines.{InLine, line, wholeNumber, wholeName, numberLine, rangedLine, nameLine}
+use Rattle.text.specs.Lines.{InLine, wholeNumber, wholeName, numberLine, rangedLine, nameLine}
 use Rattle.text.proofs.Places.{peek-in}
 use Rattle.text.proofs.Names.{find-in, find-most, names-many}
 use Rattle.text.proofs.Later.{later}

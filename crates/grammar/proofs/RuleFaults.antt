@@ -1,112 +1,232 @@
--- Every refusal of a rule's formula is a fault of its kind at its place.
--- Assumes that some name is declared.
-use mathlib.Core.Path.{_≡_, refl, sym, ap, subst}
-use mathlib.Core.List.{List, [], _∷_, _++_, append-nil}
+-- A rule's formula is refused exactly for the first place where something is wrong, and what stands before could still become a rule.
+-- Assumes nothing.
+use mathlib.Core.Path.{_≡_, refl, sym, subst, _∙_}
+use mathlib.Core.Bool.{Bool, true}
+use mathlib.Core.Logic.{_↔_}
+use mathlib.Core.List.{List, [], _∷_, _++_, append-nil, append-assoc}
 use mathlib.Core.Option as option
-use Prim.Native.Nat.{ℕ, _+_}
+use Prim.Native.Nat.{ℕ, _+_, _≤_}
 use native.Mathlib.Omega.{arith}
 use lib.ListN.{length}
 use Rattle.text.specs.Read.{Read}
-use Rattle.text.specs.Read.Read.{refused}
+use Rattle.text.specs.Read.Read.{got, refused}
+use Rattle.text.specs.Bytes.{byte, bytes}
 use Rattle.text.proofs.Answers.{not-both}
 use Rattle.tilco.specs.Formula.{Written}
 use Rattle.formula.specs.Grammar.{rule}
-use Rattle.grammar.specs.Tokens.{TokenAt, Tokens}
-use Rattle.grammar.specs.Grammar.{formula, Name, Is, Declared}
-use Rattle.grammar.specs.RuleFaults.{AnySpan, AnyName, Begins, RuleFault}
-use Rattle.grammar.proofs.Standing.{token-one, next-is, none-is}
-use Rattle.grammar.proofs.Signs.{token-some}
-use Rattle.grammar.proofs.Complete.{tokens-ahead}
-use Rattle.grammar.proofs.Walk.{Joins, fresh, Place, Walks, step, walked, deeper, walks-first, walks-cut}
-use Rattle.grammar.proofs.Faults.{Begin, Hopes, Bad, Out}
+use Rattle.grammar.specs.Tokens.{Word, TokenAt, Tokens}
+use Rattle.grammar.specs.Grammar.{formula, Name, Is, Declared, Legal, Rule}
+use Rattle.grammar.specs.RuleFaults.{AnySpan, AnyName, Begins, Wrong, RuleFault, Becomes, Open}
+use Rattle.grammar.proofs.Standing.{next-is, none-is}
+use Rattle.grammar.proofs.Sound.{rule-sound}
+use Rattle.grammar.proofs.Walk.{Tests, Joins, fresh, Place, Walks, step, walked, deep, deeper, loosen, walks-first, walks-cut}
+use Rattle.grammar.proofs.Faults.{Begin, Loose, Before, View, Hopes, Bad, Out}
 use Rattle.grammar.proofs.PlainFaults.{rule-out}
+use Rattle.grammar.proofs.TokenPlaces.{tokens-upto, tokens-one, token-inside}
+use Rattle.grammar.proofs.OneFault.{strict, declared-passes, legal-passes, Clean, none-before, span-opens, one-wrong, wrong-begins, wrong-starts}
 
--- The tokens between two places are one list.
-some-token : {s : List ℕ} {p q : ℕ} (w : List ℕ) (ws : List (List ℕ)) → Tokens s q p (w ∷ ws) → p ≡ q → ⊥
-some-token w ws b e =
-    let n = next-is b in
-    let l = tokens-ahead ws (n .1) in
-    let t = token-some (n .0 .token) in
-    let k = ap length (t .2) in
-    omega arith
+-- ---- the views
 
-pub tokens-one : {s : List ℕ} {p q : ℕ} (us ws : List (List ℕ)) → Tokens s q p us → Tokens s q p ws → us ≡ ws
-tokens-one [] [] a b = refl
-tokens-one [] (w ∷ ws) a b = absurd (some-token w ws b (none-is a))
-tokens-one (u ∷ us) [] a b = absurd (some-token u us a (none-is b))
-tokens-one {s} {p} {q} (u ∷ us) (w ∷ ws) a b =
-    let x = next-is a in
-    let y = next-is b in
-    let i = token-one (x .0) (y .0) in
-    let j = tokens-one us ws (x .1) (subst (λ z. Tokens s q (p + length z) ws) (sym i) (y .1)) in
-    cc
+-- No test.
+abbrev lax : Tests
+lax = record { named = λ w. true; spanned = λ o v w c. true }
 
-walks-same : {x y z : Place} (us : List (List ℕ)) → Walks x us y → Walks x us z → y ≡ z
-walks-same {x} {y} {z} us h k = same (walks-cut us h (subst (λ ws. Walks x ws z) (sym (append-nil us)) k))
+some-name : Name (bytes "a")
+some-name =
+    record {
+      word = Word.word refl tt;
+      not-since = λ e. (let z : byte "a" ≡ byte "s" = cc in omega arith);
+      not-until = λ e. (let z : byte "a" ≡ byte "u" = cc in omega arith);
+    }
+
+-- Any names and intervals, with a walk's tests that declared names and legal intervals pass.
+module _ (names : List (List ℕ)) (τ : Tests) (hn : (w : List ℕ) (i : ℕ) → Declared names w i → τ .named w ≡ true) (hi : (o v w c first more : ℕ) → Legal o v w c first more → τ .spanned o v w c ≡ true) where
+  abbrev any : View names
+  any =
+      record {
+        N = AnyName;
+        I = AnySpan;
+        tests = τ;
+        named = λ w i d. (tt, hn w i d);
+        spanned = λ o v w c first more l. (tt, hi o v w c first more l);
+        nm = bytes "a";
+        ni = 0;
+        name = some-name;
+        some = tt;
+      }
+
+abbrev loosely : (names : List (List ℕ)) → View names
+loosely names = any names lax (λ w i d. refl) (λ o v w c first more l. refl)
+
+abbrev strictly : (names : List (List ℕ)) → View names
+strictly names = any names (strict names) (declared-passes names) (legal-passes names)
+
+-- Declared names and legal intervals.
+module _ (names : List (List ℕ)) {w : List ℕ} {i : ℕ} (n : Name w) (d : Declared names w i) where
+  abbrev accepting : View names
+  accepting =
+      record { N = Declared names; I = Legal; tests = lax; named = λ w i d. (d, refl); spanned = λ o v w c first more l. (l, refl); nm = w; ni = i; name = n; some = d }
+
+-- ---- what is wrong where a rule is refused
+
+walks-same : {τ : Tests} {x y z : Place} (us : List (List ℕ)) → Walks τ x us y → Walks τ x us z → y ≡ z
+walks-same {τ} {x} {y} {z} us h k = same (walks-cut us h (subst (λ ws. Walks τ x ws z) (sym (append-nil us)) k))
   where
-    same : {a b : Place} → Walks a [] b → a ≡ b
+    same : {a b : Place} → Walks τ a [] b → a ≡ b
     same Walks.stop = refl
 
-module _ (names : List (List ℕ)) (s : List ℕ) (p : ℕ) (nm : List ℕ) (ni : ℕ) (hn : Name nm) (hd : Declared names nm ni) where
+-- Every formula is walked, from where d more may be opened.
+formula-walk : {d : ℕ} {ws : List (List ℕ)} {f : Written} → Is AnyName AnySpan formula d ws f → (b : ℕ) × (j : Joins) × Walks lax (Place.want (d + 32) (d + 32) fresh []) ws (Place.after b j [])
+formula-walk {d} {ws} {f} h =
+    let e : 32 + d ≡ d + 32 = omega arith in
+    let k = subst (λ x. Is AnyName AnySpan formula x ws f) e (deeper AnyName AnySpan 32 h) in
+    let w = walked lax AnyName AnySpan (λ w i n. refl) (λ o v w c first more l. refl) k [] in
+    (d + 32, Joins.joins (w .0) (w .1), w .2)
+
+-- A token with which a formula begins is walked over.
+begins-walk : {d : ℕ} (us : List (List ℕ)) (w : List ℕ) → Begins d (us ++ (w ∷ [])) → {y : Place} → Walks lax (Place.want (d + 32) (d + 32) fresh []) us y → (z : Place) × (step lax y w ≡ option.some z)
+begins-walk {d} us w b h =
+    let x = formula-walk (subst (λ z. Is AnyName AnySpan formula d z (b .says)) (append-assoc us (w ∷ []) (b .rest)) (b .is)) in
+    let y = walks-first (walks-cut us h (x .2)) in
+    (y .0, y .1)
+
+module _ (names : List (List ℕ)) (s : List ℕ) (p : ℕ) where
   -- The refusal, with e more to be opened.
-  refusal : {n κ : ℕ} → rule names s p ≡ refused n κ → (e : ℕ) → Bad names s e (Place.want (e + 32) (e + 32) fresh []) formula 32 p n κ
-  refusal {n} {κ} h e = go (rule-out names s e nm ni hn hd p) h
+  refusal : (ν : View names) {n κ : ℕ} → rule names s p ≡ refused n κ → (e : ℕ) → Bad s ν e (Place.want (e + 32) (e + 32) fresh []) formula 32 p n κ
+  refusal ν {n} {κ} h e = go (rule-out s ν e p) h
     where
-      go : {R : Read Written} → Out names s e (e + 32) (e + 32) fresh [] formula 32 p R → R ≡ refused n κ → Bad names s e (Place.want (e + 32) (e + 32) fresh []) formula 32 p n κ
+      go : {R : Read Written} → Out s ν e (e + 32) (e + 32) fresh [] formula 32 p R → R ≡ refused n κ → Bad s ν e (Place.want (e + 32) (e + 32) fresh []) formula 32 p n κ
       go (Out.good g) k = absurd (not-both k)
       go (Out.bad {n = m} {κ = i} b) k =
           let a : m ≡ n = cc in
           let c : i ≡ κ = cc in
-          subst (Bad names s e (Place.want (e + 32) (e + 32) fresh []) formula 32 p n) c (subst (λ x. Bad names s e (Place.want (e + 32) (e + 32) fresh []) formula 32 p x i) a b)
-
-  -- Every formula is walked, from where d more may be opened.
-  formula-walk : {d : ℕ} {ws : List (List ℕ)} {f : Written} → Is AnyName AnySpan formula d ws f → (b : ℕ) × (j : Joins) × Walks (Place.want (d + 32) (d + 32) fresh []) ws (Place.after b j [])
-  formula-walk {d} {ws} {f} h =
-      let e : 32 + d ≡ d + 32 = omega arith in
-      let k = subst (λ x. Is AnyName AnySpan formula x ws f) e (deeper AnyName AnySpan 32 h) in
-      let w = walked AnyName AnySpan k [] in
-      (d + 32, Joins.joins (w .0) (w .1), w .2)
+          subst (Bad s ν e (Place.want (e + 32) (e + 32) fresh []) formula 32 p n) c (subst (λ x. Bad s ν e (Place.want (e + 32) (e + 32) fresh []) formula 32 p x i) a b)
 
   -- A token that leads nowhere begins no formula.
-  no-formula : {κ : ℕ} {us : List (List ℕ)} → rule names s p ≡ refused 5 κ → Tokens s κ p us → (w : List ℕ) (ws : List (List ℕ)) (d : ℕ) (f : Written) → TokenAt s κ w → Is AnyName AnySpan formula d (us ++ (w ∷ ws)) f → ⊥
-  no-formula {κ} {us} h t w ws d f a i =
-      let b = refusal h d in
+  no-formula : {κ : ℕ} {us : List (List ℕ)} → rule names s p ≡ refused 5 κ → Tokens s κ p us → (w : List ℕ) (d : ℕ) → TokenAt s κ w → Begins d (us ++ (w ∷ [])) → ⊥
+  no-formula {κ} {us} h t w d a i =
+      let b = refusal (loosely names) h d in
       let e = tokens-one (b .tokens) us (b .stand) t in
-      let x = formula-walk i in
-      let y = walks-first (walks-cut us (subst (λ z. Walks (Place.want (d + 32) (d + 32) fresh []) z (b .at)) e (b .walks)) (x .2)) in
+      let y = begins-walk us w i (subst (λ z. Walks lax (Place.want (d + 32) (d + 32) fresh []) z (b .at)) e (b .walks)) in
       stuck (b .hopes) (y .0) (y .1)
     where
-      stuck : {y : Place} {B : ℕ → List (List ℕ) → Type 0} → Hopes names s d y 32 B 5 κ → (z : Place) → step y w ≡ option.some z → ⊥
+      stuck : {y : Place} {B : ℕ → List (List ℕ) → Type 0} → Hopes names s lax d y 32 B 5 κ → (z : Place) → step lax y w ≡ option.some z → ⊥
       stuck (Hopes.token c k l) z g = k w z a g
 
   no-end : {κ : ℕ} {us : List (List ℕ)} → rule names s p ≡ refused 5 κ → Tokens s κ p us → κ ≡ length s → (d : ℕ) (f : Written) → Is AnyName AnySpan formula d us f → ⊥
   no-end {κ} {us} h t l d f i =
-      let b = refusal h d in
+      let b = refusal (loosely names) h d in
       let e = tokens-one (b .tokens) us (b .stand) t in
       let x = formula-walk i in
-      short (b .hopes) (x .0) (x .1) (walks-same us (subst (λ z. Walks (Place.want (d + 32) (d + 32) fresh []) z (b .at)) e (b .walks)) (x .2))
+      short (b .hopes) (x .0) (x .1) (walks-same us (subst (λ z. Walks lax (Place.want (d + 32) (d + 32) fresh []) z (b .at)) e (b .walks)) (x .2))
     where
-      short : {y : Place} {B : ℕ → List (List ℕ) → Type 0} → Hopes names s d y 32 B 5 κ → (c : ℕ) (j : Joins) → y ≡ Place.after c j [] → ⊥
+      short : {y : Place} {B : ℕ → List (List ℕ) → Type 0} → Hopes names s lax d y 32 B 5 κ → (c : ℕ) (j : Joins) → y ≡ Place.after c j [] → ⊥
       short (Hopes.token c k m) b j g = m l b j g
 
-  -- Nothing may be opened where 32 are.
-  no-deeper : (us ws : List (List ℕ)) (w : List ℕ) {y : Place} {f : Written} → Walks (Place.want 32 32 fresh []) us y → (_≡_ {A = ℕ} 0 0 → (z : Place) → step y w ≡ option.some z → ⊥) → Is AnyName AnySpan formula 32 (us ++ (w ∷ ws)) f → ⊥
-  no-deeper us ws w h k i =
-      let x = walked AnyName AnySpan i [] in
-      let y = walks-first (walks-cut us h (x .2)) in
-      k refl (y .0) (y .1)
-
-  begins : {d : ℕ} {us : List (List ℕ)} → Begin names formula d us → Begins names d us
+  begins : {d : ℕ} {us : List (List ℕ)} → Loose formula d us → Begins d us
   begins h = record { rest = h .rest; says = h .says; is = h .is }
 
-  pub rule-fault : {n κ : ℕ} → rule names s p ≡ refused n κ → RuleFault names s p n κ
-  rule-fault {n} {κ} h = go (b .hopes) h
-    where
-      b : Bad names s 0 (Place.want 32 32 fresh []) formula 32 p n κ
-      b = refusal h 0
+  -- Nothing may be opened where 32 are.
+  no-deeper : (us : List (List ℕ)) (w : List ℕ) {y : Place} → Walks lax (Place.want 32 32 fresh []) us y → ((z : Place) → step lax y w ≡ option.some z → ⊥) → Begins 32 (us ++ (w ∷ [])) → ⊥
+  no-deeper us w h k b =
+      let i = subst (λ z. Is AnyName AnySpan formula 32 z (b .says)) (append-assoc us (w ∷ []) (b .rest)) (b .is) in
+      let x = walked lax AnyName AnySpan (λ w i n. refl) (λ o v w c first more l. refl) i [] in
+      let y = walks-first (walks-cut us h (x .2)) in
+      k (y .0) (y .1)
 
-      go : {n : ℕ} → Hopes names s 0 (b .at) 32 (λ c ts. Begin names formula c (b .tokens ++ ts)) n κ → rule names s p ≡ refused n κ → RuleFault names s p n κ
-      go (Hopes.token c k l) h = RuleFault.token (b .stand) (subst (Begins names 33) (append-nil (b .tokens)) (begins c)) (no-formula h (b .stand)) (no-end h (b .stand))
-      go (Hopes.name a m u c) h = RuleFault.name (b .stand) a m u (λ x i y z. begins (c x i y z))
-      go (Hopes.span t i l c) h = RuleFault.span (b .stand) t i l (begins c)
-      go (Hopes.deep {w = w} a c k) h = RuleFault.deep (b .stand) a (begins c) (λ ws f i. no-deeper (b .tokens) ws w (b .walks) k i)
+  wrong : {n κ : ℕ} → rule names s p ≡ refused n κ → Wrong names s p n κ
+  wrong {n} {κ} h = go (b .hopes) h
+    where
+      b : Bad s (loosely names) 0 (Place.want 32 32 fresh []) formula 32 p n κ
+      b = refusal (loosely names) h 0
+
+      go : {n : ℕ} → Hopes names s lax 0 (b .at) 32 (λ c ts. Loose formula c (b .tokens ++ ts)) n κ → rule names s p ≡ refused n κ → Wrong names s p n κ
+      go (Hopes.token c k l) h = Wrong.token (b .stand) (subst (Begins 33) (append-nil (b .tokens)) (begins c)) (no-formula h (b .stand)) (no-end h (b .stand))
+      go (Hopes.name a m u c) h = Wrong.name (b .stand) a m u (begins c)
+      go (Hopes.span t i l c) h = Wrong.span (b .stand) t i l (begins c)
+      go (Hopes.deep {o = o} m a c k) h = Wrong.deep (b .stand) m a (begins c) (no-deeper (b .tokens) (o ∷ []) (b .walks) (k refl))
+
+  -- ---- nothing is wrong before
+
+  clean : {n κ : ℕ} → rule names s p ≡ refused n κ → Clean names s p κ
+  clean {n} {κ} h =
+      record {
+        tokens = b .tokens;
+        stand = b .stand;
+        begins = wrong-begins (b .stand) (wrong h);
+        at = b .at;
+        walks = b .walks;
+        before = b .before;
+        next = wrong-starts (b .stand) (wrong h);
+      }
+    where
+      b : Bad s (strictly names) 0 (Place.want 32 32 fresh []) formula 32 p n κ
+      b = refusal (strictly names) h 0
+
+  -- An accepted rule is clean, and nothing is wrong in it.
+  rule-clean : {f : Written} → Rule names s p f → Clean names s p (length s)
+  rule-clean {f} h =
+      record {
+        tokens = h .tokens;
+        stand = h .stand;
+        begins = whole (deep AnyName AnySpan loose);
+        at = Place.after 32 (Joins.joins (w .0) (w .1)) [];
+        walks = w .2;
+        before = Before.whole (record { rest = []; says = f; is = subst (λ z. Is AnyName AnySpan formula 32 z f) (sym (append-nil (h .tokens))) loose });
+        next = λ w d a b. (let l = token-inside a in let z : ⊥ = omega arith in absurd z);
+      }
+    where
+      loose : Is AnyName AnySpan formula 32 (h .tokens) f
+      loose = loosen (Declared names) Legal (h .is)
+
+      whole : {d : ℕ} → Is AnyName AnySpan formula d (h .tokens) f → Begins d (h .tokens)
+      whole {d} i = record { rest = []; says = f; is = subst (λ z. Is AnyName AnySpan formula d z f) (sym (append-nil (h .tokens))) i }
+
+      w : (a : Bool) × (c : Bool) × Walks (strict names) (Place.want 32 32 fresh []) (h .tokens) (Place.after 32 (Joins.joins a c) [])
+      w = walked (strict names) (Declared names) Legal (declared-passes names) (legal-passes names) (h .is) []
+
+  nothing-wrong : {f : Written} {m i : ℕ} → Rule names s p f → Wrong names s p m i → ⊥
+  nothing-wrong {f} {m} {i} h w = go w (none-before (rule-clean h) w)
+    where
+      no-token : {w : List ℕ} → length s ≤ i → TokenAt s i w → ⊥
+      no-token l a = let k = token-inside a in omega arith
+
+      at-end : (us rest : List (List ℕ)) → us ≡ h .tokens ++ rest → Tokens s i (length s) rest → (i ≡ length s → (d : ℕ) (f : Written) → Is AnyName AnySpan formula d us f → ⊥) → ⊥
+      at-end us [] e t k = k (sym (none-is t)) 32 f (subst (λ z. Is AnyName AnySpan formula 32 z f) (sym (e ∙ append-nil (h .tokens))) (loosen (Declared names) Legal (h .is)))
+      at-end us (x ∷ rest) e t k = let l = token-inside (next-is t .0) in omega arith
+
+      go : {m : ℕ} → Wrong names s p m i → length s ≤ i → ⊥
+      go (Wrong.token {us = us} t b k e) l = let r = tokens-upto (h .tokens) us (h .stand) t l in at-end us (r .0) (r .1) (r .2) e
+      go (Wrong.name t a n u b) l = no-token l a
+      go (Wrong.span {us = us} t a j n b) l = no-token l (span-opens us j a b .0)
+      go (Wrong.deep t o a b n) l = no-token l a
+
+  -- ---- exactly
+
+  -- A rule's formula is refused with a number and a place exactly if that is the first thing wrong.
+  pub rule-refused : (n κ : ℕ) → (rule names s p ≡ refused n κ) ↔ RuleFault names s p n κ
+  rule-refused n κ = (λ h. record { wrong = wrong h; first = λ m i w. none-before (clean h) w }, λ f. go f (rule names s p) refl)
+    where
+      go : RuleFault names s p n κ → (R : Read Written) → rule names s p ≡ R → rule names s p ≡ refused n κ
+      go f (got g q) e = absurd (nothing-wrong (rule-sound names s p e .0) (f .wrong))
+      go f (refused m i) e =
+          let x = f .first m i (wrong e) in
+          let y = none-before (clean e) (f .wrong) in
+          let j : i ≡ κ = omega arith in
+          let k : m ≡ n = one-wrong (subst (Wrong names s p m) j (wrong e)) (f .wrong) in
+          rw (j, k) at e
+
+  -- And what stands before could still become a rule, where some name is declared.
+  pub rule-open : {w : List ℕ} {i n κ : ℕ} {us : List (List ℕ)} → Name w → Declared names w i → rule names s p ≡ refused n κ → Tokens s κ p us → Open names us
+  rule-open {n = n} {κ} {us} hn hd h t = subst (Open names) (tokens-one (b .tokens) us (b .stand) t) (opens (b .before))
+    where
+      b : Bad s (accepting names hn hd) 0 (Place.want 32 32 fresh []) formula 32 p n κ
+      b = refusal (accepting names hn hd) h 0
+
+      becomes : {us : List (List ℕ)} → Begin (Declared names) Legal formula 32 us → Becomes names us
+      becomes h = record { rest = h .rest; says = h .says; is = h .is }
+
+      opens : {us : List (List ℕ)} → Before (Declared names) Legal formula 32 us → Open names us
+      opens (Before.whole h) = Open.whole (becomes h)
+      opens (Before.word b h) = Open.word b (becomes h)
+      opens (Before.span b h j k) = Open.span b (becomes h) j

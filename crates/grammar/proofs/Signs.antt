@@ -57,7 +57,7 @@ all-opening = (
   ),
 )
 
-among : {A : Type 0} (P : A → Type 0) (l : List A) {w : A} → All P l → List·Memᴰ w l → P w
+pub among : {A : Type 0} (P : A → Type 0) (l : List A) {w : A} → All P l → List·Memᴰ w l → P w
 among P (x ∷ l) h (List·Memᴰ.List·Memᴰ·head e) = subst P (sym e) (h .0)
 among P (x ∷ l) h (List·Memᴰ.List·Memᴰ·tail m) = among P l (h .1) m
 
@@ -173,7 +173,7 @@ module _ (s : List ℕ) (p : ℕ) where
           ⊎-elim (λ g. true≢false (sym g ∙ ap digit (starts-head s p x u f) ∙ d))
           (λ g. true≢false (ap (λ b. eqb b (byte "-")) (sym g ∙ starts-head s p x u f) ∙ k)) h
 
-letter-no-end : (b : ℕ) → letter b ≡ true → (digit b ≡ true) ⊎ (b ≡ byte "-") → ⊥
+pub letter-no-end : (b : ℕ) → letter b ≡ true → (digit b ≡ true) ⊎ (b ≡ byte "-") → ⊥
 letter-no-end b h k =
     let w = between-is (byte "a") (byte "z") b h in
     ⊎-elim (λ d. let v = between-is (byte "0") (byte "9") b d in omega (arith, w .0, v .1)) (λ e. omega (arith, w .0)) k
