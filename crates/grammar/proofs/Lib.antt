@@ -6,10 +6,6 @@ pub mod Spans
 pub mod Sound
 pub mod Complete
 pub mod Exact
-pub mod Lines
-pub mod LineKinds
-pub mod SheetLines
-pub mod ReadingLines
 pub mod Walk
 pub mod Faults
 pub mod TimedFaults
@@ -18,3 +14,7 @@ pub mod TokenPlaces
 pub mod Known
 pub mod OneFault
 pub mod RuleFaults
+pub mod Lines
+pub mod LineKinds
+pub mod SheetLines
+pub mod ReadingLines

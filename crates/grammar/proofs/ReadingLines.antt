@@ -20,7 +20,7 @@ use Rattle.tilco.specs.Inference.{Mark, mark}
 use Rattle.readings.specs.Readings.{knownLine, reading, readings}
 use Rattle.grammar.specs.Grammar.{Declared}
 use Rattle.grammar.specs.Lines.{LineAt, after, Number, SignalName}
-use Rattle.grammar.specs.ReadingLines.{Next, key, Ranged, Formed, More, Right, Reached, Fault, ReadingsFault}
+use Rattle.grammar.specs.ReadingLines.{Next, key, Ranged, Formed, More, Right, Reached, Unknown, OutOfRange, Fault, ReadingsFault}
 use Rattle.grammar.proofs.Lines.{in-line-by, value-one, value-at, same-word}
 use Rattle.grammar.proofs.LineKinds.{RangedIs, ranged-is, ranged-reads, in-signal, NamedIs, named-is}
 use Rattle.grammar.proofs.SheetLines.{then-then}
@@ -154,9 +154,9 @@ module _ (names : List (List ℕ)) (W : ℕ) (r : List ℕ) where
 
   -- A line at fault is refused.
   fault-reads : {p : ℕ} {c : Next} {k i : ℕ} (n : ℕ) → length r ≤ p + n → Fault names W r p c k i → from n c p ≡ refused k i
-  fault-reads {p} {c} n h (Fault.form m k) = unformed-reads c n p h m k
-  fault-reads {p} {c} n h (Fault.range g a k b) = from-number n p g (line-more c a) h .2 ∙ rw (ranged-reads (in-key g) (RangedIs.outside a k b))
-  fault-reads {p} n h (Fault.name {t} {ms} {v} a k) = from-signal n t ms p ∙ rw (known-reads names r p (KnownIs.wrong v a k))
+  fault-reads {p} {c} n h (Fault.unformed u) = unformed-reads c n p h (u .more) (u .none)
+  fault-reads {p} {c} n h (Fault.range (OutOfRange.number g a k b)) = from-number n p g (line-more c a) h .2 ∙ rw (ranged-reads (in-key g) (RangedIs.outside a k b))
+  fault-reads {p} n h (Fault.name (Unknown.name {t} {ms} {v} a k)) = from-signal n t ms p ∙ rw (known-reads names r p (KnownIs.wrong v a k))
 
   reached-reads : {c : Next} {p : ℕ} → Reached names W r c p → (m : ℕ) × (length r ≤ p + m) × (from (length r) (Next.at []) 0 ≡ from m c p)
   reached-reads Reached.start = (length r, omega arith, refl)
@@ -181,8 +181,8 @@ module _ (names : List (List ℕ)) (W : ℕ) (r : List ℕ) where
     where
       go : {R : Read ℕ} → RangedIs r p (key c) 11 content lo hi R → NextIs p c
       go (RangedIs.inside a n b) = on a (Right.number g n b)
-      go (RangedIs.outside a n b) = fault (Fault.range g a n b)
-      go (RangedIs.unformed n) = fault (Fault.form m (λ v a k. let x = f v k in n v (x .0) a (x .1)))
+      go (RangedIs.outside a n b) = fault (Fault.range (OutOfRange.number g a n b))
+      go (RangedIs.unformed n) = fault (Fault.unformed (record { more = m; none = λ v a k. (let x = f v k in n v (x .0) a (x .1)) }))
 
   at-formed : (ms : List Mark) (v : List ℕ) → Formed W (Next.at ms) v → (x : ℕ) × Number v x
   at-formed ms v (Formed.number {x = x} g n) = (x, n)
@@ -200,8 +200,8 @@ module _ (names : List (List ℕ)) (W : ℕ) (r : List ℕ) where
     where
       go : {R : Read ℕ} → KnownIs names r p R → NextIs p (Next.signal t ms)
       go (KnownIs.right v a m d) = on a (Right.name m d)
-      go (KnownIs.wrong v a k) = fault (Fault.name a k)
-      go (KnownIs.unformed k) = fault (Fault.form tt (λ v a m. k v a))
+      go (KnownIs.wrong v a k) = fault (Fault.name (Unknown.name a k))
+      go (KnownIs.unformed k) = fault (Fault.unformed (record { more = tt; none = λ v a m. k v a }))
   next-is (Next.value t x ms) p l = number-next p tt (value-formed t x ms) Ranged.bit
 
   -- All lines are right, or one is the first at fault.
@@ -215,14 +215,14 @@ module _ (names : List (List ℕ)) (W : ℕ) (r : List ℕ) where
     where
       go : {c : Next} → NextIs p c → Reached names W r c p → ((e : Next) (q : ℕ) → length r < q + fuel → Reached names W r e q → Outcome) → Outcome
       go (on {e = e} {v = v} a d) h k = k e _ (omega arith) (Reached.line h a d)
-      go (fault {c = c} f) h k = faulty (record { next = c; place = p; reached = h; fault = f })
+      go (fault {c = c} f) h k = faulty (record { next = c; place = p; reached = h; holds = f })
       go (end {ms} e) h k = accepted (subst (Reached names W r (Next.at ms)) e h)
 
   -- ---- exactly
 
   module _ (fits : length r ≤ 32768) where
     fault-refused : {n i : ℕ} → ReadingsFault names W r n i → readings names W r ≡ refused n i
-    fault-refused f = let b = reached-reads (f .reached) in from-start fits ∙ b .2 ∙ fault-reads (b .0) (b .1) (f .fault)
+    fault-refused f = let b = reached-reads (f .reached) in from-start fits ∙ b .2 ∙ fault-reads (b .0) (b .1) (f .holds)
 
     all-accepted : {ms : List Mark} → Reached names W r (Next.at ms) (length r) → readings names W r ≡ got ms (length r)
     all-accepted {ms} h = let b = reached-reads h in from-start fits ∙ b .2 ∙ from-end (b .0) ms (length r) (omega arith)

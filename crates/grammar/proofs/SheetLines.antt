@@ -20,10 +20,11 @@ use Rattle.formula.specs.Grammar as reading
 use Rattle.sheet.specs.Sheet as sheet
 use Rattle.sheet.specs.Sheet.{Contents, contents, atEnd, signalLine, ruleLine, sheetOf}
 use Rattle.grammar.specs.Lines.{LineAt, after, Number}
-use Rattle.grammar.specs.SheetLines.{Next, key, Ranged, Formed, More, Right, Reached, Fault, SheetFault}
+use Rattle.grammar.specs.SheetLines.{Next, key, Ranged, Formed, More, Right, Reached, Followed, OutOfRange, BadName, BadLength, BadFormula, Fault, SheetFault}
 use Rattle.grammar.proofs.Sound.{rule-sound}
 use Rattle.grammar.proofs.Complete.{rule-complete}
 use Rattle.grammar.proofs.Lines.{in-line-by, KeyedIs, line-is}
+use Rattle.grammar.proofs.RuleFaults.{rule-refused}
 use Rattle.grammar.proofs.LineKinds.{RangedIs, ranged-is, ranged-reads, SignalIs, signal-is, signal-reads, in-rule, rule-line-reads, rule-line-none}
 
 -- ---- reading on
@@ -105,12 +106,13 @@ module _ (s : List ℕ) where
 
   -- A line at fault is refused.
   fault-reads : {p : ℕ} {c : Next} {n i : ℕ} → Fault s p c n i → from s c p ≡ refused n i
-  fault-reads {p} {c} (Fault.form m k) = unformed-reads c p m k
-  fault-reads {p} (Fault.extra {w} {places} {ws} l) = from-end w places ws p ∙ rw (ne-eqb p (length s) (λ e. omega arith))
-  fault-reads {p} (Fault.range r a n b) = from-number r p ∙ rw (ranged-reads (in-key r) (RangedIs.outside a n b))
-  fault-reads {p} (Fault.name {w} {n} {places} {v} a k) = from-name w n places p ∙ rw (signal-reads s places p (SignalIs.wrong v a k))
-  fault-reads {p} (Fault.long {w} {m} {places} {v} {ws} a b) = from-rule w places m ws p ∙ rw (rule-line-reads (namesAt s places) s p v a, b)
-  fault-reads {p} (Fault.formula {w} {m} {places = places} {v} {ws} a b e) = from-rule w places m ws p ∙ rw (rule-line-reads (namesAt s places) s p v a, b, e)
+  fault-reads {p} {c} (Fault.unformed u) = unformed-reads c p (u .more) (u .none)
+  fault-reads {p} (Fault.followed (Followed.followed {w} {places} {ws} l)) = from-end w places ws p ∙ rw (ne-eqb p (length s) (λ e. omega arith))
+  fault-reads {p} (Fault.range (OutOfRange.number r a n b)) = from-number r p ∙ rw (ranged-reads (in-key r) (RangedIs.outside a n b))
+  fault-reads {p} (Fault.name (BadName.name {w} {n} {places} {v} a k)) = from-name w n places p ∙ rw (signal-reads s places p (SignalIs.wrong v a k))
+  fault-reads {p} (Fault.length-of (BadLength.length-of {w} {m} {places} {v} {ws} a b)) = from-rule w places m ws p ∙ rw (rule-line-reads (namesAt s places) s p v a, b)
+  fault-reads {p} (Fault.formula (BadFormula.formula {w} {m} {n} {k} {places} {v} {ws} a b f)) =
+      from-rule w places m ws p ∙ rw (rule-line-reads (namesAt s places) s p v a, b, rule-refused (namesAt s places) v 0 n k .1 f)
 
   reached-reads : {c : Next} {p : ℕ} → Reached s c p → from s Next.window 0 ≡ from s c p
   reached-reads Reached.start = refl
@@ -132,8 +134,8 @@ module _ (s : List ℕ) where
     where
       go : {R : Read ℕ} → RangedIs s p (key c) 2 3 lo hi R → NextIs p c
       go (RangedIs.inside a n b) = on a (Right.number r n b)
-      go (RangedIs.outside a n b) = fault (Fault.range r a n b)
-      go (RangedIs.unformed n) = fault (Fault.form m (λ v a k. let x = f v k in n v (x .0) a (x .1)))
+      go (RangedIs.outside a n b) = fault (Fault.range (OutOfRange.number r a n b))
+      go (RangedIs.unformed n) = fault (Fault.unformed (record { more = m; none = λ v a k. (let x = f v k in n v (x .0) a (x .1)) }))
 
   window-formed : (v : List ℕ) → Formed Next.window v → (x : ℕ) × Number v x
   window-formed v (Formed.number {x = x} r n) = (x, n)
@@ -149,12 +151,12 @@ module _ (s : List ℕ) where
     where
       by : (v : List ℕ) → LineAt s p (bytes "rule=" ++ v) → (b : Bool) → between 1 256 (length v) ≡ b → (R : Read Written) → reading.rule (namesAt s places) v 0 ≡ R → NextIs p (Next.rule w places (suc m) ws)
       by v a true e (got f q) i = on a (Right.formula e (rule-sound (namesAt s places) v 0 i .0))
-      by v a true e (refused n k) i = fault (Fault.formula a e i)
-      by v a false e R i = fault (Fault.long a e)
+      by v a true e (refused n k) i = fault (Fault.formula (BadFormula.formula a e (rule-refused (namesAt s places) v 0 n k .0 i)))
+      by v a false e R i = fault (Fault.length-of (BadLength.length-of a e))
 
       go : {R : Read ℕ} → KeyedIs s p (bytes "rule=") 2 R → NextIs p (Next.rule w places (suc m) ws)
       go (KeyedIs.keyed v a) = by v a (between 1 256 (length v)) refl (reading.rule (namesAt s places) v 0) refl
-      go (KeyedIs.unkeyed n) = fault (Fault.form tt (λ v a k. n v a))
+      go (KeyedIs.unkeyed n) = fault (Fault.unformed (record { more = tt; none = λ v a k. n v a }))
 
   next-is : (c : Next) (p : ℕ) → p ≤ length s → NextIs p c
   next-is Next.window p l = number-next p tt window-formed Ranged.ticks
@@ -164,12 +166,12 @@ module _ (s : List ℕ) where
     where
       go : {R : Read ℕ} → SignalIs s places p R → NextIs p (Next.signal w (suc n) places)
       go (SignalIs.right v a m k) = on a (Right.name m k)
-      go (SignalIs.wrong v a k) = fault (Fault.name a k)
-      go (SignalIs.unformed k) = fault (Fault.form tt (λ v a m. k v a))
+      go (SignalIs.wrong v a k) = fault (Fault.name (BadName.name a k))
+      go (SignalIs.unformed k) = fault (Fault.unformed (record { more = tt; none = λ v a m. k v a }))
   next-is (Next.rule w places zero ws) p l = go (decLt p (length s))
     where
       go : Dec (p < length s) → NextIs p (Next.rule w places zero ws)
-      go (yes h) = fault (Fault.extra h)
+      go (yes h) = fault (Fault.followed (Followed.followed h))
       go (no h) = end (omega arith)
   next-is (Next.rule w places (suc m) ws) p l = rule-next w places m ws p
 
@@ -184,14 +186,14 @@ module _ (s : List ℕ) where
     where
       go : {c : Next} → NextIs p c → Reached s c p → ((e : Next) (q : ℕ) → length s < q + fuel → Reached s e q → Outcome) → Outcome
       go (on {e = e} {v = v} a r) h k = k e _ (omega arith) (Reached.line h a r)
-      go (fault {c = c} f) h k = faulty (record { next = c; place = p; reached = h; fault = f })
+      go (fault {c = c} f) h k = faulty (record { next = c; place = p; reached = h; holds = f })
       go (end {w} {places} {ws} e) h k = accepted (subst (Reached s (Next.rule w places zero ws)) e h)
 
   -- ---- exactly
 
   module _ (fits : length s ≤ 32768) where
     fault-refused : {n i : ℕ} → SheetFault s n i → sheetOf s ≡ refused n i
-    fault-refused f = from-start fits ∙ reached-reads (f .reached) ∙ fault-reads (f .fault)
+    fault-refused f = from-start fits ∙ reached-reads (f .reached) ∙ fault-reads (f .holds)
 
     all-accepted : {w : ℕ} {places : List ℕ} {ws : List Written} → Reached s (Next.rule w places zero ws) (length s) → sheetOf s ≡ got (contents w places ws) (length s)
     all-accepted {w} {places} {ws} h = from-start fits ∙ reached-reads h ∙ from-end w places ws (length s) ∙ rw (eq-eqb (length s) (length s) refl)

@@ -50,20 +50,37 @@ pub data Reached (names : List (List ℕ)) (W : ℕ) (r : List ℕ) : Next → �
   start : Reached names W r (at []) 0
   line : {c e : Next} {p : ℕ} {v : List ℕ} → Reached names W r c p → LineAt r p (key c ++ v) → Right names W c v e → Reached names W r e (after p (key c ++ v))
 
--- What comes next at p is at fault, with the refusal's number and place. A line's form is before its content.
-pub data Fault (names : List (List ℕ)) (W : ℕ) (r : List ℕ) (p : ℕ) : Next → ℕ → ℕ → Type 0 where
-  -- 11: "a readings line is missing, not of its form or without LF"
-  form : {c : Next} → More p (length r) c → ((v : List ℕ) → LineAt r p (key c ++ v) → Formed W c v → ⊥) → Fault names W r p c 11 p
-  -- 13: "tick outside the window", and 14: "value is a number other than 0 or 1"
-  range : {c : Next} {lo hi content x : ℕ} {k : ℕ → Next} {v : List ℕ} → Ranged W c lo hi content k → LineAt r p (key c ++ v) → Number v x → between lo hi x ≡ false
-      → Fault names W r p c content (p + length (key c))
-  -- 12: "unknown name"
-  name : {t : ℕ} {ms : List Mark} {v : List ℕ} → LineAt r p (bytes "signal=" ++ v) → ((x : ℕ) → SignalName v → Declared names v x → ⊥)
-      → Fault names W r p (signal t ms) 12 (p + length (bytes "signal="))
+-- ---- faults
 
--- The first line at fault: all lines before it are right.
-pub record ReadingsFault (names : List (List ℕ)) (W : ℕ) (r : List ℕ) (n i : ℕ) : Type 0 where
+-- The place of the line's value.
+abbrev pub valueAt : Next → ℕ → ℕ
+valueAt c p = p + length (key c)
+
+-- "A readings line is missing, not of its form or without LF."
+pub record Unformed (W : ℕ) (r : List ℕ) (p : ℕ) (c : Next) : Type 0 where
+  pub more : More p (length r) c
+  pub none : (v : List ℕ) → LineAt r p (key c ++ v) → Formed W c v → ⊥
+
+-- "Unknown name."
+pub data Unknown (names : List (List ℕ)) (r : List ℕ) (p : ℕ) : Next → Type 0 where
+  name : {t : ℕ} {ms : List Mark} {v : List ℕ} → LineAt r p (bytes "signal=" ++ v) → ((x : ℕ) → SignalName v → Declared names v x → ⊥) → Unknown names r p (signal t ms)
+
+-- "Tick outside the window" and "value is a number other than 0 or 1", by the refusal's number.
+pub data OutOfRange (W : ℕ) (r : List ℕ) (p : ℕ) : Next → ℕ → Type 0 where
+  number : {c : Next} {lo hi content x : ℕ} {k : ℕ → Next} {v : List ℕ} → Ranged W c lo hi content k → LineAt r p (key c ++ v) → Number v x → between lo hi x ≡ false → OutOfRange W r p c content
+
+-- What comes next at p is at fault, with the refusal's number and place. A line's form is before its content.
+pub data Fault (names : List (List ℕ)) (W : ℕ) (r : List ℕ) (p : ℕ) (c : Next) : ℕ → ℕ → Type 0 where
+  unformed : Unformed W r p c → Fault names W r p c 11 p
+  name : Unknown names r p c → Fault names W r p c 12 (valueAt c p)
+  range : {content : ℕ} → OutOfRange W r p c content → Fault names W r p c content (valueAt c p)
+
+-- The first line at fault: all lines before it are right, and of what comes next at its place Q holds.
+pub record First (names : List (List ℕ)) (W : ℕ) (r : List ℕ) (Q : Next → ℕ → Type 0) : Type 0 where
   pub next : Next
   pub place : ℕ
   pub reached : Reached names W r next place
-  pub fault : Fault names W r place next n i
+  pub holds : Q next place
+
+abbrev pub ReadingsFault : List (List ℕ) → ℕ → List ℕ → ℕ → ℕ → Type 0
+ReadingsFault names W r n i = First names W r (λ c p. Fault names W r p c n i)

@@ -5,12 +5,11 @@ use mathlib.Core.Bool.{true, false}
 use mathlib.Core.List.{List, [], _∷_, _++_, List·Memᴰ}
 use Prim.Native.Nat.{ℕ, zero, suc, _+_, _<_}
 use lib.ListN.{length}
-use Rattle.text.specs.Read.Read.{refused}
 use Rattle.text.specs.Bytes.{bytes, between}
 use Rattle.text.specs.Words.{namesAt}
 use Rattle.tilco.specs.Formula.{Written}
-use Rattle.formula.specs.Grammar as reading
 use Rattle.grammar.specs.Grammar.{Rule}
+use Rattle.grammar.specs.RuleFaults.{RuleFault}
 use Rattle.grammar.specs.Lines.{LineAt, after, Number, SignalName}
 
 -- What comes next, after the window, the places of the names, and the rules that were read: "`window=`, `signals=`, one `signal=` a signal,
@@ -62,26 +61,53 @@ pub data Reached (s : List ℕ) : Next → ℕ → Type 0 where
   start : Reached s window 0
   line : {c e : Next} {p : ℕ} {v : List ℕ} → Reached s c p → LineAt s p (key c ++ v) → Right s p c v e → Reached s e (after p (key c ++ v))
 
--- What comes next at p is at fault, with the refusal's number and place. A line's form is before its content, and a rule's length before its formula.
-pub data Fault (s : List ℕ) (p : ℕ) : Next → ℕ → ℕ → Type 0 where
-  -- 2: "a sheet line is missing, not of its form, out of order or without LF; or bytes follow the last line"
-  form : {c : Next} → More c → ((v : List ℕ) → LineAt s p (key c ++ v) → Formed c v → ⊥) → Fault s p c 2 p
-  extra : {w : ℕ} {places : List ℕ} {ws : List Written} → p < length s → Fault s p (rule w places zero ws) 2 p
-  -- 3: "window, signals or rules outside its range"
-  range : {c : Next} {lo hi x : ℕ} {k : ℕ → Next} {v : List ℕ} → Ranged c lo hi k → LineAt s p (key c ++ v) → Number v x → between lo hi x ≡ false → Fault s p c 3 (p + length (key c))
-  -- 4: "signal name not of its form, reserved or given twice"
-  name : {w n : ℕ} {places v : List ℕ} → LineAt s p (bytes "signal=" ++ v) → (SignalName v → (List·Memᴰ v (namesAt s places) → ⊥) → ⊥)
-      → Fault s p (signal w (suc n) places) 4 (p + length (bytes "signal="))
-  -- 5: "rule length outside 1 to 256"
-  long : {w m : ℕ} {places v : List ℕ} {ws : List Written} → LineAt s p (bytes "rule=" ++ v) → between 1 256 (length v) ≡ false
-      → Fault s p (rule w places (suc m) ws) 5 (p + length (bytes "rule="))
-  -- 5 to 8: the rule's formula, read by itself
-  formula : {w m n i : ℕ} {places v : List ℕ} {ws : List Written} → LineAt s p (bytes "rule=" ++ v) → between 1 256 (length v) ≡ true
-      → reading.rule (namesAt s places) v 0 ≡ refused n i → Fault s p (rule w places (suc m) ws) n (p + length (bytes "rule=") + i)
+-- ---- faults
 
--- The first line at fault: all lines before it are right.
-pub record SheetFault (s : List ℕ) (n i : ℕ) : Type 0 where
+-- The place of the line's value.
+abbrev pub valueAt : Next → ℕ → ℕ
+valueAt c p = p + length (key c)
+
+-- "A sheet line is missing, not of its form, out of order or without LF",
+pub record Unformed (s : List ℕ) (p : ℕ) (c : Next) : Type 0 where
+  pub more : More c
+  pub none : (v : List ℕ) → LineAt s p (key c ++ v) → Formed c v → ⊥
+
+-- "or bytes follow the last line".
+pub data Followed (s : List ℕ) (p : ℕ) : Next → Type 0 where
+  followed : {w : ℕ} {places : List ℕ} {ws : List Written} → p < length s → Followed s p (rule w places zero ws)
+
+-- "Window, signals or rules outside its range."
+pub data OutOfRange (s : List ℕ) (p : ℕ) : Next → Type 0 where
+  number : {c : Next} {lo hi x : ℕ} {k : ℕ → Next} {v : List ℕ} → Ranged c lo hi k → LineAt s p (key c ++ v) → Number v x → between lo hi x ≡ false → OutOfRange s p c
+
+-- "Signal name not of its form, reserved or given twice."
+pub data BadName (s : List ℕ) (p : ℕ) : Next → Type 0 where
+  name : {w n : ℕ} {places v : List ℕ} → LineAt s p (bytes "signal=" ++ v) → (SignalName v → (List·Memᴰ v (namesAt s places) → ⊥) → ⊥) → BadName s p (signal w (suc n) places)
+
+-- "Rule length outside 1 to 256."
+pub data BadLength (s : List ℕ) (p : ℕ) : Next → Type 0 where
+  length-of : {w m : ℕ} {places v : List ℕ} {ws : List Written} → LineAt s p (bytes "rule=" ++ v) → between 1 256 (length v) ≡ false → BadLength s p (rule w places (suc m) ws)
+
+-- A rule's formula at fault, by the number and the place in the rule.
+pub data BadFormula (s : List ℕ) (p : ℕ) : Next → ℕ → ℕ → Type 0 where
+  formula : {w m n k : ℕ} {places v : List ℕ} {ws : List Written} → LineAt s p (bytes "rule=" ++ v) → between 1 256 (length v) ≡ true → RuleFault (namesAt s places) v 0 n k
+      → BadFormula s p (rule w places (suc m) ws) n k
+
+-- What comes next at p is at fault, with the refusal's number and place. A line's form is before its content, and a rule's length before its formula.
+pub data Fault (s : List ℕ) (p : ℕ) (c : Next) : ℕ → ℕ → Type 0 where
+  unformed : Unformed s p c → Fault s p c 2 p
+  followed : Followed s p c → Fault s p c 2 p
+  range : OutOfRange s p c → Fault s p c 3 (valueAt c p)
+  name : BadName s p c → Fault s p c 4 (valueAt c p)
+  length-of : BadLength s p c → Fault s p c 5 (valueAt c p)
+  formula : {n k : ℕ} → BadFormula s p c n k → Fault s p c n (valueAt c p + k)
+
+-- The first line at fault: all lines before it are right, and of what comes next at its place Q holds.
+pub record First (s : List ℕ) (Q : Next → ℕ → Type 0) : Type 0 where
   pub next : Next
   pub place : ℕ
   pub reached : Reached s next place
-  pub fault : Fault s place next n i
+  pub holds : Q next place
+
+abbrev pub SheetFault : List ℕ → ℕ → ℕ → Type 0
+SheetFault s n i = First s (λ c p. Fault s p c n i)
