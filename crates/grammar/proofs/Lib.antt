@@ -18,3 +18,4 @@ pub mod Lines
 pub mod LineKinds
 pub mod SheetLines
 pub mod ReadingLines
+pub mod Refusals

@@ -88,10 +88,10 @@ pub data BadName (s : List ℕ) (p : ℕ) : Next → Type 0 where
 pub data BadLength (s : List ℕ) (p : ℕ) : Next → Type 0 where
   length-of : {w m : ℕ} {places v : List ℕ} {ws : List Written} → LineAt s p (bytes "rule=" ++ v) → between 1 256 (length v) ≡ false → BadLength s p (rule w places (suc m) ws)
 
--- A rule's formula at fault, by the number and the place in the rule.
+-- A rule's formula is at fault, with the refusal's number and place.
 pub data BadFormula (s : List ℕ) (p : ℕ) : Next → ℕ → ℕ → Type 0 where
   formula : {w m n k : ℕ} {places v : List ℕ} {ws : List Written} → LineAt s p (bytes "rule=" ++ v) → between 1 256 (length v) ≡ true → RuleFault (namesAt s places) v 0 n k
-      → BadFormula s p (rule w places (suc m) ws) n k
+      → BadFormula s p (rule w places (suc m) ws) n (p + length (bytes "rule=") + k)
 
 -- What comes next at p is at fault, with the refusal's number and place. A line's form is before its content, and a rule's length before its formula.
 pub data Fault (s : List ℕ) (p : ℕ) (c : Next) : ℕ → ℕ → Type 0 where
@@ -100,7 +100,7 @@ pub data Fault (s : List ℕ) (p : ℕ) (c : Next) : ℕ → ℕ → Type 0 wher
   range : OutOfRange s p c → Fault s p c 3 (valueAt c p)
   name : BadName s p c → Fault s p c 4 (valueAt c p)
   length-of : BadLength s p c → Fault s p c 5 (valueAt c p)
-  formula : {n k : ℕ} → BadFormula s p c n k → Fault s p c n (valueAt c p + k)
+  formula : {n i : ℕ} → BadFormula s p c n i → Fault s p c n i
 
 -- The first line at fault: all lines before it are right, and of what comes next at its place Q holds.
 pub record First (s : List ℕ) (Q : Next → ℕ → Type 0) : Type 0 where
