@@ -19,3 +19,4 @@ pub mod LineKinds
 pub mod SheetLines
 pub mod ReadingLines
 pub mod Refusals
+pub mod BeforeFault
