@@ -124,7 +124,7 @@ map-before {N} {I} {l = l} {c = c} us f g (Before.span {us = a} {ts = ts} b h i 
     let e = append-assoc us a (timeSign b ∷ ts) in
     subst (Before N I l c) e (Before.span b (f a h) i (subst (Loose l c) (sym e) (g _ k)))
 
--- What is asked of names and intervals, and a walk's tests for them. Declared names and legal intervals pass both, and so does a name.
+-- What is asked of names and intervals, and a walk's tests for them. Declared names and legal intervals pass both; some name nm is asked for as ni.
 pub record View (names : List (List ℕ)) : Type 1 where
   pub N : List ℕ → ℕ → Type 0
   pub I : ℕ → ℕ → ℕ → ℕ → ℕ → ℕ → Type 0

@@ -10,12 +10,11 @@ use borrow.Author.Tests.{eqb-true}
 use lib.Dec.{eqb}
 use Rattle.text.specs.Bytes.{byte, bytes, pick, oneOf, letter, digit}
 use Rattle.text.specs.Words.{sameText}
-use Rattle.text.proofs.Names.{same-text}
 use Rattle.tilco.specs.Lists.{All}
 use Rattle.grammar.specs.Tokens.{End}
 use Rattle.grammar.specs.Grammar.{Name, Interval}
 use Rattle.grammar.proofs.Signs.{letter-no-end}
-use Rattle.grammar.proofs.Walk.{Tests, Upto, Joins, Frame, Place, Walks, firstOf, word-letter, endByte, end-byte, opened, step, walks-first, walks-cut, walks-one, step-first, step-comma, step-last}
+use Rattle.grammar.proofs.Walk.{Tests, Upto, Joins, Frame, Place, Walks, firstOf, other-text, word-letter, endByte, end-byte, opened, step, walks-first, walks-cut, walks-one, step-first, step-comma, step-last}
 use Rattle.grammar.proofs.TimedFaults.{none-not, or-in}
 use Rattle.grammar.proofs.PlainFaults.{stuck-want}
 
@@ -31,18 +30,7 @@ none-of P b (x ∷ l) h k e = ⊎-elim (λ i. true≢false (sym k ∙ ap P (eqb-
 
 -- Two texts whose first bytes a test tells apart.
 differ : (P : ℕ → Bool) (w x : List ℕ) → P (firstOf w) ≡ true → P (firstOf x) ≡ false → sameText w x ≡ false
-differ P w x h k = go (sameText w x) refl
-  where
-    go : (c : Bool) → sameText w x ≡ c → sameText w x ≡ false
-    go true i = absurd (true≢false (sym h ∙ ap (λ y. P (firstOf y)) (same-text w x .0 i) ∙ k))
-    go false i = i
-
-other-text : (w x : List ℕ) → (w ≡ x → ⊥) → sameText w x ≡ false
-other-text w x n = go (sameText w x) refl
-  where
-    go : (c : Bool) → sameText w x ≡ c → sameText w x ≡ false
-    go true i = absurd (n (same-text w x .0 i))
-    go false i = i
+differ P w x h k = other-text w x (λ e. true≢false (sym h ∙ ap (λ y. P (firstOf y)) e ∙ k))
 
 -- ---- names
 

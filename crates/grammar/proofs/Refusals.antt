@@ -40,7 +40,7 @@ module _ {s : List ℕ} {p : ℕ} {c : sheets.Next} where
   sheet-number (Fault.followed h) = omega arith
   sheet-number (Fault.range h) = omega arith
   sheet-number (Fault.name h) = omega arith
-  sheet-number (Fault.length-of h) = omega arith
+  sheet-number (Fault.size h) = omega arith
   sheet-number (Fault.formula h) = let l = formula-number h in omega arith
 
   -- Each number's cases.
@@ -49,7 +49,7 @@ module _ {s : List ℕ} {p : ℕ} {c : sheets.Next} where
   two e (Fault.followed h) = (inr h, refl)
   two e (Fault.range h) = absurd (omega arith)
   two e (Fault.name h) = absurd (omega arith)
-  two e (Fault.length-of h) = absurd (omega arith)
+  two e (Fault.size h) = absurd (omega arith)
   two e (Fault.formula h) = let l = formula-number h in absurd (omega arith)
 
   three : {n i : ℕ} → n ≡ 3 → Fault s p c n i → OutOfRange s p c × (i ≡ valueAt c p)
@@ -57,7 +57,7 @@ module _ {s : List ℕ} {p : ℕ} {c : sheets.Next} where
   three e (Fault.followed h) = absurd (omega arith)
   three e (Fault.range h) = (h, refl)
   three e (Fault.name h) = absurd (omega arith)
-  three e (Fault.length-of h) = absurd (omega arith)
+  three e (Fault.size h) = absurd (omega arith)
   three e (Fault.formula h) = let l = formula-number h in absurd (omega arith)
 
   four : {n i : ℕ} → n ≡ 4 → Fault s p c n i → BadName s p c × (i ≡ valueAt c p)
@@ -65,7 +65,7 @@ module _ {s : List ℕ} {p : ℕ} {c : sheets.Next} where
   four e (Fault.followed h) = absurd (omega arith)
   four e (Fault.range h) = absurd (omega arith)
   four e (Fault.name h) = (h, refl)
-  four e (Fault.length-of h) = absurd (omega arith)
+  four e (Fault.size h) = absurd (omega arith)
   four e (Fault.formula h) = let l = formula-number h in absurd (omega arith)
 
   five : {n i : ℕ} → 5 ≤ n → Fault s p c n i → ((n ≡ 5) × BadLength s p c × (i ≡ valueAt c p)) ⊎ BadFormula s p c n i
@@ -73,7 +73,7 @@ module _ {s : List ℕ} {p : ℕ} {c : sheets.Next} where
   five e (Fault.followed h) = absurd (omega arith)
   five e (Fault.range h) = absurd (omega arith)
   five e (Fault.name h) = absurd (omega arith)
-  five e (Fault.length-of h) = inl (refl, h, refl)
+  five e (Fault.size h) = inl (refl, h, refl)
   five e (Fault.formula h) = inr h
 
   at : {n i j : ℕ} → i ≡ j → Fault s p c n j → Fault s p c n i
@@ -112,7 +112,7 @@ module _ (s : List ℕ) where
     -- the rule stops short".
     pub refusal-5 : (i : ℕ) → (sheetOf s ≡ refused 5 i) ↔ First s (λ c p. (BadLength s p c × (i ≡ valueAt c p)) ⊎ BadFormula s p c 5 i)
     refusal-5 i =
-        row 5 i _ (λ c p f. ⊎-elim (λ h. inl (h .1, h .2)) (λ h. inr h) (five (omega arith) f)) (λ c p h. ⊎-elim (λ k. at (k .1) (Fault.length-of (k .0))) Fault.formula h)
+        row 5 i _ (λ c p f. ⊎-elim (λ h. inl (h .1, h .2)) (λ h. inr h) (five (omega arith) f)) (λ c p h. ⊎-elim (λ k. at (k .1) (Fault.size (k .0))) Fault.formula h)
 
     formula-row : (n i : ℕ) → 5 < n → (sheetOf s ≡ refused n i) ↔ First s (λ c p. BadFormula s p c n i)
     formula-row n i l = row n i _ (λ c p f. ⊎-elim (λ h. let e = h .0 in absurd (omega arith)) (λ h. h) (five (omega arith) f)) (λ c p h. Fault.formula h)

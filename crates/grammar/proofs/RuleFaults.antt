@@ -75,20 +75,20 @@ walks-same {τ} {x} {y} {z} us h k = same (walks-cut us h (subst (λ ws. Walks �
     same : {a b : Place} → Walks τ a [] b → a ≡ b
     same Walks.stop = refl
 
--- Every formula is walked, from where d more may be opened.
-formula-walk : {d : ℕ} {ws : List (List ℕ)} {f : Written} → Is AnyName AnySpan formula d ws f → (b : ℕ) × (j : Joins) × Walks lax (Place.want (d + 32) (d + 32) fresh []) ws (Place.after b j [])
-formula-walk {d} {ws} {f} h =
-    let e : 32 + d ≡ d + 32 = omega arith in
-    let k = subst (λ x. Is AnyName AnySpan formula x ws f) e (deeper AnyName AnySpan 32 h) in
-    let w = walked lax AnyName AnySpan (λ w i n. refl) (λ o v w c first more l. refl) k [] in
-    (d + 32, Joins.joins (w .0) (w .1), w .2)
+-- Every formula is walked to its end.
+formula-walk : {d : ℕ} {ws : List (List ℕ)} {f : Written} → Is AnyName AnySpan formula d ws f → (j : Joins) × Walks lax (Place.want d d fresh []) ws (Place.after d j [])
+formula-walk h = let w = walked lax AnyName AnySpan (λ w i n. refl) (λ o v w c first more l. refl) h [] in (Joins.joins (w .0) (w .1), w .2)
 
--- A token with which a formula begins is walked over.
-begins-walk : {d : ℕ} (us : List (List ℕ)) (w : List ℕ) → Begins d (us ++ (w ∷ [])) → {y : Place} → Walks lax (Place.want (d + 32) (d + 32) fresh []) us y → (z : Place) × (step lax y w ≡ option.some z)
+-- So a token with which a formula begins is walked over.
+begins-walk : {d : ℕ} (us : List (List ℕ)) (w : List ℕ) → Begins d (us ++ (w ∷ [])) → {y : Place} → Walks lax (Place.want d d fresh []) us y → (z : Place) × (step lax y w ≡ option.some z)
 begins-walk {d} us w b h =
     let x = formula-walk (subst (λ z. Is AnyName AnySpan formula d z (b .says)) (append-assoc us (w ∷ []) (b .rest)) (b .is)) in
-    let y = walks-first (walks-cut us h (x .2)) in
+    let y = walks-first (walks-cut us h (x .1)) in
     (y .0, y .1)
+
+-- A formula with more room.
+roomy : {d : ℕ} {ws : List (List ℕ)} {f : Written} → Is AnyName AnySpan formula d ws f → Is AnyName AnySpan formula (d + 32) ws f
+roomy {d} {ws} {f} h = let e : 32 + d ≡ d + 32 = omega arith in subst (λ x. Is AnyName AnySpan formula x ws f) e (deeper AnyName AnySpan 32 h)
 
 module _ (names : List (List ℕ)) (s : List ℕ) (p : ℕ) where
   -- The refusal, with e more to be opened.
@@ -107,7 +107,8 @@ module _ (names : List (List ℕ)) (s : List ℕ) (p : ℕ) where
   no-formula {κ} {us} h t w d a i =
       let b = refusal (loosely names) h d in
       let e = tokens-one (b .tokens) us (b .stand) t in
-      let y = begins-walk us w i (subst (λ z. Walks lax (Place.want (d + 32) (d + 32) fresh []) z (b .at)) e (b .walks)) in
+      let m : Begins (d + 32) (us ++ (w ∷ [])) = record { rest = i .rest; says = i .says; is = roomy (i .is) } in
+      let y = begins-walk us w m (subst (λ z. Walks lax (Place.want (d + 32) (d + 32) fresh []) z (b .at)) e (b .walks)) in
       stuck (b .hopes) (y .0) (y .1)
     where
       stuck : {y : Place} {B : ℕ → List (List ℕ) → Type 0} → Hopes names s lax d y 32 B 5 κ → (z : Place) → step lax y w ≡ option.some z → ⊥
@@ -117,22 +118,14 @@ module _ (names : List (List ℕ)) (s : List ℕ) (p : ℕ) where
   no-end {κ} {us} h t l d f i =
       let b = refusal (loosely names) h d in
       let e = tokens-one (b .tokens) us (b .stand) t in
-      let x = formula-walk i in
-      short (b .hopes) (x .0) (x .1) (walks-same us (subst (λ z. Walks lax (Place.want (d + 32) (d + 32) fresh []) z (b .at)) e (b .walks)) (x .2))
+      let x = formula-walk (roomy i) in
+      short (b .hopes) (d + 32) (x .0) (walks-same us (subst (λ z. Walks lax (Place.want (d + 32) (d + 32) fresh []) z (b .at)) e (b .walks)) (x .1))
     where
       short : {y : Place} {B : ℕ → List (List ℕ) → Type 0} → Hopes names s lax d y 32 B 5 κ → (c : ℕ) (j : Joins) → y ≡ Place.after c j [] → ⊥
       short (Hopes.token c k m) b j g = m l b j g
 
   begins : {d : ℕ} {us : List (List ℕ)} → Loose formula d us → Begins d us
   begins h = record { rest = h .rest; says = h .says; is = h .is }
-
-  -- Nothing may be opened where 32 are.
-  no-deeper : (us : List (List ℕ)) (w : List ℕ) {y : Place} → Walks lax (Place.want 32 32 fresh []) us y → ((z : Place) → step lax y w ≡ option.some z → ⊥) → Begins 32 (us ++ (w ∷ [])) → ⊥
-  no-deeper us w h k b =
-      let i = subst (λ z. Is AnyName AnySpan formula 32 z (b .says)) (append-assoc us (w ∷ []) (b .rest)) (b .is) in
-      let x = walked lax AnyName AnySpan (λ w i n. refl) (λ o v w c first more l. refl) i [] in
-      let y = walks-first (walks-cut us h (x .2)) in
-      k (y .0) (y .1)
 
   wrong : {n κ : ℕ} → rule names s p ≡ refused n κ → Wrong names s p n κ
   wrong {n} {κ} h = go (b .hopes) h
@@ -144,7 +137,7 @@ module _ (names : List (List ℕ)) (s : List ℕ) (p : ℕ) where
       go (Hopes.token c k l) h = Wrong.token (b .stand) (subst (Begins 33) (append-nil (b .tokens)) (begins c)) (no-formula h (b .stand)) (no-end h (b .stand))
       go (Hopes.name a m u c) h = Wrong.name (b .stand) a m u (begins c)
       go (Hopes.span t i l c) h = Wrong.span (b .stand) t i l (begins c)
-      go (Hopes.deep {o = o} m a c k) h = Wrong.deep (b .stand) m a (begins c) (no-deeper (b .tokens) (o ∷ []) (b .walks) (k refl))
+      go (Hopes.deep {o = o} m a c k) h = Wrong.deep (b .stand) m a (begins c) (λ i. let y = begins-walk (b .tokens) (o ∷ []) i (b .walks) in k refl (y .0) (y .1))
 
   -- ---- nothing is wrong before
 

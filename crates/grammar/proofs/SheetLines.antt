@@ -110,7 +110,7 @@ module _ (s : List ℕ) where
   fault-reads {p} (Fault.followed (Followed.followed {w} {places} {ws} l)) = from-end w places ws p ∙ rw (ne-eqb p (length s) (λ e. omega arith))
   fault-reads {p} (Fault.range (OutOfRange.number r a n b)) = from-number r p ∙ rw (ranged-reads (in-key r) (RangedIs.outside a n b))
   fault-reads {p} (Fault.name (BadName.name {w} {n} {places} {v} a k)) = from-name w n places p ∙ rw (signal-reads s places p (SignalIs.wrong v a k))
-  fault-reads {p} (Fault.length-of (BadLength.length-of {w} {m} {places} {v} {ws} a b)) = from-rule w places m ws p ∙ rw (rule-line-reads (namesAt s places) s p v a, b)
+  fault-reads {p} (Fault.size (BadLength.outside {w} {m} {places} {v} {ws} a b)) = from-rule w places m ws p ∙ rw (rule-line-reads (namesAt s places) s p v a, b)
   fault-reads {p} (Fault.formula (BadFormula.formula {w} {m} {n} {k} {places} {v} {ws} a b f)) =
       from-rule w places m ws p ∙ rw (rule-line-reads (namesAt s places) s p v a, b, rule-refused (namesAt s places) v 0 n k .1 f)
 
@@ -152,7 +152,7 @@ module _ (s : List ℕ) where
       by : (v : List ℕ) → LineAt s p (bytes "rule=" ++ v) → (b : Bool) → between 1 256 (length v) ≡ b → (R : Read Written) → reading.rule (namesAt s places) v 0 ≡ R → NextIs p (Next.rule w places (suc m) ws)
       by v a true e (got f q) i = on a (Right.formula e (rule-sound (namesAt s places) v 0 i .0))
       by v a true e (refused n k) i = fault (Fault.formula (BadFormula.formula a e (rule-refused (namesAt s places) v 0 n k .0 i)))
-      by v a false e R i = fault (Fault.length-of (BadLength.length-of a e))
+      by v a false e R i = fault (Fault.size (BadLength.outside a e))
 
       go : {R : Read ℕ} → KeyedIs s p (bytes "rule=") 2 R → NextIs p (Next.rule w places (suc m) ws)
       go (KeyedIs.keyed v a) = by v a (between 1 256 (length v)) refl (reading.rule (namesAt s places) v 0) refl

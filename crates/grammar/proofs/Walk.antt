@@ -69,6 +69,14 @@ abbrev pub firstOf : List ℕ → ℕ
 firstOf [] = 0
 firstOf (b ∷ w) = b
 
+-- Texts that differ.
+pub other-text : (w x : List ℕ) → (w ≡ x → ⊥) → sameText w x ≡ false
+other-text w x n = go (sameText w x) refl
+  where
+    go : (c : Bool) → sameText w x ≡ c → sameText w x ≡ false
+    go true i = absurd (n (same-text w x .0 i))
+    go false i = i
+
 pub word-letter : {w : List ℕ} → Word w → letter (firstOf w) ≡ true
 word-letter (Word.word h k) = h
 
@@ -182,14 +190,7 @@ module _ (τ : Tests) (b r : ℕ) (j : Joins) (st : List Frame) where
 
   pub step-name : {w : List ℕ} → Name w → τ .named w ≡ true → step τ (want b r j st) w ≡ some (after b j st)
   unfolding step
-  step-name {w} n h = rw (word-letter (n .word), differs (bytes "since") (n .not-since), differs (bytes "until") (n .not-until), h)
-    where
-      differs : (t : List ℕ) → (w ≡ t → ⊥) → sameText w t ≡ false
-      differs t h = go (sameText w t) refl
-        where
-          go : (c : Bool) → sameText w t ≡ c → sameText w t ≡ false
-          go true i = absurd (h (same-text w t .0 i))
-          go false i = i
+  step-name {w} n h = rw (word-letter (n .word), other-text w (bytes "since") (n .not-since), other-text w (bytes "until") (n .not-until), h)
 
 module _ (τ : Tests) (b : ℕ) (j : Joins) (st : List Frame) where
   pub step-time : (t : Bool) → step τ (after b j st) (timeSign t) ≡ some (span Upto.start b j st)

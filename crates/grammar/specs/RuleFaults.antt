@@ -25,7 +25,8 @@ pub record Begins (d : ℕ) (us : List (List ℕ)) : Type 0 where
 
 -- What is wrong at the place κ, where the tokens us stand before it: the refusal's number and κ.
 pub data Wrong (names : List (List ℕ)) (s : List ℕ) (p : ℕ) : ℕ → ℕ → Type 0 where
-  -- 5: "formula does not fit": a formula begins with the tokens before, and none goes on with the token at κ, or ends there where the rule does
+  -- 5: "formula does not fit": a formula begins with the tokens before, and none goes on with the token at κ, or ends there where the rule does.
+  -- With 33, since the word since or until may stand where 32 are open
   token : {κ : ℕ} {us : List (List ℕ)} → Tokens s κ p us → Begins 33 us → ((w : List ℕ) (d : ℕ) → TokenAt s κ w → Begins d (us ++ (w ∷ [])) → ⊥)
       → (κ ≡ length s → (d : ℕ) (f : Written) → Is AnyName AnySpan formula d us f → ⊥) → Wrong names s p 5 κ
   -- 6: "name not declared", where a name may stand
@@ -33,7 +34,8 @@ pub data Wrong (names : List (List ℕ)) (s : List ℕ) (p : ℕ) : ℕ → ℕ 
   -- 7: "a whole interval has an end outside -63 to 63, or no whole number inside", where an interval may stand
   span : {κ q o v w c : ℕ} {us ws : List (List ℕ)} → Tokens s κ p us → Tokens s q κ ws → Interval ws o v w c → ((first more : ℕ) → Legal o v w c first more → ⊥) → Begins 32 (us ++ ws)
       → Wrong names s p 7 κ
-  -- 8: "a 33rd `(` or `!` is open": with 33 a formula goes on with it, and with 32 none
+  -- 8: "a 33rd `(` or `!` is open": with 33 a formula goes on with it, and with 32 none. "At one byte 5 comes before 8": where it goes on in no way
+  -- it is 5
   deep : {κ o : ℕ} {us : List (List ℕ)} → Tokens s κ p us → oneOf o (bytes "(!") ≡ true → TokenAt s κ (o ∷ []) → Begins 33 (us ++ ((o ∷ []) ∷ [])) → (Begins 32 (us ++ ((o ∷ []) ∷ [])) → ⊥)
       → Wrong names s p 8 κ
 

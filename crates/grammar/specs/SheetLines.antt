@@ -86,7 +86,7 @@ pub data BadName (s : List ℕ) (p : ℕ) : Next → Type 0 where
 
 -- "Rule length outside 1 to 256."
 pub data BadLength (s : List ℕ) (p : ℕ) : Next → Type 0 where
-  length-of : {w m : ℕ} {places v : List ℕ} {ws : List Written} → LineAt s p (bytes "rule=" ++ v) → between 1 256 (length v) ≡ false → BadLength s p (rule w places (suc m) ws)
+  outside : {w m : ℕ} {places v : List ℕ} {ws : List Written} → LineAt s p (bytes "rule=" ++ v) → between 1 256 (length v) ≡ false → BadLength s p (rule w places (suc m) ws)
 
 -- A rule's formula is at fault, with the refusal's number and place.
 pub data BadFormula (s : List ℕ) (p : ℕ) : Next → ℕ → ℕ → Type 0 where
@@ -99,7 +99,7 @@ pub data Fault (s : List ℕ) (p : ℕ) (c : Next) : ℕ → ℕ → Type 0 wher
   followed : Followed s p c → Fault s p c 2 p
   range : OutOfRange s p c → Fault s p c 3 (valueAt c p)
   name : BadName s p c → Fault s p c 4 (valueAt c p)
-  length-of : BadLength s p c → Fault s p c 5 (valueAt c p)
+  size : BadLength s p c → Fault s p c 5 (valueAt c p)
   formula : {n i : ℕ} → BadFormula s p c n i → Fault s p c n i
 
 -- The first line at fault: all lines before it are right, and of what comes next at its place Q holds.
