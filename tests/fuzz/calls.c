@@ -1,0 +1,286 @@
+/* One input of the fuzzer: a sheet, readings, a lent table and a question. It makes the calls and sees that each keeps what include/mikhakun.h
+ * promises: what it may answer, what it writes and what it leaves. The first breach is told in a line and ends the program.
+ *
+ * The input is the sheet's bytes, a zero byte, the readings' bytes, a zero byte, and then, each a byte: the signal asked for, the tick, by how many
+ * words the table is too long, and three for each mark of the table that is lent: where (two bytes) and its tick. What is missing counts as 0.
+ *
+ * The library is machine code that no sanitizer has prepared. So each text and table ends or begins where memory that nobody may touch begins
+ * or ends, and the calls run on a stack of 90 KB above such memory: a step too far in any of them is a crash. */
+#define _GNU_SOURCE
+#include <stdio.h>
+#include <stdlib.h>
+#include <string.h>
+#include <sys/mman.h>
+#include <ucontext.h>
+
+#include "../../include/mikhakun.h"
+
+enum { PAGE = 4096, LONGEST_INPUT = 1 << 17, MOST_WORDS = 2 * 1024 + 255, STACK = 90 * 1024 };
+static const uint64_t UNWRITTEN = 0x5EC02D5EC02D5EC0;
+
+/* What the fuzzer is told beside the blocks of code that were reached: which answers were given, and how large the results were. */
+enum { CHECK = 0, ADD = 20, ASK = 40, ROWS = 60, FRESH = 80, VALUE = 100, KINDS = 120 };
+static uint8_t told[KINDS] __attribute__((section("__libfuzzer_extra_counters")));
+
+/* How many inputs there were, and in how many of them the sheet was accepted, and the add. */
+uint64_t inputs, sheets, adds;
+
+static void must_hold(int holds, const char *what)
+{
+    if (holds) return;
+    fprintf(stderr, "breach: %s\n", what);
+    abort();
+}
+#define MUST(claim) must_hold((claim), #claim)
+
+/* Memory between two pages that nobody may touch. */
+typedef struct { uint8_t *start, *end; } Area;
+
+static Area area(size_t bytes)
+{
+    size_t inside = (bytes + PAGE - 1) / PAGE * PAGE;
+    uint8_t *all = mmap(NULL, inside + 2 * PAGE, PROT_NONE, MAP_PRIVATE | MAP_ANONYMOUS, -1, 0);
+    if (all == MAP_FAILED || mprotect(all + PAGE, inside, PROT_READ | PROT_WRITE) != 0) exit(2);
+    return (Area){ all + PAGE, all + PAGE + inside };
+}
+
+/* A copy that touches the page after the area, or with `low` the page before it. */
+static void *lend(Area area, const void *from, size_t bytes, int low)
+{
+    void *at = low ? area.start : area.end - bytes;
+    if (bytes != 0) memcpy(at, from, bytes);
+    return at;
+}
+
+static Area sheet_area, readings_area, table_area, stack_area;
+
+/* The input, taken apart. */
+typedef struct { const uint8_t *start; size_t len; } Text;
+static Text sheet, readings, rest;
+static int low;
+static const uint8_t *lent_sheet, *lent_readings;
+
+/* The bytes before the next zero byte, which are taken from `from`. */
+static Text part(Text *from)
+{
+    const uint8_t *zero = from->len == 0 ? NULL : memchr(from->start, 0, from->len);
+    Text before = { from->start, zero == NULL ? from->len : (size_t)(zero - from->start) };
+    size_t used = before.len + (zero != NULL);
+    *from = (Text){ from->start + used, from->len - used };
+    return before;
+}
+
+/* A number of the rest, up to 127; from 128 on a power of two. */
+static uint64_t number_at(size_t place)
+{
+    uint8_t byte = place < rest.len ? rest.start[place] : 0;
+    return byte < 128 ? byte : (uint64_t)1 << (byte & 63);
+}
+
+/* How many bits a number has: its size, for what the fuzzer is told. */
+static int bits(uint64_t number)
+{
+    int count = 0;
+    for (; number != 0 && count < 19; number /= 2) count++;
+    return count;
+}
+
+/* The table, and a copy of what it held before a call. */
+static uint64_t before[MOST_WORDS], *table;
+static size_t words;
+
+static int table_kept(void) { return memcmp(before, table, 8 * words) == 0; }
+
+/* Where a refusal may be placed: in the sheet, in the readings, or at 0. A missing line is at the text's end. */
+static int place_allowed(uint64_t number, uint64_t place)
+{
+    if (number == 2) return place <= sheet.len;
+    if (number >= 3 && number <= 8) return place < sheet.len;
+    if (number == 11) return place <= readings.len;
+    if (number >= 12 && number <= 14) return place < readings.len;
+    return place == 0;
+}
+
+/* A call's answer: the number, and the place of a refusal. */
+typedef struct { uint64_t number, place, value, clash; } Answer;
+
+/* What holds after every call: results are written exactly at acceptance, the place exactly at a refusal, and the texts stay. */
+static void must_be_whole(int call, Answer a, uint64_t last)
+{
+    MUST(a.number <= last);
+    told[call + a.number] = 1;
+    MUST((a.number == 0) == (a.value != UNWRITTEN));
+    MUST(a.number == 0 ? a.place == UNWRITTEN : place_allowed(a.number, a.place));
+    MUST(memcmp(lent_sheet, sheet.start, sheet.len) == 0);
+    MUST(memcmp(lent_readings, readings.start, readings.len) == 0);
+}
+
+static Answer check(void)
+{
+    Answer a = { 0, UNWRITTEN, UNWRITTEN, 0 };
+    a.number = mikhakun_check(lent_sheet, sheet.len, &a.value, &a.place);
+    must_be_whole(CHECK, a, 9);
+    return a;
+}
+
+static Answer add(const uint8_t *text, size_t len)
+{
+    Answer a = { 0, UNWRITTEN, UNWRITTEN, UNWRITTEN };
+    memcpy(before, table, 8 * words);
+    a.number = mikhakun_add(lent_sheet, sheet.len, text, len, table, words, &a.value, &a.clash, &a.place);
+    must_be_whole(ADD, a, 16);
+    MUST((a.number == 0) == (a.clash != UNWRITTEN));
+    MUST(a.number == 0 || table_kept());
+    return a;
+}
+
+static Answer ask(uint64_t signal, uint64_t tick)
+{
+    Answer a = { 0, UNWRITTEN, UNWRITTEN, 0 };
+    memcpy(before, table, 8 * words);
+    a.number = mikhakun_ask(lent_sheet, sheet.len, table, words, signal, tick, &a.value, &a.place);
+    must_be_whole(ASK, a, 17);
+    MUST(a.number < 10 || a.number > 14);
+    MUST(table_kept());
+    return a;
+}
+
+/* The lent table: so many words, with the marks that the rest names. */
+static void lend_table(size_t length)
+{
+    words = length;
+    memset(before, 0, 8 * words);
+    for (size_t at = 3; words != 0 && at + 2 < rest.len; at += 3)
+        before[(rest.start[at] + 256u * rest.start[at + 1]) % words] |= (uint64_t)1 << (rest.start[at + 2] & 63);
+    table = lend(table_area, before, 8 * words, low);
+}
+
+static int clashes(void)
+{
+    for (size_t at = 0; at + 1 < words; at += 2)
+        if (table[at] & table[at + 1]) return 1;
+    return 0;
+}
+
+static uint64_t marks(const uint64_t *from, size_t count)
+{
+    uint64_t sum = 0;
+    for (size_t at = 0; at < count; at++) sum += (uint64_t)__builtin_popcountll(from[at]);
+    return sum;
+}
+
+static int marked_outside(uint64_t window)
+{
+    uint64_t outside = window < 64 ? ~(uint64_t)0 << window : 0;
+    for (size_t at = 0; at < words; at++)
+        if (table[at] & outside) return 1;
+    return 0;
+}
+
+/* A refused sheet, or a table of a wrong length: add and ask give that refusal. */
+static void must_be_refused(uint64_t number, uint64_t place)
+{
+    Answer added = add(lent_readings, readings.len), asked = ask(number_at(0), number_at(1));
+    MUST(added.number == number && added.place == place);
+    MUST(asked.number == number && asked.place == place);
+}
+
+/* Ask tells what the table's words say. */
+static void must_be_told(uint64_t signals, uint64_t window)
+{
+    uint64_t signal = number_at(0), tick = number_at(1);
+    Answer a = ask(signal, tick);
+    if (signal >= signals || tick >= window) {
+        MUST(a.number == 17);
+        return;
+    }
+    int holds = table[2 * signal] >> tick & 1, fails = table[2 * signal + 1] >> tick & 1;
+    MUST(a.number == 0);
+    MUST(a.value == (uint64_t)(clashes() ? MIKHAKUN_CONTRADICTION : holds ? MIKHAKUN_TRUE : fails ? MIKHAKUN_FALSE : MIKHAKUN_UNSETTLED));
+    told[VALUE + a.value] = 1;
+}
+
+/* Closed with the same readings, or with none, a closed table stays. */
+static void must_stay(const uint8_t *text, size_t len, uint64_t clash)
+{
+    Answer a = add(text, len);
+    MUST(a.number == 0 && a.value == 0 && a.clash == clash);
+    MUST(table_kept());
+}
+
+/* An accepted add: nothing is taken away or put outside the window, and the answers are those that the words give. */
+static void must_be_closed(Answer added, uint64_t signals, uint64_t window)
+{
+    for (size_t at = 0; at < words; at++) MUST((before[at] & ~table[at]) == 0);
+    MUST(!marked_outside(window));
+    MUST(added.value == marks(table, 2 * signals) - marks(before, 2 * signals));
+    MUST(added.clash == (uint64_t)clashes());
+    told[FRESH + bits(added.value)] = 1;
+    must_stay(lent_readings, readings.len, added.clash);
+    must_stay(lend(readings_area, NULL, 0, low), 0, added.clash);
+}
+
+static void accepted_sheet(uint64_t rows)
+{
+    sheets++;
+    MUST(rows >= 1 && rows <= 1024);
+    told[ROWS + bits(rows)] = 1;
+    char *next;
+    uint64_t window = strtoul((const char *)sheet.start + strlen("window="), &next, 10);
+    uint64_t signals = strtoul(next + strlen("\nsignals="), NULL, 10);
+    uint64_t too_long = rest.len > 2 ? rest.start[2] : 0;
+    if (too_long != 0) {
+        lend_table(2 * rows + too_long);
+        must_be_refused(15, 0);
+    }
+    lend_table(2 * rows);
+    if (marked_outside(window)) {
+        must_be_refused(16, 0);
+        return;
+    }
+    must_be_told(signals, window);
+    Answer added = add(lent_readings, readings.len);
+    MUST(added.number == 0 || added.number >= 10);
+    MUST(added.number != 15 && added.number != 16);
+    if (added.number == 0) must_be_closed(added, signals, window);
+    adds += added.number == 0;
+    must_be_told(signals, window);
+}
+
+static ucontext_t outside, inside;
+
+static void calls(void)
+{
+    Answer checked = check();
+    if (checked.number == 0) {
+        accepted_sheet(checked.value);
+    } else {
+        lend_table(number_at(2) % MOST_WORDS);
+        must_be_refused(checked.number, checked.place);
+    }
+}
+
+int LLVMFuzzerTestOneInput(const uint8_t *data, size_t size)
+{
+    if (size > LONGEST_INPUT) return 0;
+    if (stack_area.start == NULL) {
+        sheet_area = area(LONGEST_INPUT);
+        readings_area = area(LONGEST_INPUT);
+        table_area = area(8 * MOST_WORDS);
+        stack_area = area(STACK);
+    }
+    inputs++;
+    rest = (Text){ data, size };
+    sheet = part(&rest);
+    readings = part(&rest);
+    low = size % 2;
+    lent_sheet = lend(sheet_area, sheet.start, sheet.len, low);
+    lent_readings = lend(readings_area, readings.start, readings.len, low);
+    getcontext(&inside);
+    inside.uc_stack.ss_sp = stack_area.start;
+    inside.uc_stack.ss_size = STACK;
+    inside.uc_link = &outside;
+    makecontext(&inside, calls, 0);
+    swapcontext(&outside, &inside);
+    return 0;
+}
