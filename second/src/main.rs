@@ -1,6 +1,7 @@
-//! The second program: `second compare [COUNT] [SEED]` and `second settle FOLDER`.
+//! The second program: `second compare [COUNT] [SEED]`, `second settle FOLDER` and `second export COUNT SEED FOLDER..`.
 
 mod compare;
+mod export;
 mod generate;
 mod infer;
 mod library;
@@ -14,7 +15,8 @@ mod text;
 use std::path::Path;
 use std::process::ExitCode;
 
-const USAGE: &str = "usage: second compare [COUNT] [SEED] | second settle FOLDER";
+const USAGE: &str =
+    "usage: second compare [COUNT] [SEED] | second settle FOLDER | second export COUNT SEED FOLDER..";
 
 fn main() -> ExitCode {
     let words: Vec<String> = std::env::args().skip(1).collect();
@@ -22,8 +24,11 @@ fn main() -> ExitCode {
     match words[..] {
         ["settle", folder] => settle(Path::new(folder)),
         ["compare"] => compare::run(20_000, 1),
-        ["compare", count] => with_numbers(count, "1"),
-        ["compare", count, seed] => with_numbers(count, seed),
+        ["compare", count] => with_numbers(count, "1", compare::run),
+        ["compare", count, seed] => with_numbers(count, seed, compare::run),
+        ["export", count, seed, ref folders @ ..] => {
+            with_numbers(count, seed, |count, seed| export::run(count, seed, folders))
+        }
         _ => usage(),
     }
 }
@@ -33,9 +38,9 @@ fn usage() -> ExitCode {
     ExitCode::from(2)
 }
 
-fn with_numbers(count: &str, seed: &str) -> ExitCode {
+fn with_numbers(count: &str, seed: &str, run: impl Fn(u64, u64) -> ExitCode) -> ExitCode {
     match (count.parse(), seed.parse()) {
-        (Ok(count), Ok(seed)) => compare::run(count, seed),
+        (Ok(count), Ok(seed)) => run(count, seed),
         _ => usage(),
     }
 }

@@ -1,0 +1,61 @@
+//! The library's tables, for other programs to judge: one line of JSON for each accepted add, of folders and of generated cases.
+
+use crate::generate::{case, Call, Case};
+use crate::library;
+use std::path::Path;
+use std::process::ExitCode;
+
+/// The folders' cases, then the first `count` generated ones that the library accepts.
+pub fn run(count: u64, seed: u64, folders: &[&str]) -> ExitCode {
+    if !library::LINKED {
+        eprintln!("second: built without the library, so there is nothing to export");
+        return ExitCode::from(2);
+    }
+    for name in folders {
+        if let Some(line) = line(name, &of_folder(Path::new(name))) {
+            println!("{line}");
+        }
+    }
+    let generated = (0..).filter_map(|number| line(&format!("case {number} of seed {seed}"), &case(seed, number)));
+    for line in generated.take(count as usize) {
+        println!("{line}");
+    }
+    ExitCode::SUCCESS
+}
+
+/// The sheet and readings of a folder, added to an empty table.
+fn of_folder(folder: &Path) -> Case {
+    let file = |name: &str| std::fs::read(folder.join(name)).unwrap_or_default();
+    let sheet = file("sheet.txt");
+    let checked = library::check(&sheet);
+    let rows = if checked.answer == 0 { checked.outputs[0] } else { 0 };
+    let readings = file("readings.txt");
+    Case {
+        sheet,
+        table: vec![0; 2 * rows as usize],
+        calls: vec![Call::Add { readings }],
+    }
+}
+
+/// The first add of the case, if the library accepts it: the texts, the table before and after, and the clash.
+fn line(name: &str, case: &Case) -> Option<String> {
+    let readings = case.calls.iter().find_map(|call| match call {
+        Call::Add { readings } => Some(readings),
+        _ => None,
+    })?;
+    let mut table = case.table.clone();
+    let added = library::add(&case.sheet, readings, &mut table);
+    if added.answer != 0 {
+        return None;
+    }
+    let (sheet, readings, clash) = (quoted(&case.sheet), quoted(readings), added.outputs[1]);
+    let (held, table) = (&case.table, &table);
+    Some(format!(
+        r#"{{"name":"{name}","sheet":{sheet},"readings":{readings},"held":{held:?},"table":{table:?},"clash":{clash}}}"#
+    ))
+}
+
+/// An accepted text as a JSON string: of the bytes that JSON escapes it has LF alone.
+fn quoted(text: &[u8]) -> String {
+    format!("\"{}\"", String::from_utf8_lossy(text).replace('\n', "\\n"))
+}
