@@ -1,11 +1,12 @@
-"""Puts tables of the proved library before two judges that others wrote. Reads cases from standard input, one a line, as `second export` prints them.
+"""Puts tables of the proved library before two judges that others wrote. Reads cases from standard input, one a line, as `second export` prints.
 
-clingo computes the least set of marks under rules.lp, and the table must have exactly these marks. CaDiCaL (a SAT solver) looks for a history that obeys
-the sheet, agrees with what was read, and has another value than the table somewhere: there must be none; and none at all where the library told a clash.
+clingo computes the least set of marks under rules.lp, and the table must have exactly these marks. CaDiCaL (a SAT solver) looks for a history
+that obeys the sheet, agrees with what was read, and has another value than the table somewhere: there must be none; and none at all where the
+library told a clash.
 
 A history is made from the formulas and not from the rows. It gives each signal, the hidden ones too, a value at every whole-number tick; those
-before and after the window are as free as any other, so nothing is assumed at the window's edges. Each rule, the defining ones too, is true at each tick
-of the window and is not asked for outside it.
+before and after the window are as free as any other, so nothing is assumed at the window's edges. Each rule, the defining ones too, is true at
+each tick of the window and is not asked for outside it.
 """
 import json
 import pathlib

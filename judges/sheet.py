@@ -1,7 +1,8 @@
 """A sheet's text as formulas, and the formulas as rows (the user's document, "The sheet", "Meaning" and "Lowering").
 
-For sheets and readings that were accepted: nothing is refused here. A formula is a tuple: ("signal", number), ("not", f), ("and", f, g), ("or", f, g),
-("implies", f, g), ("iff", f, g), ("always", f, low, high), ("sometime", f, low, high). Hidden signals are numbered after the declared ones.
+For sheets and readings that were accepted: nothing is refused here. A formula is a tuple: ("signal", number), ("not", f), ("and", f, g),
+("or", f, g), ("implies", f, g), ("iff", f, g), ("always", f, low, high), ("sometime", f, low, high). Hidden signals are numbered after the
+declared ones.
 """
 import re
 

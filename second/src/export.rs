@@ -16,7 +16,12 @@ pub fn run(count: u64, seed: u64, folders: &[&str]) -> ExitCode {
             println!("{line}");
         }
     }
-    let generated = (0..).filter_map(|number| line(&format!("case {number} of seed {seed}"), &case(seed, number)));
+    let generated = (0..).filter_map(|number| {
+        line(
+            &format!("case {number} of seed {seed}"),
+            &case(seed, number),
+        )
+    });
     for line in generated.take(count as usize) {
         println!("{line}");
     }
@@ -28,7 +33,11 @@ fn of_folder(folder: &Path) -> Case {
     let file = |name: &str| std::fs::read(folder.join(name)).unwrap_or_default();
     let sheet = file("sheet.txt");
     let checked = library::check(&sheet);
-    let rows = if checked.answer == 0 { checked.outputs[0] } else { 0 };
+    let rows = if checked.answer == 0 {
+        checked.outputs[0]
+    } else {
+        0
+    };
     let readings = file("readings.txt");
     Case {
         sheet,
