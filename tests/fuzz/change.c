@@ -40,12 +40,13 @@ static unsigned lines_with(const char *text, size_t end, const char *key)
 static size_t with_right_numbers(const char *text, size_t size)
 {
     size_t end = sheet_end(text, size), length = 0, next;
+    unsigned signals = lines_with(text, end, "signal="), rules = lines_with(text, end, "rule=");
     for (size_t from = 0; from < end; from = next) {
         next = line_end(text, from, end);
         if (starts(text, from, end, "signals=")) {
-            length += (size_t)sprintf(changed + length, "signals=%u\n", lines_with(text, end, "signal="));
+            length += (size_t)sprintf(changed + length, "signals=%u\n", signals);
         } else if (starts(text, from, end, "rules=")) {
-            length += (size_t)sprintf(changed + length, "rules=%u\n", lines_with(text, end, "rule="));
+            length += (size_t)sprintf(changed + length, "rules=%u\n", rules);
         } else {
             memcpy(changed + length, text + from, next - from);
             length += next - from;
