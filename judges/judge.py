@@ -25,15 +25,17 @@ class Case:
     """A sheet, what was read, the table lent and the table that the library made of it; marks are triples of row, tick and value."""
 
     def __init__(self, line):
-        self.__dict__ = json.loads(line)
-        self.parsed = Sheet(self.sheet)
-        self.held = marks_of(self.held)
-        self.given = self.held | set(self.parsed.readings(self.readings))
-        self.marks = marks_of(self.table)
+        case = json.loads(line)
+        self.text = f"{case['name']}\n--- sheet.txt\n{case['sheet']}--- readings.txt\n{case['readings']}---\n"
+        self.sheet = Sheet(case["sheet"])
+        self.held = marks_of(case["held"])
+        self.given = self.held | set(self.sheet.readings(case["readings"]))
+        self.marks = marks_of(case["table"])
+        self.clash = case["clash"]
 
-    def text(self):
-        held = "".join(f"the lent table has row {row}, tick {tick}, {value}\n" for row, tick, value in sorted(self.held))
-        return f"{self.name}\n--- sheet.txt\n{self.sheet}--- readings.txt\n{self.readings}---\n{held}"
+    def shown(self):
+        """The texts, to be pasted into files, and what the lent table held."""
+        return self.text + "".join(f"the lent table has row {row}, tick {tick}, {value}\n" for row, tick, value in sorted(self.held))
 
 
 def marks_of(words):
@@ -53,8 +55,8 @@ def run(command, text, statuses):
 
 def facts(case):
     """The rows, tops and given marks, as rules.lp wants them."""
-    rows = Rows(case.parsed)
-    yield f"window({case.parsed.window})."
+    rows = Rows(case.sheet)
+    yield f"window({case.sheet.window})."
     for number, (kind, *parts) in enumerate(rows.rows):
         if parts:
             yield f"{kind}({number},{','.join(map(str, parts))})."
@@ -86,8 +88,8 @@ class Histories:
         self.clauses = []
         self.cells = {}
         self.literals = {}
-        for rule in case.parsed.rules:
-            for tick in range(case.parsed.window):
+        for rule in case.sheet.rules:
+            for tick in range(case.sheet.window):
                 self.clauses.append([self.literal(rule, tick)])
         for signal, tick, value in case.given:
             self.clauses.append([self.cell(signal, tick, value)])
@@ -148,7 +150,7 @@ class Histories:
 
 def other_history(case, counts):
     """Objections to the table, by a history in which it is wrong. Marks lent on rows of nodes are no part of a history: such a case is left out."""
-    if any(row >= case.parsed.signals for row, _, _ in case.held):
+    if any(row >= case.sheet.signals for row, _, _ in case.held):
         counts["cases left to clingo alone"] += 1
         return
     histories = Histories(case)
@@ -160,7 +162,7 @@ def other_history(case, counts):
         return
     counts["cases without a clash"] += 1
     counts["of them with a history"] += exists
-    settled = [mark for mark in case.marks if mark[0] < case.parsed.signals]
+    settled = [mark for mark in case.marks if mark[0] < case.sheet.signals]
     counts["settled cells"] += len(settled)
     others = {-histories.cell(*mark): mark for mark in settled}
     history = histories.one(list(others)) or set()
@@ -176,7 +178,7 @@ def objections(case, counts):
 
 
 def must_object(case):
-    """Each judge is shown wrong answers first: a mark taken away, a mark put in, a clash told."""
+    """Each judge is shown wrong answers first: a mark taken away, a mark put in where a signal is unsettled, a clash told."""
     right, free = case.marks, {(0, 0, True)}
     assert right and not case.clash and not free & right
     for judge, wrong, clash in [("clingo", right - {min(right)}, 0), ("clingo", right | free, 0), ("clingo", right, 1),
@@ -198,7 +200,7 @@ def main():
         said = objections(case, counts)
         if said:
             failed += 1
-            print(case.text() + "\n".join(said), flush=True)
+            print(case.shown() + "\n".join(said), flush=True)
     for what, count in counts.items():
         print(f"{what}: {count}")
     print(f"{counts['cases'] - failed} passed, {failed} failed")
