@@ -17,7 +17,7 @@ use Rattle.tilco.proofs.Derives.{cut, stays-inside}
 use Rattle.marking.specs.Codes.{Codes, Coded}
 use Rattle.marking.specs.Gains.{room}
 use Rattle.closing.specs.Closes.{ClosesAll}
-use Rattle.closing.specs.Items.{ToDo, Done, Full}
+use Rattle.work_list.specs.Items.{ToDo, Done, Full}
 use Rattle.closing.specs.Rounds.{Works, AnyItem}
 use Rattle.marking.proofs.Decoding.{words-cover}
 use Rattle.closing.proofs.Local.{settled-all}

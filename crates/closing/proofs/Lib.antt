@@ -1,10 +1,5 @@
 -- The laws, one idea a file, in the order in which they build on each other.
 pub mod Local
-pub mod Linking
-pub mod ByKind
-pub mod Noting
-pub mod Visiting
-pub mod Filling
 pub mod Taking
 pub mod Working
 pub mod Finishing

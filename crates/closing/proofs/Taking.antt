@@ -18,8 +18,8 @@ use Rattle.tilco.specs.Inference.{signal, Program, node, start}
 use Rattle.tilco.specs.Table.{Stands, Inside}
 use Rattle.marking.specs.Codes.{Codes, Coded}
 use Rattle.marking.specs.Settled.{SettledIn}
-use Rattle.closing.specs.Items.{per, ToDo, Done}
-use Rattle.closing.specs.Visits.{Visited, Visits}
+use Rattle.work_list.specs.Items.{per, ToDo, Done}
+use Rattle.visiting.specs.Visits.{Visited, Visits}
 use Rattle.closing.specs.Rounds.{Worked, Taken, NoItem}
 use Rattle.closing.proofs.Local.{settled-local}
 

@@ -16,7 +16,7 @@ use Rattle.tilco.specs.Table.{Stands, Inside}
 use Rattle.tilco.proofs.Derives.{cut, stays-inside}
 use Rattle.marking.specs.Codes.{Codes, Coded}
 use Rattle.marking.specs.Gains.{room}
-use Rattle.closing.specs.Items.{per}
+use Rattle.work_list.specs.Items.{per}
 use Rattle.closing.specs.Rounds.{Worked, Works, Taken, NoItem, InWord, InColumn}
 
 some-or-none : (k : ℕ) → (0 < k) ⊎ (k ≡ 0)

@@ -8,7 +8,7 @@ use Rattle.tilco.specs.Inference.{Program, Mark, Derives}
 use Rattle.tilco.specs.Table.{Stands}
 use Rattle.marking.specs.Codes.{Codes}
 use Rattle.marking.specs.Gains.{room}
-use Rattle.closing.specs.Items.{ToDo, Done}
+use Rattle.work_list.specs.Items.{ToDo, Done}
 
 -- What a stretch of visits does. Nothing is lost and what is new follows; items off the list stay settled; and if nothing changed the
 -- table is the same, no item was added, and none of the items Z is left.

@@ -1,8 +1,8 @@
 // Closes a table: items of the list are visited, word of ticks by word of ticks, until a round over all of them changes nothing.
 // Assumes that the words are a program's rows, that the table has them, and that no mark is outside the window.
-use crate::items::fill;
-use crate::links::link_rows;
-use crate::visits::visit;
+use visiting::visit;
+use work_list::items::fill;
+use work_list::links::link_rows;
 ghost use mathlib.Core.Path.{_≡_};
 ghost use Prim.Native.Nat.{_+_, _-_, _*_, _/_, _^_, _<_, _≤_};
 ghost use lib.ListN.{length, getD, set};
@@ -11,10 +11,10 @@ ghost use Rattle.tilco.specs.Table.{Stands, Inside};
 ghost use Rattle.marking.specs.Codes.{Coded};
 ghost use Rattle.marking.specs.Moves.{Sized};
 ghost use Rattle.closing.specs.Closes.{ClosesAll};
-ghost use Rattle.closing.specs.Items.{per, Roomy, Full};
-ghost use Rattle.closing.specs.Visits.{Visits};
+ghost use Rattle.work_list.specs.Items.{per, Roomy, Full};
+ghost use Rattle.visiting.specs.Visits.{Visits};
 ghost use Rattle.closing.specs.Rounds.{Works, Taken, InWord, InColumn, AnyItem};
-ghost use Rattle.closing.specs.Links.{Linked};
+ghost use Rattle.work_list.specs.Links.{Linked};
 
 // Clears bit k, which is set, of word j of the list.
 fn clear_bit(todo: &mut [u64], j: usize, k: u64)

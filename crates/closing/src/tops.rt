@@ -1,8 +1,8 @@
 // The tops marked, and the table closed after them. Assumes of the table what closing it assumes, and that each top is a row.
-use crate::links::index;
 use crate::rounds::close;
 use marking::words::add_word;
 use marking::words::window_word;
+use work_list::links::index;
 ghost use mathlib.Core.Path.{_≡_};
 ghost use Prim.Native.Nat.{ℕ, _<_, _≤_};
 ghost use lib.ListN.{length, getD};
@@ -12,7 +12,7 @@ ghost use Rattle.table.specs.Puts.{Gains};
 ghost use Rattle.marking.specs.Gains.{HasRow};
 ghost use Rattle.marking.specs.Moves.{Sized};
 ghost use Rattle.closing.specs.Closes.{RowTrue, TopMarks, SettlesAll};
-ghost use Rattle.closing.specs.Items.{Roomy};
+ghost use Rattle.work_list.specs.Items.{Roomy};
 
 // Marks a row true at every tick of the window.
 fn mark_true(marks: &mut [u64], n: usize, row: usize, window: usize)

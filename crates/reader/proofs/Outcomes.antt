@@ -26,7 +26,7 @@ use Rattle.rows.specs.Words.{packed, word, Blank}
 use Rattle.marking.specs.Codes.{Coded}
 use Rattle.marking.specs.Moves.{Sized}
 use Rattle.closing.specs.Closes.{SettlesAll}
-use Rattle.closing.specs.Items.{Roomy}
+use Rattle.work_list.specs.Items.{Roomy}
 use Rattle.closing.proofs.Outcomes.{settles-added}
 use Rattle.reader.specs.Results.{accepted, refused, gain}
 use Rattle.reader.specs.Opening.{sheetIn, Opens}

@@ -1,7 +1,7 @@
 -- `take_item` meets its contract. Assumes nothing.
 use borrow.Author.Needs.{needs}
 use native.Mathlib.Omega.{arith}
-use Rattle.closing.proofs.Noting.{column-in}
+use Rattle.work_list.proofs.Noting.{column-in}
 use Rattle.closing.proofs.Taking.{kept-bit, taken}
 use Rattle.closing.proofs.rounds.take_item.Statement.{statement}
 use Rattle.closing.proofs.rounds.take_item.Tie as tie

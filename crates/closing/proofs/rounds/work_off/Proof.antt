@@ -7,7 +7,7 @@ use Rattle.ticks.specs.Ticks.{Small}
 use Rattle.marking.specs.Gains.{room}
 use Rattle.marking.proofs.Decoding.{sized-as}
 use Rattle.closing.proofs.Finishing.{Toward, toward-start, toward-inside, toward-more, toward-less, toward-end}
-use Rattle.closing.proofs.Noting.{roomy-as}
+use Rattle.work_list.proofs.Noting.{roomy-as}
 use Rattle.closing.proofs.rounds.work_off.Statement.{statement}
 use Rattle.closing.proofs.rounds.work_off.Tie as tie
 

@@ -4,10 +4,10 @@ use Prim.Native.Nat.{_+_, _*_, _^_, _<_}
 use lib.ListN.{getD}
 use Rattle.marking.specs.Gains.{room}
 use Rattle.marking.proofs.Decoding.{sized-as}
-use Rattle.closing.specs.Items.{per}
+use Rattle.work_list.specs.Items.{per}
 use Rattle.closing.specs.Rounds.{Works, NoItem}
 use Rattle.closing.proofs.Working.{works-none, works-item, works-inside, works-word, taken-less}
-use Rattle.closing.proofs.Noting.{column-in, roomy-as}
+use Rattle.work_list.proofs.Noting.{column-in, roomy-as}
 use Rattle.closing.proofs.rounds.work_word.Statement.{statement}
 use Rattle.closing.proofs.rounds.work_word.Tie as tie
 

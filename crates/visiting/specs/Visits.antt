@@ -1,0 +1,38 @@
+-- What a visit to an item of work does, also told by the row's node, and how the list is kept. Assumes nothing.
+-- n is how many words a row has for each value, B the rows' words, T the table and D the list before, T′ and D′ after.
+use mathlib.Core.Path.{_≡_}
+use mathlib.Core.Bool.{Bool}
+use mathlib.Core.List.{List}
+use Prim.Native.Nat.{ℕ, _/_, _<_}
+use lib.ListN.{length}
+use Rattle.tilco.specs.Inference.{Node, Program, node, Mark, mark, Marks, Derives}
+use Rattle.tilco.specs.Table.{Stands, Inside}
+use Rattle.marking.specs.Codes.{Codes}
+use Rattle.marking.specs.Gains.{room}
+use Rattle.marking.specs.Settled.{SettledIn}
+use Rattle.work_list.specs.Items.{ToDo, Noted, Heeds}
+
+-- A visit to item (r, q): nothing is lost and what is new follows, the row is settled there, and the list heeds what changed.
+pub record Visited (count : ℕ) (B : List ℕ) (n : ℕ) (P : Program) (W r q : ℕ) (T T′ D D′ : List ℕ) (changed : ℕ) : Type 0 where
+  pub size : length T′ ≡ length T
+  pub grows : (m : Mark) → Stands n T m → Stands n T′ m
+  pub sound : (m : Mark) → Stands n T′ m → Derives P W (Stands n T) m
+  pub still : changed ≡ 0 → (T′ ≡ T) × (D′ ≡ D)
+  pub moved : 0 < changed → room T′ < room T
+  pub settled : SettledIn q W (Stands n T′) r (node P r)
+  pub heeds : Heeds count B n T T′ D D′
+
+-- The same for every program with these rows.
+abbrev pub Visits : ℕ → List ℕ → ℕ → ℕ → ℕ → ℕ → List ℕ → List ℕ → List ℕ → List ℕ → ℕ → Type 0
+Visits count B r q W n T T′ D D′ changed = (P : Program) → Codes P count B → Inside W (Stands n T) → Visited count B n P W r q T T′ D D′ changed
+
+-- Nothing is taken off the list, and every item that rests on the word of a mark among A is on it; if nothing changed it is the same.
+pub record Notes (count : ℕ) (B : List ℕ) (n : ℕ) (A : Marks) (D D′ : List ℕ) (changed : ℕ) : Type 0 where
+  pub size : length D′ ≡ length D
+  pub kept : (r q : ℕ) → r < count → q < n → ToDo count D r q → ToDo count D′ r q
+  pub noted : (x t : ℕ) (v : Bool) → A (mark x t v) → Noted count B n D′ x (t / 64)
+  pub still : changed ≡ 0 → D′ ≡ D
+
+-- A visit to item (r, q) in every program in which row r is the node d.
+abbrev pub VisitsBy : Node → ℕ → List ℕ → ℕ → ℕ → ℕ → ℕ → List ℕ → List ℕ → List ℕ → List ℕ → ℕ → Type 0
+VisitsBy d count B r q W n T T′ D D′ changed = (P : Program) → node P r ≡ d → Inside W (Stands n T) → Visited count B n P W r q T T′ D D′ changed

@@ -1,0 +1,186 @@
+// A visit to an item of work: the rules of a row at a word of ticks, and every item that rests on a word that they changed put on the list.
+// Assumes that the words are a program's rows, that the lists of parents are theirs, and that the table and the list of work have them.
+use marking::steps::gate_step;
+use marking::steps::look_step;
+use marking::steps::not_step;
+use work_list::items::touch;
+ghost use mathlib.Core.Path.{_≡_};
+ghost use Prim.Native.Nat.{ℕ, _+_, _<_, _≤_};
+ghost use Rattle.tilco.specs.Inference.{notOf, gate, look};
+ghost use Rattle.tilco.specs.Table.{words};
+ghost use Rattle.marking.specs.Codes.{Coded};
+ghost use Rattle.marking.specs.Gains.{HasRow};
+ghost use Rattle.marking.specs.Moves.{WroteBefore, Sized};
+ghost use Rattle.work_list.specs.Links.{Linked};
+ghost use Rattle.work_list.specs.Items.{Roomy};
+ghost use Rattle.visiting.specs.Visits.{Visits, Notes, VisitsBy};
+
+// Row x's word e - back, if it is told that it changed: every item that rests on it is put on the list.
+fn note(
+    rows: &[u64],
+    count: usize,
+    n: usize,
+    e: usize,
+    back: usize,
+    x: usize,
+    told: u64,
+    heads: &[u16],
+    nexts: &[u16],
+    todo: &mut [u64],
+)
+    requires { ⌜ Coded count (now rows) ⌝ }
+    requires { ⌜ (x < count) × (0 < told → (back ≤ e) × (e < n + back)) ⌝ }
+    requires { ⌜ Linked count (now rows) (now heads) (now nexts) ⌝ }
+    requires { ⌜ Roomy count n (now todo) ⌝ }
+    ensures { λ _. ⌜ Notes count (now (rows .entry)) n (WroteBefore x back e told) (now (todo .entry)) (now (todo .exit)) told ⌝ }
+{
+    if told == 0 {
+        return;
+    }
+    touch(rows, count, n, e - back, x, heads, nexts, todo);
+}
+
+// A visit to a row that is an And (u is true) or an Or of the rows a and b.
+fn visit_gate(
+    rows: &[u64],
+    count: usize,
+    row: usize,
+    q: usize,
+    n: usize,
+    a: usize,
+    b: usize,
+    u: bool,
+    heads: &[u16],
+    nexts: &[u16],
+    todo: &mut [u64],
+    marks: &mut [u64],
+) -> u64
+    requires { ⌜ Coded count (now rows) ⌝ }
+    requires { ⌜ row < count ⌝ }
+    requires { ⌜ (q < n) × HasRow n (now marks) row × HasRow n (now marks) a × HasRow n (now marks) b × (a < row) × (b < row) ⌝ }
+    requires { ⌜ Linked count (now rows) (now heads) (now nexts) ⌝ }
+    requires { ⌜ Roomy count n (now todo) ⌝ }
+    ensures { λ changed. ⌜ ((W : ℕ) → VisitsBy (gate u a b) count (now (rows .entry)) row q W n (now (marks .entry)) (now (marks .exit)) (now (todo .entry)) (now (todo .exit)) changed) ⌝ }
+{
+    let c = gate_step(marks, n, q, row, a, b, u);
+    note(rows, count, n, q, 0, row, c.row, heads, nexts, todo);
+    note(rows, count, n, q, 0, a, c.left, heads, nexts, todo);
+    note(rows, count, n, q, 0, b, c.right, heads, nexts, todo);
+    c.row + c.left + c.right
+}
+
+// A visit to a row that is the opposite of the row x.
+fn visit_not(
+    rows: &[u64],
+    count: usize,
+    row: usize,
+    q: usize,
+    n: usize,
+    x: usize,
+    heads: &[u16],
+    nexts: &[u16],
+    todo: &mut [u64],
+    marks: &mut [u64],
+) -> u64
+    requires { ⌜ Coded count (now rows) ⌝ }
+    requires { ⌜ row < count ⌝ }
+    requires { ⌜ (q < n) × HasRow n (now marks) row × HasRow n (now marks) x × (x < row) ⌝ }
+    requires { ⌜ Linked count (now rows) (now heads) (now nexts) ⌝ }
+    requires { ⌜ Roomy count n (now todo) ⌝ }
+    ensures { λ changed. ⌜ ((W : ℕ) → VisitsBy (notOf x) count (now (rows .entry)) row q W n (now (marks .entry)) (now (marks .exit)) (now (todo .entry)) (now (todo .exit)) changed) ⌝ }
+{
+    let c = not_step(marks, n, q, row, x);
+    note(rows, count, n, q, 0, row, c.row, heads, nexts, todo);
+    note(rows, count, n, q, 0, x, c.left, heads, nexts, todo);
+    c.row + c.left
+}
+
+// A visit to a row that looks at the row c, for the ticks of the child's word q.
+fn visit_look(
+    rows: &[u64],
+    count: usize,
+    row: usize,
+    q: usize,
+    n: usize,
+    window: usize,
+    c: usize,
+    offset: u64,
+    heads: &[u16],
+    nexts: &[u16],
+    todo: &mut [u64],
+    marks: &mut [u64],
+) -> u64
+    requires { ⌜ Coded count (now rows) ⌝ }
+    requires { ⌜ row < count ⌝ }
+    requires { ⌜ (q < n) × HasRow n (now marks) row × HasRow n (now marks) c × (c < row) × (offset ≤ 127) × (n ≡ words window) ⌝ }
+    requires { ⌜ Linked count (now rows) (now heads) (now nexts) ⌝ }
+    requires { ⌜ Roomy count n (now todo) ⌝ }
+    ensures { λ changed. ⌜ VisitsBy (look offset c) count (now (rows .entry)) row q window n (now (marks .entry)) (now (marks .exit)) (now (todo .entry)) (now (todo .exit)) changed ⌝ }
+{
+    let back = (offset / 64) as usize;
+    let next = q + 1;
+    let x = look_step(marks, n, q, row, c, offset, window);
+    note(rows, count, n, q, 0, c, x.child, heads, nexts, todo);
+    note(rows, count, n, q, back, row, x.before, heads, nexts, todo);
+    note(rows, count, n, next, back, row, x.after, heads, nexts, todo);
+    x.child + x.before + x.after
+}
+
+// A visit to item (row, q): the rules of the row, by its word, at word q. A signal's row has none.
+pub fn visit(
+    rows: &[u64],
+    count: usize,
+    row: usize,
+    q: usize,
+    n: usize,
+    window: usize,
+    heads: &[u16],
+    nexts: &[u16],
+    todo: &mut [u64],
+    marks: &mut [u64],
+) -> u64
+    requires { ⌜ Coded count (now rows) ⌝ }
+    requires { ⌜ (row < count) × (q < n) ⌝ }
+    requires { ⌜ Linked count (now rows) (now heads) (now nexts) ⌝ }
+    requires { ⌜ Roomy count n (now todo) ⌝ }
+    requires { ⌜ Sized n count window (now marks) ⌝ }
+    ensures { λ changed. ⌜ Visits count (now (rows .entry)) row q window n (now (marks .entry)) (now (marks .exit)) (now (todo .entry)) (now (todo .exit)) changed ⌝ }
+{
+    let w = rows[row];
+    let kind = w % 8;
+    let a = (w / 8 % 65536) as usize;
+    let offset = w / 524288;
+    let b = offset as usize;
+    match kind {
+        0 => 0,
+        1 | 2 => visit_gate(
+            rows,
+            count,
+            row,
+            q,
+            n,
+            a,
+            b,
+            kind == 1,
+            heads,
+            nexts,
+            todo,
+            marks,
+        ),
+        3 => visit_look(
+            rows,
+            count,
+            row,
+            q,
+            n,
+            window,
+            a,
+            offset,
+            heads,
+            nexts,
+            todo,
+            marks,
+        ),
+        _ => visit_not(rows, count, row, q, n, a, heads, nexts, todo, marks),
+    }
+}
