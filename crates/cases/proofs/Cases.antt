@@ -15,7 +15,7 @@ use Rattle.sheet.specs.Sheet.{signalLine, head, ruleTo, ruleLine, rules, sheetO
 use Rattle.readings.specs.Readings.{knownLine, reading, readings}
 use Rattle.writing.specs.Writes.{lastDigits, decimalText}
 use Rattle.listing.specs.Listing.{lineText, signalText, headText}
-use Rattle.reader.specs.Opening.{fits, sheetIn}
+use Rattle.opening.specs.Opening.{fits, sheetIn}
 use Rattle.cases.specs.Texts.{TextCase, textCases, Settled}
 use Rattle.cases.proofs.ReadAs.{ReadAs, read-settles}
 

@@ -24,9 +24,10 @@ use Rattle.tilco.proofs.Demand1.{asked-one}
 use Rattle.sheet.specs.Sheet.{Contents, meant}
 use Rattle.readings.specs.Readings.{readings}
 use Rattle.listing.specs.Listing.{signalsText, headText, listingText}
-use Rattle.reader.specs.Results.{Result, accepted, refused, gain}
-use Rattle.reader.specs.Opening.{sheetIn, namesIn, Opens, blank}
-use Rattle.reader.specs.Opening.Opens.{both}
+use Rattle.opening.specs.Results.{Result, accepted, refused}
+use Rattle.reader.specs.Results.{gain}
+use Rattle.opening.specs.Opening.{sheetIn, namesIn, Opens, blank}
+use Rattle.opening.specs.Opening.Opens.{both}
 use Rattle.reader.specs.Operations.{Adds}
 use Rattle.reader.specs.Operations.Adds.{added}
 use Rattle.settling.specs.Prints.{Prints}

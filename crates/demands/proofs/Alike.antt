@@ -14,11 +14,11 @@ use Rattle.sheet.specs.Sheet.{Head, Contents, meant, ruleLines, sheetText}
 use Rattle.sheet.proofs.Wholes.{sheet-head}
 use Rattle.sheet.proofs.HeadPrefix.{head-kept, head-names-kept}
 use Rattle.sheet.proofs.Shuffled.{ShuffledFrom, shuffled, shuffled-meant}
-use Rattle.reader.specs.Results.{accepted}
-use Rattle.reader.specs.Opening.{sheetIn, namesIn}
+use Rattle.opening.specs.Results.{accepted}
+use Rattle.opening.specs.Opening.{sheetIn, namesIn}
 use Rattle.reader.specs.Operations.{counted, checked}
-use Rattle.reader.proofs.Sheets.{in-fits}
-use Rattle.reader.proofs.Tables.{InSheet, in-sheet}
+use Rattle.opening.proofs.Sheets.{in-fits}
+use Rattle.opening.proofs.Tables.{InSheet, in-sheet}
 use Rattle.demands.specs.Shuffles.{Parted}
 
 -- Two accepted texts with the same window and names, and the same rules in some order.

@@ -16,8 +16,9 @@ use Rattle.tilco.specs.Table.{Standing, tableWords, factsOf, Taken, Agrees, Lea
 use Rattle.tilco.specs.Calls.{Some}
 use Rattle.sheet.specs.Sheet.{Contents, meant, sheetText}
 use Rattle.readings.specs.Readings.{readings}
-use Rattle.reader.specs.Results.{Result, accepted, refused, Gain, gain}
-use Rattle.reader.specs.Opening.{sheetIn, namesIn, blank}
+use Rattle.opening.specs.Results.{Result, accepted, refused}
+use Rattle.reader.specs.Results.{Gain, gain}
+use Rattle.opening.specs.Opening.{sheetIn, namesIn, blank}
 use Rattle.reader.specs.Operations.{checked, Adds, Asks}
 use Rattle.reader.specs.Operations.Adds.{added}
 use Rattle.demands.specs.Refusals.{SheetRefused, AddRefused, AskRefused}

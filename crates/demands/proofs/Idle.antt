@@ -21,12 +21,13 @@ use Rattle.tilco.proofs.At.{at-getD}
 use Rattle.tilco.proofs.Demand2.{added-keeps}
 use Rattle.sheet.specs.Sheet.{signalLine, head, ruleTo, ruleLine, rules, Contents, contents, sheetOf, meant}
 use Rattle.readings.specs.Readings.{knownLine, reading, readings}
-use Rattle.reader.specs.Results.{Result, accepted, refused, Gain, gain}
-use Rattle.reader.specs.Opening.{sheetIn, namesIn, Opens, blank}
+use Rattle.opening.specs.Results.{Result, accepted, refused}
+use Rattle.reader.specs.Results.{Gain, gain}
+use Rattle.opening.specs.Opening.{sheetIn, namesIn, Opens, blank}
 use Rattle.reader.specs.Operations.{counted, checked, Adds, Asks}
 use Rattle.reader.specs.Operations.Asks.{asked}
-use Rattle.reader.proofs.Sheets.{in-fits}
-use Rattle.reader.proofs.Tables.{accepted-refused}
+use Rattle.opening.proofs.Sheets.{in-fits}
+use Rattle.opening.proofs.Tables.{accepted-refused}
 use Rattle.demands.specs.Runs.{FromBlank, newIn}
 use Rattle.reader.proofs.Determined.{opens-same}
 use Rattle.demands.proofs.Runs.{Step, unchanged, changed, step-of, step-opens, blank-opens}

@@ -23,9 +23,9 @@ use Rattle.text.proofs.Keyed.{ranged-past}
 use Rattle.sheet.specs.Sheet.{signalLine, Head, head, rules, Contents, contents, atEnd, sheetOf, ruleLines, sheetText}
 use Rattle.sheet.proofs.Signals.{signal-line}
 use Rattle.sheet.proofs.Heads.{head-is, head-past}
-use Rattle.reader.specs.Results.{accepted}
-use Rattle.reader.specs.Opening.{sheetIn}
-use Rattle.reader.proofs.Tables.{in-sheet}
+use Rattle.opening.specs.Results.{accepted}
+use Rattle.opening.specs.Opening.{sheetIn}
+use Rattle.opening.proofs.Tables.{in-sheet}
 use Rattle.demands.specs.Shuffles.{InParts}
 use Rattle.demands.proofs.Narrow.{rangedLine-narrow, nameLine-narrow}
 use Rattle.demands.proofs.RuleTexts.{RuleTexts, rule-texts}

@@ -23,12 +23,13 @@ use Rattle.sheet.specs.Sheet.{Contents, meant}
 use Rattle.sheet.proofs.Accepted.{sheet-declared}
 use Rattle.readings.specs.Readings.{readings}
 use Rattle.readings.proofs.Bounds.{readings-of-sheet}
-use Rattle.reader.specs.Results.{Result, accepted, refused, Gain, gain}
-use Rattle.reader.specs.Opening.{sheetIn, namesIn, Opens, blank}
-use Rattle.reader.specs.Opening.Opens.{both}
+use Rattle.opening.specs.Results.{Result, accepted, refused}
+use Rattle.reader.specs.Results.{Gain, gain}
+use Rattle.opening.specs.Opening.{sheetIn, namesIn, Opens, blank}
+use Rattle.opening.specs.Opening.Opens.{both}
 use Rattle.reader.specs.Operations.{Adds}
 use Rattle.reader.specs.Operations.Adds.{not-opened, not-read, added}
-use Rattle.reader.proofs.Tables.{in-sheet}
+use Rattle.opening.proofs.Tables.{in-sheet}
 use Rattle.demands.specs.Runs.{RunTexts, callOf, calls, marksIn, newIn}
 use Rattle.demands.specs.Runs.RunTexts.{done, call}
 use Rattle.reader.proofs.Determined.{opens-same, opens-or-not}

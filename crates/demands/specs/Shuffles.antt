@@ -10,7 +10,8 @@ use Rattle.tilco.specs.Lists.{All}
 use Rattle.tilco.specs.Inference.{Clash}
 use Rattle.tilco.specs.Table.{Standing, factsOf, Answer}
 use Rattle.sheet.specs.Sheet.{Head, head, Contents, meant, sheetText}
-use Rattle.reader.specs.Results.{Result, Gain}
+use Rattle.opening.specs.Results.{Result}
+use Rattle.reader.specs.Results.{Gain}
 use Rattle.text.specs.Lines.{InLine}
 use Rattle.reader.specs.Operations.{Asks}
 

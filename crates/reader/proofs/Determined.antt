@@ -15,13 +15,14 @@ use Rattle.tilco.proofs.Demand1.{asked-one}
 use Rattle.tilco.proofs.Demand2.{added-one}
 use Rattle.sheet.specs.Sheet.{Contents, meant}
 use Rattle.readings.specs.Readings.{readings}
-use Rattle.reader.specs.Results.{Result, accepted, refused, Gain, gain}
-use Rattle.reader.specs.Opening.{sheetIn, namesIn, Opens}
-use Rattle.reader.specs.Opening.Opens.{both, not-the-sheet, not-the-length, not-inside}
+use Rattle.opening.specs.Results.{Result, accepted, refused}
+use Rattle.reader.specs.Results.{Gain, gain}
+use Rattle.opening.specs.Opening.{sheetIn, namesIn, Opens}
+use Rattle.opening.specs.Opening.Opens.{both, not-the-sheet, not-the-length, not-inside}
 use Rattle.reader.specs.Operations.{checked, Adds, Asks}
 use Rattle.reader.specs.Operations.Adds.{not-opened, not-read, added}
 use Rattle.reader.specs.Operations.Asks.{not-opened as not-asked, out-of-range, asked}
-use Rattle.reader.proofs.Tables.{accepted-one, accepted-refused, in-sheet}
+use Rattle.opening.proofs.Tables.{accepted-one, accepted-refused, in-sheet}
 
 -- A refusal's number and place do not depend on what was asked for.
 abbrev handed-on : {A B : Type 0} → Result B → Result A → Result B

@@ -28,14 +28,15 @@ use Rattle.marking.specs.Moves.{Sized}
 use Rattle.closing.specs.Closes.{SettlesAll}
 use Rattle.work_list.specs.Items.{Roomy}
 use Rattle.closing.proofs.Outcomes.{settles-added}
-use Rattle.reader.specs.Results.{accepted, refused, gain}
-use Rattle.reader.specs.Opening.{sheetIn, Opens}
-use Rattle.reader.specs.Ready.{Ready, AtHand}
-use Rattle.reader.specs.Opening.Opens.{both}
+use Rattle.opening.specs.Results.{accepted, refused}
+use Rattle.reader.specs.Results.{gain}
+use Rattle.opening.specs.Opening.{sheetIn, Opens}
+use Rattle.opening.specs.Ready.{Ready, AtHand}
+use Rattle.opening.specs.Opening.Opens.{both}
 use Rattle.reader.specs.Operations.{Adds, Asks}
 use Rattle.reader.specs.Operations.Adds.{not-read, added}
 use Rattle.reader.specs.Operations.Asks.{out-of-range, asked}
-use Rattle.reader.proofs.Tables.{InSheet, in-sheet, one-word}
+use Rattle.opening.proofs.Tables.{InSheet, in-sheet, one-word}
 
 -- A buffer of signals' words has no rows.
 pub no-rows : (n : ℕ) → Blank (replicate n 8)

@@ -1,5 +1,3 @@
--- The definitions that the contracts cite, lowest layer first; `Ready` serves the functions behind the public ones.
+-- The definitions that the contracts cite, lowest layer first.
 pub mod Results
-pub mod Opening
 pub mod Operations
-pub mod Ready

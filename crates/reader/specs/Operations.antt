@@ -11,8 +11,9 @@ use Rattle.tilco.specs.Lowering.{rowCount}
 use Rattle.tilco.specs.Table.{Standing, factsOf, Reading, Added, Answer, Asked}
 use Rattle.sheet.specs.Sheet.{Contents, meant}
 use Rattle.readings.specs.Readings.{readings}
-use Rattle.reader.specs.Results.{Result, accepted, refused, Gain, gain}
-use Rattle.reader.specs.Opening.{sheetIn, namesIn, Opens}
+use Rattle.opening.specs.Results.{Result, accepted, refused}
+use Rattle.reader.specs.Results.{Gain, gain}
+use Rattle.opening.specs.Opening.{sheetIn, namesIn, Opens}
 
 -- "check: the sheet's row count, or a refusal."
 abbrev pub counted : Result Contents → Result ℕ

@@ -4,22 +4,13 @@ use mathlib.Core.Bool.{Bool}
 use Prim.Native.Nat.{ℕ}
 use Rattle.tilco.specs.Table.{Answer}
 use Rattle.table.specs.Values.{valueSays}
+use Rattle.opening.specs.Results.{Result, accepted, refused}
 use Rattle.reader.specs.declared.checking.Checking.{Checking}
 use Rattle.reader.specs.declared.checking.Checking.the-variants as checking
 use Rattle.reader.specs.declared.adding.Adding.{Adding}
 use Rattle.reader.specs.declared.adding.Adding.the-variants as adding
 use Rattle.reader.specs.declared.asking.Asking.{Asking}
 use Rattle.reader.specs.declared.asking.Asking.the-variants as asking
-
--- A value, or a refusal's number and place.
-pub data Result (A : Type 0) : Type 0 where
-  accepted : A → Result A
-  refused : ℕ → ℕ → Result A
-
--- "`answer` is 0 or the refusal number."
-abbrev pub answerNumber : {A : Type 0} → Result A → ℕ
-answerNumber (accepted x) = 0
-answerNumber (refused n p) = n
 
 -- How many facts are new, and whether there is a clash.
 pub data Gain : Type 0 where

@@ -1,14 +1,14 @@
 // add: the readings are taken into the lent table, and the table is closed. Assumes nothing.
-use crate::opening::Opening;
-use crate::opening::open_table;
 use closing::tops::settle;
+use opening::Opening;
+use opening::open_table;
 use readings::whole::Outcome;
 use readings::whole::take_readings;
 use table::words_of;
 use telling::clash_in;
 use telling::count_facts;
 ghost use Rattle.reader.specs.Results.{addingSays};
-ghost use Rattle.reader.specs.Ready.{AtHand};
+ghost use Rattle.opening.specs.Ready.{AtHand};
 ghost use Rattle.reader.specs.Operations.{Adds};
 
 // How many facts are new, and whether there is a clash; or a refusal's number and place.

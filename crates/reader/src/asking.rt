@@ -1,6 +1,6 @@
 // ask: what the lent table says of a signal at a tick. Assumes nothing.
-use crate::opening::Opening;
-use crate::opening::open_table;
+use opening::Opening;
+use opening::open_table;
 use table::Value;
 use table::value_at;
 use table::words_of;

@@ -2,4 +2,3 @@
 pub mod adding;
 pub mod asking;
 pub mod checking;
-pub mod opening;

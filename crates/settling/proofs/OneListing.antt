@@ -11,10 +11,11 @@ use Rattle.tilco.specs.Lowering.{rowCount}
 use Rattle.tilco.specs.Table.{Standing, factsOf, Answer}
 use Rattle.tilco.proofs.Demand1.{asked-one}
 use Rattle.sheet.specs.Sheet.{Contents, meant}
-use Rattle.reader.specs.Results.{Result, accepted, refused, Gain, gain}
-use Rattle.reader.specs.Opening.{sheetIn, namesIn, blank}
+use Rattle.opening.specs.Results.{Result, accepted, refused}
+use Rattle.reader.specs.Results.{Gain, gain}
+use Rattle.opening.specs.Opening.{sheetIn, namesIn, blank}
 use Rattle.reader.specs.Operations.{Adds}
-use Rattle.reader.proofs.Tables.{accepted-one, accepted-refused}
+use Rattle.opening.proofs.Tables.{accepted-one, accepted-refused}
 use Rattle.reader.proofs.Determined.{adds-one}
 use Rattle.listing.specs.Listing.{signByte, signs, signalText, signalsText, headText, listingText, refusalText, Answers}
 use Rattle.settling.specs.Prints.{Prints}

@@ -23,12 +23,13 @@ use Rattle.writing.specs.Writes.{Wrote}
 use Rattle.writing.specs.declared.Next.{Next}
 use Rattle.reader.specs.declared.adding.Adding.{Adding}
 use Rattle.reader.specs.declared.adding.Adding.the-variants as adding
-use Rattle.reader.specs.Results.{accepted, refused, gain, addingSays}
-use Rattle.reader.specs.Opening.{sheetIn, namesIn, blank}
-use Rattle.reader.specs.Ready.{Ready}
+use Rattle.opening.specs.Results.{accepted, refused}
+use Rattle.reader.specs.Results.{gain, addingSays}
+use Rattle.opening.specs.Opening.{sheetIn, namesIn, blank}
+use Rattle.opening.specs.Ready.{Ready}
 use Rattle.reader.specs.Operations.{Adds}
 use Rattle.reader.specs.Operations.Adds.{added}
-use Rattle.reader.proofs.Tables.{accepted-one, InSheet, in-sheet, one-word}
+use Rattle.opening.proofs.Tables.{accepted-one, InSheet, in-sheet, one-word}
 use Rattle.reader.proofs.Outcomes.{fitting}
 use Rattle.listing.specs.Listing.{Listable, Answers, listingText, refusalText}
 use Rattle.settling.specs.Prints.{Prints, Printed, lengthOf, PrintedWhole, Begun}

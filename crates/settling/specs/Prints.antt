@@ -12,8 +12,9 @@ use Rattle.sheet.specs.Sheet.{Contents, meant}
 use Rattle.writing.specs.Writes.{Wrote}
 use Rattle.writing.specs.declared.Next.{Next}
 use Rattle.writing.specs.declared.Next.the-variants.{Place, Full}
-use Rattle.reader.specs.Results.{accepted, refused, gain}
-use Rattle.reader.specs.Opening.{sheetIn, namesIn, blank}
+use Rattle.opening.specs.Results.{accepted, refused}
+use Rattle.reader.specs.Results.{gain}
+use Rattle.opening.specs.Opening.{sheetIn, namesIn, blank}
 use Rattle.reader.specs.Operations.{Adds}
 use Rattle.listing.specs.Listing.{Answers, listingText, refusalText}
 

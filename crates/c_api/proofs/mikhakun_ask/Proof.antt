@@ -2,7 +2,8 @@
 use mathlib.Core.Path.{refl, ap, subst}
 use denote.Ref.{now}
 use Rattle.table.specs.Values.{valueSays}
-use Rattle.reader.specs.Results.{accepted, refused, askingSays}
+use Rattle.opening.specs.Results.{accepted, refused}
+use Rattle.reader.specs.Results.{askingSays}
 use Rattle.reader.specs.Operations.{Asks}
 use Rattle.c_api.specs.Leaves.{left}
 use borrow.Author.Needs.{needs}

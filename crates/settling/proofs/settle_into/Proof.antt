@@ -2,7 +2,7 @@
 use native.Mathlib.Omega.{arith}
 use mathlib.Core.Path.{refl}
 use lib.ListN.{length-take}
-use Rattle.reader.proofs.Tables.{when-ready, when-refused}
+use Rattle.opening.proofs.Tables.{when-ready, when-refused}
 use Rattle.reader.proofs.Outcomes.{no-rows}
 use Rattle.settling.proofs.Printing.{take-empty, take-empty-length, words-most, begun, prints-no-sheet}
 use borrow.Author.Needs.{needs}

@@ -3,7 +3,7 @@ use native.Mathlib.Omega.{arith}
 use mathlib.Core.Path.{refl}
 use lib.ListN.{length-take}
 use Rattle.reader.specs.Operations.Adds.{not-opened}
-use Rattle.reader.proofs.Tables.{when-hand, when-not}
+use Rattle.opening.proofs.Tables.{when-hand, when-not}
 use Rattle.reader.proofs.Outcomes.{no-rows}
 use borrow.Author.Needs.{needs}
 use Rattle.reader.proofs.adding.add.Statement.{statement}

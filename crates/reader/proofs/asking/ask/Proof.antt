@@ -3,7 +3,7 @@ use native.Mathlib.Omega.{arith}
 use mathlib.Core.Path.{refl}
 use lib.ListN.{length-take}
 use Rattle.reader.specs.Operations.Asks.{not-opened}
-use Rattle.reader.proofs.Tables.{when-hand, when-not}
+use Rattle.opening.proofs.Tables.{when-hand, when-not}
 use Rattle.reader.proofs.Outcomes.{no-rows, some-window, table-length, signal-past, tick-past, cell-in, answers}
 use borrow.Author.Needs.{needs}
 use Rattle.reader.proofs.asking.ask.Statement.{statement}

@@ -1,8 +1,8 @@
 -- `check` meets its contract. Assumes nothing.
 use mathlib.Core.Path.{refl, sym, ap, _∙_}
-use Rattle.reader.specs.Results.{accepted}
+use Rattle.opening.specs.Results.{accepted}
 use Rattle.reader.specs.Operations.{counted}
-use Rattle.reader.proofs.Tables.{when-ready, when-refused}
+use Rattle.opening.proofs.Tables.{when-ready, when-refused}
 use Rattle.reader.proofs.Outcomes.{no-rows}
 use borrow.Author.Needs.{needs}
 use Rattle.reader.proofs.checking.check.Statement.{statement}

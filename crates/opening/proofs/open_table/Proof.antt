@@ -3,11 +3,11 @@ use native.Mathlib.Omega.{arith}
 use mathlib.Core.Path.{sym, _∙_}
 use borrow.Author.Tests.{not-true, not-false}
 use Rattle.telling.proofs.Clashing.{never}
-use Rattle.reader.specs.Ready.TableOpens.{ready, refused-at}
-use Rattle.reader.proofs.Tables.{when-ready, window-range, row-range, one-word, wrong-length, outside, within, sheet-refused}
+use Rattle.opening.specs.Ready.TableOpens.{ready, refused-at}
+use Rattle.opening.proofs.Tables.{when-ready, window-range, row-range, one-word, wrong-length, outside, within, sheet-refused}
 use borrow.Author.Needs.{needs}
-use Rattle.reader.proofs.opening.open_table.Statement.{statement}
-use Rattle.reader.proofs.opening.open_table.Tie as tie
+use Rattle.opening.proofs.open_table.Statement.{statement}
+use Rattle.opening.proofs.open_table.Tie as tie
 
 open-sheet-requires : tie.Need-open-sheet-requires
 open-sheet-requires c κs = search needs

@@ -1,7 +1,7 @@
 -- `refused_head` meets its contract. Assumes nothing.
 use borrow.Author.Needs.{needs}
-use Rattle.reader.proofs.opening.refused_head.Statement.{statement}
-use Rattle.reader.proofs.opening.refused_head.Tie as tie
+use Rattle.opening.proofs.refused_head.Statement.{statement}
+use Rattle.opening.proofs.refused_head.Tie as tie
 
 enum-told : tie.Need-enum-told
 enum-told c = search needs

@@ -12,8 +12,8 @@ ghost use lib.ListN.{length};
 ghost use Rattle.text.specs.Read.{numberOf, placeOf};
 ghost use Rattle.sheet.specs.Reading.{headSays};
 ghost use Rattle.rows.specs.Words.{Blank};
-ghost use Rattle.reader.specs.declared.opening.Opening.the-variants.{Refused};
-ghost use Rattle.reader.specs.Ready.{SheetOpens, TableOpens};
+ghost use Rattle.opening.specs.declared.Opening.the-variants.{Refused};
+ghost use Rattle.opening.specs.Ready.{SheetOpens, TableOpens};
 
 // An accepted sheet: its window, and how many signals, top rows and rows it has. Or a refusal's number and place.
 pub enum Opening {

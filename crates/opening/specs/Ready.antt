@@ -7,10 +7,10 @@ use lib.ListN.{length, take}
 use Rattle.tilco.specs.Lowering.{program, rowCount}
 use Rattle.sheet.specs.Sheet.{Contents, meant}
 use Rattle.marking.specs.Codes.{Codes, TopsAre}
-use Rattle.reader.specs.declared.opening.Opening.{Opening}
-use Rattle.reader.specs.declared.opening.Opening.the-variants as opening
-use Rattle.reader.specs.Results.{accepted, refused}
-use Rattle.reader.specs.Opening.{sheetIn, Opens}
+use Rattle.opening.specs.declared.Opening.{Opening}
+use Rattle.opening.specs.declared.Opening.the-variants as opening
+use Rattle.opening.specs.Results.{accepted, refused}
+use Rattle.opening.specs.Opening.{sheetIn, Opens}
 
 -- The sheet stands ready: the places of its names, its rows' words in B and its t top rows in `tops`.
 pub record Ready (s places B tops : List ℕ) (w t count : ℕ) : Type 0 where

@@ -6,13 +6,13 @@ use Rattle.text.proofs.Answers.{taken-over}
 use Rattle.sheet.specs.Reading.{headSays}
 use Rattle.sheet.proofs.Answers.{when-headed, when-no-head}
 use Rattle.sheet.proofs.Wholes.{sheet-long, refused-head}
-use Rattle.reader.specs.declared.opening.Opening.the-variants.{Refused}
-use Rattle.reader.specs.Ready.{SheetOpens}
-use Rattle.reader.specs.Ready.SheetOpens.{refused-at}
-use Rattle.reader.proofs.Sheets.{in-refused, begun, legible, rule-refused, more-follow, not-fitting, fitting}
+use Rattle.opening.specs.declared.Opening.the-variants.{Refused}
+use Rattle.opening.specs.Ready.{SheetOpens}
+use Rattle.opening.specs.Ready.SheetOpens.{refused-at}
+use Rattle.opening.proofs.Sheets.{in-refused, begun, legible, rule-refused, more-follow, not-fitting, fitting}
 use borrow.Author.Needs.{needs}
-use Rattle.reader.proofs.opening.open_sheet.Statement.{statement}
-use Rattle.reader.proofs.opening.open_sheet.Tie as tie
+use Rattle.opening.proofs.open_sheet.Statement.{statement}
+use Rattle.opening.proofs.open_sheet.Tie as tie
 
 returns : tie.Need-returns
 returns c = refused-at {n = 1} {p = 0} (in-refused _ (sheet-long _ (c .if1 .taken)))

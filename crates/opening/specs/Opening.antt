@@ -16,7 +16,7 @@ use Rattle.tilco.specs.Formula.{hiddens, Sheet}
 use Rattle.tilco.specs.Lowering.{rowCount}
 use Rattle.tilco.specs.Table.{Standing, tableWords, Inside}
 use Rattle.sheet.specs.Sheet.{Contents, sheetOf, meant}
-use Rattle.reader.specs.Results.{Result, accepted, refused}
+use Rattle.opening.specs.Results.{Result, accepted, refused}
 
 -- "At most 32 hidden signals and 1,024 rows."
 unfoldable pub fits : Sheet → Bool

@@ -36,11 +36,11 @@ use Rattle.lowering.specs.declared.rules.RuleLines.{RuleLines}
 use Rattle.lowering.specs.declared.rules.RuleLines.the-variants as lines
 use Rattle.lowering.proofs.Standing.{tops-many, when-placed, when-over, when-stand, when-no-rules}
 use Rattle.marking.specs.Codes.{Fine, TopsAre}
-use Rattle.reader.specs.Results.{accepted, refused}
-use Rattle.reader.specs.declared.opening.Opening.the-variants as opening
-use Rattle.reader.specs.Opening.{fits, sized, sheetIn}
-use Rattle.reader.specs.Ready.{Ready, SheetOpens}
-use Rattle.reader.specs.Ready.SheetOpens.{ready, refused-at}
+use Rattle.opening.specs.Results.{accepted, refused}
+use Rattle.opening.specs.declared.Opening.the-variants as opening
+use Rattle.opening.specs.Opening.{fits, sized, sheetIn}
+use Rattle.opening.specs.Ready.{Ready, SheetOpens}
+use Rattle.opening.specs.Ready.SheetOpens.{ready, refused-at}
 
 -- ---- what the text holds
 

@@ -19,14 +19,14 @@ use Rattle.tilco.specs.Table.{words, Stands, tableWords, Inside}
 use Rattle.sheet.specs.Sheet.{Contents, sheetOf, meant}
 use Rattle.sheet.specs.Reading.{Sizes}
 use Rattle.sheet.proofs.Wholes.{sheet-sizes}
-use Rattle.reader.specs.declared.opening.Opening.{Opening}
-use Rattle.reader.specs.declared.opening.Opening.the-variants as opening
-use Rattle.reader.specs.Results.{accepted, refused}
-use Rattle.reader.specs.Opening.{fits, sized, sheetIn, Opens}
-use Rattle.reader.specs.Ready.{Ready, AtHand, SheetOpens, TableOpens}
-use Rattle.reader.specs.Opening.Opens.{both, not-the-sheet, not-the-length, not-inside}
-use Rattle.reader.specs.Ready.SheetOpens.{ready, refused-at}
-use Rattle.reader.specs.Ready.TableOpens.{ready as at-hand, refused-at as not-opened}
+use Rattle.opening.specs.declared.Opening.{Opening}
+use Rattle.opening.specs.declared.Opening.the-variants as opening
+use Rattle.opening.specs.Results.{accepted, refused}
+use Rattle.opening.specs.Opening.{fits, sized, sheetIn, Opens}
+use Rattle.opening.specs.Ready.{Ready, AtHand, SheetOpens, TableOpens}
+use Rattle.opening.specs.Opening.Opens.{both, not-the-sheet, not-the-length, not-inside}
+use Rattle.opening.specs.Ready.SheetOpens.{ready, refused-at}
+use Rattle.opening.specs.Ready.TableOpens.{ready as at-hand, refused-at as not-opened}
 
 pub accepted-one : {A : Type 0} {x y : A} → accepted x ≡ accepted y → x ≡ y
 accepted-one e = cc
