@@ -26,9 +26,6 @@ module _ (count : ℕ) (B : List ℕ) (n : ℕ) where
 
   -- The marks of one word that changed, or did not.
   module _ (x back e told : ℕ) (D : List ℕ) where
-    pub note-none : told ≡ 0 → Notes count B n (WroteBefore x back e told) D D told
-    note-none z = record { size = refl; kept = λ r q l h i. i; noted = λ y t v a. absurd (omega (arith, a .2)); still = λ f. refl }
-
     pub note-one : (p : ℕ) (D′ : List ℕ) → e ≡ p + back → 0 < told → Touched count B n x p D D′ → Notes count B n (WroteBefore x back e told) D D′ told
     note-one p D′ f l t = record { size = t .size; kept = t .kept; noted = each; still = λ z. absurd (omega arith) }
       where
