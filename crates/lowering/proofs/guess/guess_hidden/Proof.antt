@@ -22,11 +22,14 @@ loop-holds c = (omega arith, omega arith)
 shared-slice-read-if1 : tie.Need-shared-slice-read-if1 Inv-loop μ-loop
 shared-slice-read-if1 c = search needs
 
-sub-if2 : tie.Need-sub-if2 Inv-loop μ-loop
-sub-if2 c = search needs
+sub-name-byte : tie.Need-sub-name-byte Inv-loop μ-loop
+sub-name-byte c = search needs
 
-shared-slice-read-if2 : tie.Need-shared-slice-read-if2 Inv-loop μ-loop
-shared-slice-read-if2 c = search needs
+shared-slice-read-name-byte : tie.Need-shared-slice-read-name-byte Inv-loop μ-loop
+shared-slice-read-name-byte c = search needs
+
+name-byte-requires : tie.Need-name-byte-requires Inv-loop μ-loop
+name-byte-requires c κs = search needs
 
 add-n : tie.Need-add-n Inv-loop μ-loop
 add-n c = search needs
@@ -39,7 +42,7 @@ loop-less c = search needs
 
 loop-again : tie.Need-loop-again Inv-loop μ-loop
 loop-again c = (
-  ⊎-elim (λ x. omega (arith, x .3 .taken, x .4)) (λ y. ⊎-elim (λ x. omega (arith, x .4)) (λ z. ⊎-elim (λ x. omega (arith, x .3)) (λ x. omega (arith, x .1)) z) y) (c .if1 .came),
+  ⊎-elim (λ x. omega (arith, x .4 .taken, x .5)) (λ y. ⊎-elim (λ x. omega (arith, x .5)) (λ z. ⊎-elim (λ x. omega (arith, x .4)) (λ x. omega (arith, x .1)) z) y) (c .if1 .came),
   omega arith,
 )
 
@@ -55,8 +58,9 @@ guess-hidden-spec =
     add-i
     loop-holds
     shared-slice-read-if1
-    sub-if2
-    shared-slice-read-if2
+    sub-name-byte
+    shared-slice-read-name-byte
+    name-byte-requires
     add-n
     add-i-2
     loop-less
