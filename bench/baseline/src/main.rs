@@ -1,5 +1,5 @@
 //! The rule reader in plain Rust, for comparison. In a folder with sheet.txt and readings.txt:
-//! `baseline` prints the listing; `baseline N [add|check]` does one operation N times and prints what the last one answered.
+//! `baseline` prints the listing; `baseline N [read|check|take|add]` does one operation N times and prints what the last one answered.
 mod closing;
 mod formula;
 mod lowering;
@@ -8,7 +8,7 @@ mod readings;
 mod sheet;
 mod text;
 
-use operations::{add, check};
+use operations::{add, check, take, Added};
 use std::hint::black_box;
 use text::Refusal;
 
@@ -38,30 +38,43 @@ fn listing(text: &[u8], readings: &[u8]) -> Result<String, Refusal> {
     Ok(out)
 }
 
-/// One operation on the two texts, as often as asked: what the last one answered.
-fn runs(text: &[u8], readings: &[u8], times: usize, operation: &str) -> Result<String, Refusal> {
-    let rows = check(text)?;
-    let mut answer = String::new();
-    for i in 1..=times {
-        let (text, readings) = (black_box(text), black_box(readings));
-        let last = i == times;
-        match operation {
-            "check" => {
-                let rows = black_box(check(text)?);
-                if last {
-                    answer = format!("rows={rows}\n");
-                }
-            }
-            _ => {
-                let mut table = vec![0; 2 * rows];
-                let added = black_box(add(text, readings, &mut table)?);
-                if last {
-                    answer = format!("facts={}\nclash={}\n", added.new, added.clash as u8);
-                }
-            }
+/// What an operation answers.
+enum Answer {
+    Rules(usize),
+    Rows(usize),
+    Before(usize),
+    Added(Added),
+}
+
+impl Answer {
+    fn text(&self) -> String {
+        match self {
+            Answer::Rules(n) => format!("rules={n}\n"),
+            Answer::Rows(n) => format!("rows={n}\n"),
+            Answer::Before(n) => format!("before={n}\n"),
+            Answer::Added(a) => format!("facts={}\nclash={}\n", a.new, a.clash as u8),
         }
     }
-    Ok(answer)
+}
+
+/// One operation on the two texts, with an empty table of so many rows where it wants one.
+fn once(operation: &str, text: &[u8], readings: &[u8], rows: usize) -> Result<Answer, Refusal> {
+    Ok(match operation {
+        "read" => Answer::Rules(black_box(sheet::read(text)?).rules.len()),
+        "check" => Answer::Rows(check(text)?),
+        "take" => Answer::Before(black_box(take(text, readings, black_box(&mut vec![0; 2 * rows]))?).before),
+        _ => Answer::Added(add(text, readings, black_box(&mut vec![0; 2 * rows]))?),
+    })
+}
+
+/// One operation as often as asked: what the last one answered.
+fn runs(text: &[u8], readings: &[u8], times: usize, operation: &str) -> Result<String, Refusal> {
+    let rows = check(text)?;
+    let mut last = Answer::Rows(rows);
+    for _ in 0..times {
+        last = black_box(once(operation, black_box(text), black_box(readings), rows)?);
+    }
+    Ok(last.text())
 }
 
 fn main() {

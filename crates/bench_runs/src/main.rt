@@ -1,12 +1,18 @@
 // Runs one operation again and again, so that its instructions can be counted: on the sheet and the readings in the current folder, sheet.txt
-// and readings.txt, as often as the first argument says. The second argument is add or check (the sheet is read and lowered). Prints what
-// the last run answered.
+// and readings.txt, as often as the first argument says. The second argument is read (the sheet's text), check (it is lowered too), take (the readings
+// are taken too) or add. Prints what the last run answered.
+mod answers;
+mod reading;
+mod taking;
+
+use answers::Answer;
+use answers::print_answer;
 use reader::adding::Adding;
 use reader::adding::add;
 use reader::checking::Checking;
 use reader::checking::check;
-use run_cases::print_number;
-use run_cases::print_refusal;
+use reading::read_sheet;
+use taking::take;
 use text::numbers::Number;
 use text::numbers::number_at;
 use text::words::word_is;
@@ -37,15 +43,10 @@ fn number_of(text: &[u8]) -> usize {
 
 // How far a run goes.
 enum Run {
+    Read,
     Check,
+    Take,
     Add,
-}
-
-// What a run answers: how many rows the sheet has; how many facts are new, and whether there is a clash; or a refusal.
-enum Answer {
-    Rows(usize),
-    Added { new: usize, clash: bool },
-    Refused(usize, usize),
 }
 
 // Checks the sheet.
@@ -66,6 +67,12 @@ fn clear(table: &mut [u64]) {
     }
 }
 
+// Takes the readings into the table, after it is emptied.
+fn take_once(s: &[u8], readings: &[u8], table: &mut [u64]) -> Answer {
+    clear(table);
+    take(s, readings, table)
+}
+
 // Adds the readings to the table, after it is emptied.
 fn add_once(s: &[u8], readings: &[u8], table: &mut [u64]) -> Answer {
     clear(table);
@@ -79,7 +86,9 @@ fn add_once(s: &[u8], readings: &[u8], table: &mut [u64]) -> Answer {
 // One run.
 fn run_once(run: Run, s: &[u8], readings: &[u8], table: &mut [u64]) -> Answer {
     match run {
+        Run::Read => read_sheet(s),
         Run::Check => check_once(s),
+        Run::Take => take_once(s, readings, table),
         Run::Add => add_once(s, readings, table),
     }
 }
@@ -108,23 +117,16 @@ fn words_for(s: &[u8]) -> usize
 
 // The run that a word names; an add if it names none.
 fn run_named(word: &[u8]) -> Run {
+    if word_is(word, 0, b"read") {
+        return Run::Read;
+    }
     if word_is(word, 0, b"check") {
-        Run::Check
-    } else {
-        Run::Add
+        return Run::Check;
     }
-}
-
-// Prints an answer.
-fn print_answer(answer: Answer) {
-    match answer {
-        Answer::Rows(n) => print_number(b"rows=", n as u64, b"\n"),
-        Answer::Added { new, clash } => {
-            print_number(b"facts=", new as u64, b"\n");
-            print_number(b"clash=", clash as u64, b"\n");
-        }
-        Answer::Refused(number, place) => print_refusal(number, place),
+    if word_is(word, 0, b"take") {
+        return Run::Take;
     }
+    Run::Add
 }
 
 // Does what the arguments ask for with the two texts.
