@@ -7,39 +7,17 @@ mod taking;
 
 use answers::Answer;
 use answers::print_answer;
+use bench_parts::clear;
+use bench_parts::number_of;
+use bench_parts::read_text;
 use reader::adding::Adding;
 use reader::adding::add;
 use reader::checking::Checking;
 use reader::checking::check;
 use reading::read_sheet;
 use taking::take;
-use text::numbers::Number;
-use text::numbers::number_at;
 use text::words::word_is;
 ghost use Prim.Native.Nat.{_≤_};
-ghost use Rattle.io.specs.Counts.{Counts};
-
-// The file's bytes at the start of the buffer, as far as they fit: how many.
-fn read_text(path: &[u8], buffer: &mut [u8]) -> usize
-    ensures { λ n. ⌜ Counts n (now (buffer .exit)) ⌝ }
-{
-    let file = os::open_read(path);
-    if file < 0 {
-        return 0;
-    }
-    let n = io::read_full(file, buffer);
-    libc::close(file);
-    n
-}
-
-// The number that a text starts with, or 0.
-fn number_of(text: &[u8]) -> usize {
-    let d = number_at(text, 0);
-    match d {
-        Number::Value(x, _) => x,
-        Number::Missing => 0,
-    }
-}
 
 // How far a run goes.
 enum Run {
@@ -55,15 +33,6 @@ fn check_once(s: &[u8]) -> Answer {
     match c {
         Checking::Rows(n) => Answer::Rows(n),
         Checking::Refused(n, p) => Answer::Refused(n, p),
-    }
-}
-
-// Empties the table.
-fn clear(table: &mut [u64]) {
-    let mut i = 0;
-    while i < table.len() {
-        table[i] = 0;
-        i += 1;
     }
 }
 
