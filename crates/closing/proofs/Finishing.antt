@@ -17,7 +17,7 @@ use Rattle.tilco.proofs.Derives.{cut, stays-inside}
 use Rattle.marking.specs.Codes.{Codes, Coded}
 use Rattle.marking.specs.Gains.{room}
 use Rattle.closing.specs.Closes.{ClosesAll}
-use Rattle.work_list.specs.Items.{ToDo, Done, Full}
+use Rattle.work_list.specs.Items.{ToDo, Done}
 use Rattle.closing.specs.Rounds.{Works, AnyItem}
 use Rattle.marking.proofs.Decoding.{words-cover}
 use Rattle.closing.proofs.Local.{settled-all}
@@ -42,12 +42,12 @@ module _ (count : ℕ) (B : List ℕ) (W n : ℕ) (T : List ℕ) where
   abbrev pub Toward : List ℕ → List ℕ → ℕ → Type 0
   Toward T′ D go = (P : Program) → Codes P count B → Nearing n P W count B T T′ D go
 
-  pub toward-start : (D : List ℕ) → Full count n D → Toward T D 1
+  pub toward-start : (D : List ℕ) → Done count B W n T D → Toward T D 1
   toward-start D f P c = record {
     size = refl;
     grows = λ m i. i;
     sound = λ m i. start i;
-    done = λ r q h b g. absurd (g (f r q h b));
+    done = f;
     clear = λ e. absurd (omega arith);
   }
 

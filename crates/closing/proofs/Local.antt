@@ -1,20 +1,16 @@
 -- What is settled stays settled where the words that it rests on are the same, and a row that is settled in every word is settled.
 -- Assumes nothing.
-use mathlib.Core.Path.{_≡_, refl}
+use mathlib.Core.Path.{refl}
 use mathlib.Core.Bool.{not}
 use mathlib.Core.List.{List}
-use mathlib.Core.Logic.{_⊎_, inl, inr, ⊎-elim}
-use Prim.Native.Nat.{ℕ, _+_, _*_, _/_, _%_, _≤_, _<_}
+use mathlib.Core.Logic.{inl, inr}
+use Prim.Native.Nat.{ℕ, _*_, _/_, _≤_, _<_}
 use native.Mathlib.Omega.{arith}
-use Rattle.ticks.proofs.Bits.{lt-or-ge}
-use Rattle.tilco.specs.Inference.{Node, signal, notOf, gate, look, Mark, mark, Shifted}
+use Rattle.tilco.specs.Inference.{Node, signal, notOf, gate, look, Mark, mark}
 use Rattle.tilco.specs.Table.{Stands}
 use Rattle.tilco.proofs.Closing.{GateSettled, SettledAt}
 use Rattle.marking.specs.Settled.{SettledIn, Rests, SameWord}
-
--- A look's tick t is in a word from which its child's word is seen.
-seen-from : (t k s q : ℕ) → Shifted t k s → s / 64 ≡ q → (q ≡ t / 64 + k / 64) ⊎ (q + 1 ≡ t / 64 + k / 64)
-seen-from t k s q d e = ⊎-elim (λ l. inr (omega arith)) (λ l. inl (omega arith)) (lt-or-ge (t % 64 + k % 64) 64)
+use Rattle.work_list.proofs.Starting.{seen-from}
 
 module _ (n W : ℕ) (T T′ : List ℕ) (grows : (m : Mark) → Stands n T m → Stands n T′ m) where
   pub settled-local : (r q : ℕ) (d : Node) → ((x p : ℕ) → Rests d r q x p → SameWord n T T′ x p) → SettledIn q W (Stands n T) r d → SettledIn q W (Stands n T′) r d

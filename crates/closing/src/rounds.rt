@@ -1,7 +1,7 @@
 // Closes a table: items of the list are visited, word of ticks by word of ticks, until a round over all of them changes nothing.
 // Assumes that the words are a program's rows, that the table has them, and that no mark is outside the window.
 use visiting::visit;
-use work_list::items::fill;
+use work_list::items::start;
 use work_list::links::link_rows;
 ghost use mathlib.Core.Path.{_≡_};
 ghost use Prim.Native.Nat.{_+_, _-_, _*_, _/_, _^_, _<_, _≤_};
@@ -11,7 +11,7 @@ ghost use Rattle.tilco.specs.Table.{Stands, Inside};
 ghost use Rattle.marking.specs.Codes.{Coded};
 ghost use Rattle.marking.specs.Moves.{Sized};
 ghost use Rattle.closing.specs.Closes.{ClosesAll};
-ghost use Rattle.work_list.specs.Items.{per, Roomy, Full};
+ghost use Rattle.work_list.specs.Items.{per, Roomy, Done};
 ghost use Rattle.visiting.specs.Visits.{Visits};
 ghost use Rattle.closing.specs.Rounds.{Works, Taken, InWord, InColumn, AnyItem};
 ghost use Rattle.work_list.specs.Links.{Linked};
@@ -193,7 +193,7 @@ fn work_round(
     changed
 }
 
-// Rounds from a full list until one changes nothing: it leaves the list empty, so every row is settled in every word.
+// Rounds until one changes nothing: it leaves the list empty, so every row is settled in every word.
 fn work_off(
     rows: &[u64],
     count: usize,
@@ -206,7 +206,7 @@ fn work_off(
 )
     requires { ⌜ Coded count (now rows) ⌝ }
     requires { ⌜ Linked count (now rows) (now heads) (now nexts) ⌝ }
-    requires { ⌜ Roomy count n (now todo) × Full count n (now todo) ⌝ }
+    requires { ⌜ Roomy count n (now todo) × Done count (now rows) window n (now marks) (now todo) ⌝ }
     requires { ⌜ Sized n count window (now marks) ⌝ }
     requires { ⌜ Inside window (Stands n (now marks)) ⌝ }
     ensures { λ _. ⌜ ClosesAll count (now (rows .entry)) window n (now (marks .entry)) (now (marks .exit)) ⌝ }
@@ -218,7 +218,7 @@ fn work_off(
 }
 
 // Closes the table under the rules, although a clash appears: it has every consequence of its marks then, and no other mark.
-// The list is lent; what it holds before and after says nothing.
+// The list is lent, empty at best: an item that it holds before costs a visit and changes nothing else.
 pub fn close(
     rows: &[u64],
     count: usize,
@@ -236,6 +236,6 @@ pub fn close(
     let mut heads = [1u16; 1024];
     let mut nexts = [1u16; 2048];
     link_rows(rows, count, &mut heads, &mut nexts);
-    fill(count, n, todo);
+    start(rows, count, n, &heads, &nexts, todo, marks);
     work_off(rows, count, n, window, &heads, &nexts, todo, marks);
 }

@@ -110,3 +110,14 @@ rests-split signal r q x p h = absurd h
 rests-split (notOf y) r q x p h = ⊎-elim (λ e. inr (e, h .0)) (λ e. inl (e, h .0)) (h .1)
 rests-split (gate u a b) r q x p h = ⊎-elim (λ e. inr (e, h .0)) (λ e. inl (e, h .0)) (h .1)
 rests-split (look k c) r q x p h = ⊎-elim (λ e. inl e) (λ e. inr e) h
+
+-- A row's children stand before it, so an item rests on no row after its own.
+child-below : (d : Node) (r x : ℕ) → Fine r d → Child d x → x < r
+child-below signal r x f h = absurd h
+child-below (notOf y) r x f h = omega arith
+child-below (gate u a b) r x f h = ⊎-elim (λ e. omega (arith, f .0)) (λ e. omega (arith, f .1)) h
+child-below (look k c) r x f h = omega (arith, f .0)
+
+pub rests-below : (count : ℕ) (B : List ℕ) (r q x p : ℕ) → Coded count B → Rests (rowAt B r) r q x p → x ≤ r
+rests-below count B r q x p c s =
+    ⊎-elim (λ h. omega (arith, child-below (rowAt B r) r x (fine-row count B r c) (h .0))) (λ h. omega (arith, h .0)) (rests-split (rowAt B r) r q x p s)

@@ -2,4 +2,4 @@
 pub mod Linking
 pub mod ByKind
 pub mod Noting
-pub mod Filling
+pub mod Starting

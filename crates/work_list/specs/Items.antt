@@ -1,13 +1,14 @@
 -- The list of work: an item is a row and a word of 64 ticks, and is on the list if the row's rules may add something to that word.
 -- Assumes nothing. n is how many words a row has for each value, B the rows' words, T the table and D the list before, T′ and D′ after.
 use mathlib.Core.Path.{_≡_}
+use mathlib.Core.Bool.{Bool}
 use mathlib.Core.List.{List}
 use mathlib.Core.Logic.{_⊎_}
 use Prim.Native.Nat.{ℕ, _+_, _*_, _/_, _%_, _≤_, _<_}
 use lib.ListN.{length, getD}
 use Rattle.ticks.specs.Ticks.{Has}
 use Rattle.rows.specs.Words.{rowAt}
-use Rattle.tilco.specs.Inference.{Node, signal, notOf, gate, look}
+use Rattle.tilco.specs.Inference.{Node, signal, notOf, gate, look, mark}
 use Rattle.tilco.specs.Table.{Stands}
 use Rattle.marking.specs.Settled.{SettledIn, Rests, SameWord}
 
@@ -61,16 +62,12 @@ pub record Heeds (count : ℕ) (B : List ℕ) (n : ℕ) (T T′ D D′ : List �
   pub kept : (r q : ℕ) → r < count → q < n → ToDo count D r q → ToDo count D′ r q
   pub noted : (r q : ℕ) → r < count → q < n → (ToDo count D′ r q → ⊥) → (x p : ℕ) → Rests (rowAt B r) r q x p → SameWord n T T′ x p
 
+-- Nothing is taken off the list, and every item that rests on a mark in one of the words X is on it: X has rows with a word of theirs.
+pub record Starts (count : ℕ) (B : List ℕ) (n : ℕ) (X : ℕ → ℕ → Type 0) (T D D′ : List ℕ) : Type 0 where
+  pub size : length D′ ≡ length D
+  pub kept : (r q : ℕ) → r < count → q < n → ToDo count D r q → ToDo count D′ r q
+  pub noted : (x t : ℕ) (v : Bool) → X x (t / 64) → Stands n T (mark x t v) → Noted count B n D′ x (t / 64)
+
 -- Every item that is not on the list is settled.
 abbrev pub Done : ℕ → List ℕ → ℕ → ℕ → List ℕ → List ℕ → Type 0
 Done count B W n T D = (r q : ℕ) → r < count → q < n → (ToDo count D r q → ⊥) → SettledIn q W (Stands n T) r (rowAt B r)
-
--- Every item is on the list.
-abbrev pub Full : ℕ → ℕ → List ℕ → Type 0
-Full count n D = (r q : ℕ) → r < count → q < n → ToDo count D r q
-
--- The bits of all `count` rows are set in the words from a place on; the words before it are as they were.
-pub record Filled (count place : ℕ) (D D′ : List ℕ) : Type 0 where
-  pub size : length D′ ≡ length D
-  pub before : (j : ℕ) → j < place → getD D′ j 0 ≡ getD D j 0
-  pub each : (y : ℕ) → y < count → Bit D′ place y

@@ -1,14 +1,14 @@
-// The list of work: an item, a row and a word of 64 ticks, put on it, and every item that rests on a word that changed.
+// The list of work: an item, a row and a word of 64 ticks, put on it, every item that rests on a word that changed, and all that it starts with.
 // The list has `stride` words for each word of ticks, one bit a row. Assumes that it has a bit for every item.
 use crate::links::index;
-use marking::words::window_word;
+use marking::words::word_at;
 ghost use mathlib.Core.Path.{_≡_};
-ghost use Prim.Native.Nat.{_+_, _*_, _/_, _<_, _≤_};
+ghost use Prim.Native.Nat.{ℕ, _+_, _*_, _/_, _<_, _≤_};
 ghost use lib.ListN.{length};
 ghost use Rattle.rows.specs.Words.{rowAt};
 ghost use Rattle.marking.specs.Codes.{Coded};
 ghost use Rattle.work_list.specs.Links.{Reach, Falls, Linked};
-ghost use Rattle.work_list.specs.Items.{per, Roomy, Enters, OwnItem, ItemsOf, Touched, Filled, Full};
+ghost use Rattle.work_list.specs.Items.{per, Roomy, Enters, OwnItem, ItemsOf, Touched, Starts, Done};
 
 // Sets row y's bit in the words of the list from place i on.
 fn enter(todo: &mut [u64], i: usize, y: usize)
@@ -93,29 +93,53 @@ pub fn touch(
     enter_parents(count, head, nexts, todo, q * stride);
 }
 
-// Puts the items of every row at one word of ticks, whose words in the list start at a place, on the list.
-fn fill_column(count: usize, place: usize, todo: &mut [u64])
-    requires { ⌜ (count ≤ 1024) × (place + per count ≤ length (now todo)) ⌝ }
-    ensures { λ _. ⌜ Filled count place (now (todo .entry)) (now (todo .exit)) ⌝ }
+// Puts every item on the list that rests on a mark in word q of a row.
+fn start_column(
+    rows: &[u64],
+    count: usize,
+    n: usize,
+    q: usize,
+    heads: &[u16],
+    nexts: &[u16],
+    todo: &mut [u64],
+    marks: &[u64],
+)
+    requires { ⌜ Coded count (now rows) ⌝ }
+    requires { ⌜ (q < n) × (2 * count * n ≤ length (now marks)) ⌝ }
+    requires { ⌜ Linked count (now rows) (now heads) (now nexts) ⌝ }
+    requires { ⌜ Roomy count n (now todo) ⌝ }
+    ensures { λ _. ⌜ Starts count (now (rows .entry)) n (λ x p. (x < count) × (p ≡ q)) (now (marks .entry)) (now (todo .entry)) (now (todo .exit)) ⌝ }
 {
-    let stride = (count + 63) / 64;
-    let mut i: usize = 0;
-    while i < stride {
-        let bits = window_word(count, i);
-        todo[place + i] = bits;
-        i += 1;
+    let mut x: usize = 0;
+    while x < count {
+        let yes = word_at(marks, n, q, x, true);
+        let no = word_at(marks, n, q, x, false);
+        if yes | no != 0 {
+            touch(rows, count, n, q, x, heads, nexts, todo);
+        }
+        x += 1;
     }
 }
 
-// Puts every item on the list.
-pub fn fill(count: usize, n: usize, todo: &mut [u64])
+// Puts every item on the list that rests on a mark: a rule has a premise, so what is not on it then is settled.
+pub fn start(
+    rows: &[u64],
+    count: usize,
+    n: usize,
+    heads: &[u16],
+    nexts: &[u16],
+    todo: &mut [u64],
+    marks: &[u64],
+)
+    requires { ⌜ Coded count (now rows) ⌝ }
+    requires { ⌜ 2 * count * n ≤ length (now marks) ⌝ }
+    requires { ⌜ Linked count (now rows) (now heads) (now nexts) ⌝ }
     requires { ⌜ Roomy count n (now todo) ⌝ }
-    ensures { λ _. ⌜ Full count n (now (todo .exit)) ⌝ }
+    ensures { λ _. ⌜ ((W : ℕ) → Done count (now (rows .entry)) W n (now (marks .entry)) (now (todo .exit))) ⌝ }
 {
-    let stride = (count + 63) / 64;
     let mut q: usize = 0;
     while q < n {
-        fill_column(count, q * stride, todo);
+        start_column(rows, count, n, q, heads, nexts, todo, marks);
         q += 1;
     }
 }

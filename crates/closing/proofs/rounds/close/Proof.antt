@@ -14,8 +14,16 @@ slice-aggregate-link-rows-2 c = search needs
 link-rows-requires : tie.Need-link-rows-requires
 link-rows-requires c κs = search needs
 
-fill-requires : tie.Need-fill-requires
-fill-requires c κs = search needs
+slice-aggregate-start : tie.Need-slice-aggregate-start
+slice-aggregate-start c = search needs
+
+slice-aggregate-start-2 : tie.Need-slice-aggregate-start-2
+slice-aggregate-start-2 c = search needs
+
+start-requires : tie.Need-start-requires
+start-requires c κs =
+    let o = c .before .before .before .before .before .before .before .before .before .before .before .before .pre in
+    (o .0, (o .1 .1 .0 .long, (c .before .before .before .before .before .before .link-rows .ensures, o .1 .0)))
 
 slice-aggregate-work-off : tie.Need-slice-aggregate-work-off
 slice-aggregate-work-off c = search needs
@@ -25,8 +33,8 @@ slice-aggregate-work-off-2 c = search needs
 
 work-off-requires : tie.Need-work-off-requires
 work-off-requires c κs =
-    let o = c .before .before .before .before .before .before .before .before .before .before .before .before .before .before .before .before .pre in
-    (o .0, (c .before .before .before .before .before .before .before .before .before .before .link-rows .ensures, ((roomy-as (omega arith) (o .1 .0), c .before .before .before .before .before .before .fill .ensures), (o .1 .1 .0, o .1 .1 .1))))
+    let o = c .before .before .before .before .before .before .before .before .before .before .before .before .before .before .before .before .before .before .before .pre in
+    (o .0, (c .before .before .before .before .before .before .before .before .before .before .before .before .before .link-rows .ensures, ((roomy-as (omega arith) (o .1 .0), c .before .before .before .before .before .before .start .ensures _), (o .1 .1 .0, o .1 .1 .1))))
 
 same-length : tie.Need-same-length
 same-length c = search needs
@@ -44,7 +52,9 @@ close-spec =
     slice-aggregate-link-rows
     slice-aggregate-link-rows-2
     link-rows-requires
-    fill-requires
+    slice-aggregate-start
+    slice-aggregate-start-2
+    start-requires
     slice-aggregate-work-off
     slice-aggregate-work-off-2
     work-off-requires
