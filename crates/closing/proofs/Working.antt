@@ -1,6 +1,7 @@
 -- Stretches of visits: none, one after another, and a word of the list that is empty then.
 -- Assumes nothing.
 use mathlib.Core.Path.{_≡_, refl, sym, ap, _∙_, subst}
+use mathlib.Core.Bool.{Bool, true, false}
 use mathlib.Core.List.{List}
 use mathlib.Core.Logic.{_⊎_, inl, inr, ⊎-elim}
 use Prim.Native.Nat.{ℕ, zero, suc, _+_, _*_, _/_, _%_, _^_, _≤_, _<_}
@@ -17,7 +18,7 @@ use Rattle.tilco.proofs.Derives.{cut, stays-inside}
 use Rattle.marking.specs.Codes.{Codes, Coded}
 use Rattle.marking.specs.Gains.{room}
 use Rattle.work_list.specs.Items.{per}
-use Rattle.closing.specs.Rounds.{Worked, Works, Taken, NoItem, InWord, InColumn}
+use Rattle.closing.specs.Rounds.{Worked, Works, Taken, NoItem, InWord, InColumn, turn}
 
 some-or-none : (k : ℕ) → (0 < k) ⊎ (k ≡ 0)
 some-or-none zero = inr refl
@@ -25,6 +26,15 @@ some-or-none (suc k) = inl (omega arith)
 
 room-falls : {count : ℕ} {B : List ℕ} {n : ℕ} {P : Program} {W : ℕ} {Z : ℕ → ℕ → Type 0} {T T′ D D′ : List ℕ} {x : ℕ} → Worked count B n P W Z T T′ D D′ x → room T′ ≤ room T
 room-falls {x = x} m = ⊎-elim (λ l. omega (arith, m .moved l)) (λ e. le-of-eq (ap room (m .still e))) (some-or-none x)
+
+-- The words up and the words down are the same words.
+pub turn-below : (up : Bool) (m i : ℕ) → i < m → turn up m i < m
+turn-below true m i l = l
+turn-below false m i l = omega arith
+
+turn-back : (up : Bool) (m i j : ℕ) → i < m → j < m → turn up m j ≡ i → j ≡ turn up m i
+turn-back true m i j l h e = e
+turn-back false m i j l h e = omega arith
 
 module _ (count : ℕ) (B : List ℕ) (W n : ℕ) where
   -- Nothing done, and none of no items left.
@@ -84,9 +94,9 @@ module _ (count : ℕ) (B : List ℕ) (W n : ℕ) where
             rests = λ d. k .rests (m .rests d);
           }
 
-  -- The words of the list for word q before the m-th, and the words of ticks before m.
-  abbrev pub FirstWords : ℕ → ℕ → ℕ → ℕ → Type 0
-  FirstWords q m r p = (p ≡ q) × (r / 64 < m)
+  -- The words of the list for word q before the m-th, up or down, and the words of ticks before m.
+  abbrev pub FirstWords : Bool → ℕ → ℕ → ℕ → ℕ → Type 0
+  FirstWords up q m r p = (p ≡ q) × (turn up (per count) (r / 64) < m)
 
   abbrev pub FirstColumns : ℕ → ℕ → ℕ → Type 0
   FirstColumns m r p = p < m
@@ -95,9 +105,11 @@ module _ (count : ℕ) (B : List ℕ) (W n : ℕ) where
     pub works-item : Works count B W n NoItem T T′ D D′ x → Works count B W n NoItem T′ T″ D′ D″ y → Works count B W n NoItem T T″ D D″ z
     works-item a b = works-then NoItem NoItem NoItem z (λ r q h i. inl i) none some a b
 
-    pub works-words : (q m : ℕ) → Works count B W n (FirstWords q m) T T′ D D′ x → Works count B W n (InWord q m) T′ T″ D′ D″ y → Works count B W n (FirstWords q (m + 1)) T T″ D D″ z
-    works-words q m a b =
-        works-then (FirstWords q m) (InWord q m) (FirstWords q (m + 1)) z (λ r p h i. ⊎-elim (λ l. inl (i .0, l)) (λ l. inr (i .0, omega (arith, i .1))) (lt-or-ge (r / 64) m)) none some a b
+    pub works-words : (up : Bool) (q m i : ℕ) → m < per count → i ≡ turn up (per count) m → Works count B W n (FirstWords up q m) T T′ D D′ x → Works count B W n (InWord q i) T′ T″ D′ D″ y
+        → Works count B W n (FirstWords up q (m + 1)) T T″ D D″ z
+    works-words up q m i l is a b =
+        works-then (FirstWords up q m) (InWord q i) (FirstWords up q (m + 1)) z
+        (λ r p h k. ⊎-elim (λ g. inl (k .0, g)) (λ g. inr (k .0, turn-back up (per count) m (r / 64) l (omega arith) (omega (arith, k .1)) ∙ sym is)) (lt-or-ge (turn up (per count) (r / 64)) m)) none some a b
 
     pub works-columns : (m : ℕ) → Works count B W n (FirstColumns m) T T′ D D′ x → Works count B W n (InColumn m) T′ T″ D′ D″ y → Works count B W n (FirstColumns (m + 1)) T T″ D D″ z
     works-columns m a b =

@@ -1,8 +1,9 @@
 -- What visits to items one after another do: a word of the list, the items of a word of ticks, and a whole round. Assumes nothing.
 -- n is how many words a row has for each value, B the rows' words, W the window, T the table and D the list before, T′ and D′ after.
 use mathlib.Core.Path.{_≡_}
+use mathlib.Core.Bool.{Bool, true, false}
 use mathlib.Core.List.{List}
-use Prim.Native.Nat.{ℕ, _/_, _<_}
+use Prim.Native.Nat.{ℕ, _-_, _/_, _<_}
 use lib.ListN.{length, getD}
 use Rattle.tilco.specs.Inference.{Program, Mark, Derives}
 use Rattle.tilco.specs.Table.{Stands}
@@ -44,3 +45,8 @@ InColumn q r p = p ≡ q
 
 abbrev pub InWord : ℕ → ℕ → ℕ → ℕ → Type 0
 InWord q i r p = (p ≡ q) × (r / 64 ≡ i)
+
+-- The i-th of m words from below or, going down, from above.
+abbrev pub turn : Bool → ℕ → ℕ → ℕ
+turn true m i = i
+turn false m i = m - 1 - i

@@ -13,7 +13,7 @@ ghost use Rattle.marking.specs.Moves.{Sized};
 ghost use Rattle.closing.specs.Closes.{ClosesAll};
 ghost use Rattle.work_list.specs.Items.{per, Roomy, Done};
 ghost use Rattle.visiting.specs.Visits.{Visits};
-ghost use Rattle.closing.specs.Rounds.{Works, Taken, InWord, InColumn, AnyItem};
+ghost use Rattle.closing.specs.Rounds.{Works, Taken, InWord, InColumn, AnyItem, turn};
 ghost use Rattle.work_list.specs.Links.{Linked};
 
 // Clears bit k, which is set, of word j of the list.
@@ -130,8 +130,20 @@ fn work_word(
     changed
 }
 
-// Visits the items of word q.
+// The i-th of m words from below or, if not `up`, from above.
+fn turned(up: bool, m: usize, i: usize) -> usize
+    requires { ⌜ i < m ⌝ }
+    ensures { λ r. ⌜ r ≡ turn up m i ⌝ }
+{
+    if up {
+        return i;
+    }
+    m - 1 - i
+}
+
+// Visits the items of word q, in its words of the list from below or, if not `up`, from above.
 fn work_column(
+    up: bool,
     rows: &[u64],
     count: usize,
     q: usize,
@@ -154,7 +166,8 @@ fn work_column(
     let mut changed: u64 = 0;
     let mut i: usize = 0;
     while i < stride {
-        let c = work_word(rows, count, i, q, n, window, heads, nexts, todo, marks);
+        let j = turned(up, stride, i);
+        let c = work_word(rows, count, j, q, n, window, heads, nexts, todo, marks);
         if c != 0 {
             changed = 1;
         }
@@ -163,8 +176,9 @@ fn work_column(
     changed
 }
 
-// Visits the items of every word.
+// Visits the items of every word; `up` is as in `work_column`.
 fn work_round(
+    up: bool,
     rows: &[u64],
     count: usize,
     n: usize,
@@ -184,7 +198,7 @@ fn work_round(
     let mut changed: u64 = 0;
     let mut q: usize = 0;
     while q < n {
-        let c = work_column(rows, count, q, n, window, heads, nexts, todo, marks);
+        let c = work_column(up, rows, count, q, n, window, heads, nexts, todo, marks);
         if c != 0 {
             changed = 1;
         }
@@ -193,7 +207,8 @@ fn work_round(
     changed
 }
 
-// Rounds until one changes nothing: it leaves the list empty, so every row is settled in every word.
+// Rounds until one changes nothing: it leaves the list empty, so every row is settled in every word. They go up and down in turn: what
+// goes down from the tops meets so what goes up from the readings.
 fn work_off(
     rows: &[u64],
     count: usize,
@@ -212,8 +227,10 @@ fn work_off(
     ensures { λ _. ⌜ ClosesAll count (now (rows .entry)) window n (now (marks .entry)) (now (marks .exit)) ⌝ }
 {
     let mut go: u64 = 1;
+    let mut up = false;
     while go != 0 {
-        go = work_round(rows, count, n, window, heads, nexts, todo, marks);
+        up = !up;
+        go = work_round(up, rows, count, n, window, heads, nexts, todo, marks);
     }
 }
 

@@ -12,10 +12,10 @@ use Rattle.closing.proofs.rounds.work_off.Statement.{statement}
 use Rattle.closing.proofs.rounds.work_off.Tie as tie
 
 abbrev Inv-loop : tie.InvT-loop
-Inv-loop rows count n window heads nexts todo₀ marks₀ go₀ todo marks go = Small 64 marks × (length todo ≡ length todo₀) × Toward count rows window n marks₀ marks todo go
+Inv-loop rows count n window heads nexts todo₀ marks₀ go₀ up₀ todo marks go up = Small 64 marks × (length todo ≡ length todo₀) × Toward count rows window n marks₀ marks todo go
 
 abbrev μ-loop : tie.MeasureT-loop
-μ-loop rows count n window heads nexts todo₀ marks₀ go₀ todo marks go = room marks + min go 1
+μ-loop rows count n window heads nexts todo₀ marks₀ go₀ up₀ todo marks go up = room marks + min go 1
 
 loop-holds : tie.Need-loop-holds Inv-loop μ-loop
 loop-holds c =

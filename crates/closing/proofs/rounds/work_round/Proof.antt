@@ -10,10 +10,10 @@ use Rattle.closing.proofs.rounds.work_round.Statement.{statement}
 use Rattle.closing.proofs.rounds.work_round.Tie as tie
 
 abbrev Inv-loop : tie.InvT-loop
-Inv-loop rows count n window heads nexts todo₀ marks₀ changed₀ q₀ todo marks changed q = (q ≤ n) × Works count rows window n (FirstColumns count rows window n q) marks₀ marks todo₀ todo changed
+Inv-loop up rows count n window heads nexts todo₀ marks₀ changed₀ q₀ todo marks changed q = (q ≤ n) × Works count rows window n (FirstColumns count rows window n q) marks₀ marks todo₀ todo changed
 
 abbrev μ-loop : tie.MeasureT-loop
-μ-loop rows count n window heads nexts todo₀ marks₀ changed₀ q₀ todo marks changed q = n - q
+μ-loop up rows count n window heads nexts todo₀ marks₀ changed₀ q₀ todo marks changed q = n - q
 
 loop-holds : tie.Need-loop-holds Inv-loop μ-loop
 loop-holds c = (omega arith, works-none _ _ _ _ _ _ _ (λ r p z. absurd (omega (arith, z))))
