@@ -1,9 +1,10 @@
--- A row that clashes (01, "The inference rules"). Assumes nothing.
-use mathlib.Core.Bool.{true, false}
+-- A clash in a word of ticks (01, "The inference rules"). Assumes nothing.
+use mathlib.Core.Path.{_≡_}
 use mathlib.Core.List.{List}
-use Prim.Native.Nat.{ℕ}
-use Rattle.marking.specs.Gains.{Both}
+use Prim.Native.Nat.{ℕ, _/_}
+use Rattle.tilco.specs.Inference.{Clash}
+use Rattle.tilco.specs.Table.{Stands}
 
--- Row r has both marks at one tick.
-abbrev pub ClashAt : ℕ → List ℕ → ℕ → Type 0
-ClashAt n T r = (t : ℕ) × Both n T r true r false t
+-- A row has both marks at one tick of word q.
+abbrev pub ClashIn : ℕ → List ℕ → ℕ → Type 0
+ClashIn n T q = (c : Clash (Stands n T)) × (c .tick / 64 ≡ q)

@@ -8,8 +8,7 @@ ghost use Prim.Native.Nat.{_*_, _^_, _<_, _≤_};
 ghost use lib.ListN.{length};
 ghost use Rattle.tilco.specs.Inference.{Clash};
 ghost use Rattle.tilco.specs.Table.{words, Stands, Inside, facts};
-ghost use Rattle.marking.specs.Gains.{HasRow};
-ghost use Rattle.telling.specs.Clashes.{ClashAt};
+ghost use Rattle.telling.specs.Clashes.{ClashIn};
 
 // The facts of the first k rows, counted from their words.
 pub fn count_facts(marks: &[u64], n: usize, k: usize) -> usize
@@ -26,19 +25,19 @@ pub fn count_facts(marks: &[u64], n: usize, k: usize) -> usize
     sum
 }
 
-// Has the row both marks at one tick?
-fn row_clashes(marks: &[u64], n: usize, row: usize) -> bool
-    requires { ⌜ HasRow n (now marks) row ⌝ }
-    ensures { λ v. ⌜ (v ≡ true) ↔ ClashAt n (now (marks .entry)) row ⌝ }
+// Has one of the table's rows both marks at one tick of word q?
+fn column_clashes(marks: &[u64], count: usize, n: usize, q: usize) -> bool
+    requires { ⌜ (q < n) × (length (now marks) ≡ 2 * count * n) ⌝ }
+    ensures { λ v. ⌜ (v ≡ true) ↔ ClashIn n (now (marks .entry)) q ⌝ }
 {
-    let mut q: usize = 0;
-    while q < n {
+    let mut row: usize = 0;
+    while row < count {
         let yes = word_at(marks, n, q, row, true);
         let no = word_at(marks, n, q, row, false);
         if yes & no != 0 {
             return true;
         }
-        q += 1;
+        row += 1;
     }
     false
 }
@@ -48,13 +47,13 @@ pub fn clash_in(marks: &[u64], count: usize, n: usize) -> bool
     requires { ⌜ length (now marks) ≡ 2 * count * n ⌝ }
     ensures { λ v. ⌜ (v ≡ true) ↔ Clash (Stands n (now (marks .entry))) ⌝ }
 {
-    let mut row: usize = 0;
-    while row < count {
-        let hit = row_clashes(marks, n, row);
+    let mut q: usize = 0;
+    while q < n {
+        let hit = column_clashes(marks, count, n, q);
         if hit {
             return true;
         }
-        row += 1;
+        q += 1;
     }
     false
 }
