@@ -2,6 +2,7 @@
 pub mod Local
 pub mod Taking
 pub mod Working
+pub mod Leaving
 pub mod Finishing
 pub mod Crowning
 pub mod Outcomes

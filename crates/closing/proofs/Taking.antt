@@ -2,7 +2,7 @@
 -- Assumes nothing.
 use mathlib.Core.Path.{_≡_, refl, sym, ap, _∙_, subst}
 use mathlib.Core.List.{List}
-use mathlib.Core.Logic.{⊎-elim}
+use mathlib.Core.Logic.{inl, inr, ⊎-elim}
 use Prim.Native.Nat.{ℕ, suc, _+_, _-_, _*_, _/_, _%_, _^_, _≤_, _<_}
 use native.Mathlib.Decide.{ℕ-discrete}
 use native.Mathlib.Nat.{le-refl, mod-eq-sub-mod, div-eq-sub-div}
@@ -17,10 +17,10 @@ use Rattle.rows.specs.Words.{rowAt}
 use Rattle.tilco.specs.Inference.{signal, Program, node, start}
 use Rattle.tilco.specs.Table.{Stands, Inside}
 use Rattle.marking.specs.Codes.{Codes, Coded}
-use Rattle.marking.specs.Settled.{SettledIn}
-use Rattle.work_list.specs.Items.{per, ToDo, Done}
-use Rattle.visiting.specs.Visits.{Visited, Visits}
-use Rattle.closing.specs.Rounds.{Worked, Taken, NoItem}
+use Rattle.marking.specs.Settled.{SettledIn, Rests}
+use Rattle.work_list.specs.Items.{per, ToDo}
+use Rattle.visiting.specs.Visits.{Late, Visited, Visits}
+use Rattle.closing.specs.Rounds.{DoneBut, Stretch, Only, Either, Taken, NoItem}
 use Rattle.closing.proofs.Local.{settled-local}
 
 -- ---- a bit of a word cleared
@@ -93,7 +93,7 @@ module _ (count : ℕ) (D : List ℕ) (i k q : ℕ) (l : i < per count) (m : k <
 -- ---- a visit
 
 -- A visit where there is no row does nothing.
-pub visits-none : (count : ℕ) (B : List ℕ) (r q W n : ℕ) (T D : List ℕ) → count ≤ r → Visits count B r q W n T T D D 0
+pub visits-none : (count : ℕ) (B : List ℕ) (r q W n : ℕ) (T D : List ℕ) → count ≤ r → Visits count B r q W n T T D D 0 count
 visits-none count B r q W n T D h P c inside = record {
   size = refl;
   grows = λ m i. i;
@@ -101,13 +101,13 @@ visits-none count B r q W n T D h P c inside = record {
   still = λ e. (refl, refl);
   moved = λ l. absurd (omega arith);
   settled = let e : node P r ≡ signal = List·getD-eq-default (P .rows) signal (omega (arith, c .rows-are)) in subst (SettledIn q W (Stands n T) r) (sym e) tt;
-  heeds = record { size = refl; kept = λ x p a b i. i; noted = λ x p a b f y s g t v e i. i };
+  heeds = record { size = refl; kept = λ x p a b i. i; noted = λ x p a b f y s g o t v e i. i };
 }
 
 -- The item is on the list after the visit too.
-pub kept-bit : (count : ℕ) (B : List ℕ) (W n i k q : ℕ) (T T′ D D₁ : List ℕ) (changed : ℕ) → q < n → i < per count → k < 64 → Coded count B → Inside W (Stands n T)
-    → Visits count B (64 * i + k) q W n T T′ D D₁ changed → (count ≤ 64 * i + k → D₁ ≡ D) → Has (getD D (q * per count + i) 0) k → Has (getD D₁ (q * per count + i) 0) k
-kept-bit count B W n i k q T T′ D D₁ changed l h b c w f past has = ⊎-elim row none (lt-or-ge (64 * i + k) count)
+pub kept-bit : (count : ℕ) (B : List ℕ) (W n i k q : ℕ) (T T′ D D₁ : List ℕ) (changed late : ℕ) → q < n → i < per count → k < 64 → Coded count B → Inside W (Stands n T)
+    → Visits count B (64 * i + k) q W n T T′ D D₁ changed late → (count ≤ 64 * i + k → D₁ ≡ D) → Has (getD D (q * per count + i) 0) k → Has (getD D₁ (q * per count + i) 0) k
+kept-bit count B W n i k q T T′ D D₁ changed late l h b c w f past has = ⊎-elim row none (lt-or-ge (64 * i + k) count)
   where
     word : (64 * i + k) / 64 ≡ i
     word = omega arith
@@ -122,17 +122,23 @@ kept-bit count B W n i k q T T′ D D₁ changed l h b c w f past has = ⊎-elim
     none : count ≤ 64 * i + k → Has (getD D₁ (q * per count + i) 0) k
     none g = subst (λ (X : List ℕ). Has (getD X (q * per count + i) 0) k) (sym (past g)) has
 
-module _ (count : ℕ) (B : List ℕ) (W n i k q : ℕ) (T T′ D D₁ D′ : List ℕ) (changed : ℕ) (l : i < per count) (m : k < 64)
+module _ (count : ℕ) (B : List ℕ) (W n i k q : ℕ) (T T′ D D₁ D′ : List ℕ) (changed late : ℕ) (l : i < per count) (m : k < 64)
     (inside : q * per count + i < length D₁) (has : Has (getD D₁ (q * per count + i) 0) k)
     (is : D′ ≡ set D₁ (q * per count + i) (getD D₁ (q * per count + i) 0 - 2 ^ k)) where
   -- An item that is not on the list at the end was not on it before, or was this one.
-  module _ (P : Program) (c : Codes P count B) (v : Visited count B n P W (64 * i + k) q T T′ D D₁ changed) (done : Done count B W n T D) where
-    still-settled : (r p : ℕ) → r < count → p < n → (ToDo count D₁ r p → ⊥) → SettledIn p W (Stands n T′) r (rowAt B r)
-    still-settled r p h b f =
-        settled-local n W T T′ (v .grows) r p (rowAt B r) (v .heeds .noted r p h b f) (done r p h b (λ t. f (v .heeds .kept r p h b t)))
+  module _ (P : Program) (c : Codes P count B) (v : Visited count B n P W (64 * i + k) q T T′ D D₁ changed late) (before : ℕ) (done : DoneBut (Only before) q count B W n T D) where
+    -- Item (r, p) rests on word q of none of the rows left to note.
+    abbrev Free : ℕ → ℕ → Type 0
+    Free r p = (x : ℕ) → Either before late x → Rests (rowAt B r) r p x q → ⊥
 
-    done-after : Done count B W n T′ D′
-    done-after r p h b f = go (ℕ-discrete r (64 * i + k)) (ℕ-discrete p q)
+    still-settled : (r p : ℕ) → r < count → p < n → (ToDo count D₁ r p → ⊥) → Free r p → SettledIn p W (Stands n T′) r (rowAt B r)
+    still-settled r p h b f o =
+        settled-local n W T T′ (v .grows) r p (rowAt B r)
+        (λ x s g. v .heeds .noted r p h b f x s g (λ d e. o x (inr d) (subst (λ (w : ℕ). Rests (rowAt B r) r p x w) e g)))
+        (done r p h b (λ t. f (v .heeds .kept r p h b t)) (λ x d. o x (inl d)))
+
+    done-after : DoneBut (Either before late) q count B W n T′ D′
+    done-after r p h b f o = go (ℕ-discrete r (64 * i + k)) (ℕ-discrete p q)
       where
         gone : (r ≡ 64 * i + k → p ≡ q → ⊥) → ToDo count D₁ r p → ⊥
         gone g t = f (subst (λ (X : List ℕ). ToDo count X r p) (sym is) (others-stay count D₁ i k q l m inside has r p h g t))
@@ -141,12 +147,15 @@ module _ (count : ℕ) (B : List ℕ) (W n i k q : ℕ) (T T′ D D₁ D′ : Li
         go (yes e) (yes g) =
             let s : SettledIn q W (Stands n T′) (64 * i + k) (rowAt B (64 * i + k)) = subst (SettledIn q W (Stands n T′) (64 * i + k)) (c .nodes (64 * i + k)) (v .settled) in
             subst (λ (x : ℕ). SettledIn p W (Stands n T′) x (rowAt B x)) (sym e) (subst (λ (y : ℕ). SettledIn y W (Stands n T′) (64 * i + k) (rowAt B (64 * i + k))) (sym g) s)
-        go (yes e) (no g) = still-settled r p h b (gone (λ a z. g z))
-        go (no e) g = still-settled r p h b (gone (λ a z. e a))
+        go (yes e) (no g) = still-settled r p h b (gone (λ a z. g z)) o
+        go (no e) g = still-settled r p h b (gone (λ a z. e a)) o
 
-  pub taken : length D₁ ≡ length D → Coded count B → Inside W (Stands n T) → Visits count B (64 * i + k) q W n T T′ D D₁ changed → Taken count B W n (q * per count + i) T T′ D D′ changed
-  taken same coded w f = record {
-    works = record { long = ap length is ∙ length-set D₁ (q * per count + i) (getD D₁ (q * per count + i) 0 - 2 ^ k) ∙ same; each = each };
+  pub taken : length D₁ ≡ length D → Coded count B → Inside W (Stands n T) → Visits count B (64 * i + k) q W n T T′ D D₁ changed late → Late count changed late
+      → Taken count B W n q (q * per count + i) T T′ D D′ changed late
+  taken same coded w f handed = record {
+    long = ap length is ∙ length-set D₁ (q * per count + i) (getD D₁ (q * per count + i) 0 - 2 ^ k) ∙ same;
+    each = each;
+    row = handed;
     less = λ e. subst (λ (X : List ℕ). getD X (q * per count + i) 0 < getD D (q * per count + i) 0) (sym is)
         (subst (λ (X : List ℕ). getD (without count D₁ i k q l m inside has) (q * per count + i) 0 < getD X (q * per count + i) 0) (stays e) (word-falls count D₁ i k q l m inside has));
   }
@@ -154,8 +163,9 @@ module _ (count : ℕ) (B : List ℕ) (W n i k q : ℕ) (T T′ D D₁ D′ : Li
       stays : changed ≡ 0 → D₁ ≡ D
       stays e = f (coded .program) (coded .codes) w .still e .1
 
-      each : (P : Program) → Codes P count B → Worked count B n P W NoItem T T′ D D′ changed
-      each P c =
+      each : (P : Program) → Codes P count B → (before : ℕ)
+          → Stretch (DoneBut (Only before) q count B W n) (DoneBut (Either before late) q count B W n) count n P W NoItem T T′ D D′ changed
+      each P c before =
           let v = f P c w in
           record {
             size = v .size;
@@ -164,5 +174,5 @@ module _ (count : ℕ) (B : List ℕ) (W n i k q : ℕ) (T T′ D D₁ D′ : Li
             moved = v .moved;
             still = λ e. v .still e .0;
             left = λ e r p h b t. (subst (λ (X : List ℕ). ToDo count X r p) (stays e) (none-new count D₁ i k q l m inside has r p (subst (λ (X : List ℕ). ToDo count X r p) is t)), λ z. z);
-            rests = done-after P c v;
+            rests = done-after P c v before;
           }

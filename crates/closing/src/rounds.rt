@@ -1,7 +1,9 @@
 // Closes a table: items of the list are visited, word of ticks by word of ticks, until a round over all of them changes nothing.
 // Assumes that the words are a program's rows, that the table has them, and that no mark is outside the window.
+use visiting::Outcome;
 use visiting::visit;
 use work_list::items::start;
+use work_list::items::touch;
 use work_list::links::link_rows;
 ghost use mathlib.Core.Path.{_≡_};
 ghost use Prim.Native.Nat.{_+_, _-_, _*_, _/_, _^_, _<_, _≤_};
@@ -12,8 +14,8 @@ ghost use Rattle.marking.specs.Codes.{Coded};
 ghost use Rattle.marking.specs.Moves.{Sized};
 ghost use Rattle.closing.specs.Closes.{ClosesAll};
 ghost use Rattle.work_list.specs.Items.{per, Roomy, Done};
-ghost use Rattle.visiting.specs.Visits.{Visits};
-ghost use Rattle.closing.specs.Rounds.{Works, Taken, InWord, InColumn, AnyItem, turn};
+ghost use Rattle.visiting.specs.Visits.{Late, Visits};
+ghost use Rattle.closing.specs.Rounds.{Works, Taken, Replaced, InWord, InColumn, AnyItem, turn};
 ghost use Rattle.work_list.specs.Links.{Linked};
 
 // Clears bit k, which is set, of word j of the list.
@@ -37,17 +39,21 @@ fn visit_row(
     nexts: &[u16],
     todo: &mut [u64],
     marks: &mut [u64],
-) -> u64
+) -> Outcome
     requires { ⌜ Coded count (now rows) ⌝ }
     requires { ⌜ q < n ⌝ }
     requires { ⌜ Linked count (now rows) (now heads) (now nexts) ⌝ }
     requires { ⌜ Roomy count n (now todo) ⌝ }
     requires { ⌜ Sized n count window (now marks) ⌝ }
-    ensures { λ changed. ⌜ Visits count (now (rows .entry)) row q window n (now (marks .entry)) (now (marks .exit)) (now (todo .entry)) (now (todo .exit)) changed ⌝ }
+    ensures { λ v. ⌜ Visits count (now (rows .entry)) row q window n (now (marks .entry)) (now (marks .exit)) (now (todo .entry)) (now (todo .exit)) (v .changed) (v .late) ⌝ }
+    ensures { λ v. ⌜ Late count (v .changed) (v .late) ⌝ }
     ensures { λ _. ⌜ (count ≤ row → now (todo .exit) ≡ now (todo .entry)) ⌝ }
 {
     if count <= row {
-        return 0;
+        return Outcome {
+            changed: 0,
+            late: count,
+        };
     }
     visit(rows, count, row, q, n, window, heads, nexts, todo, marks)
 }
@@ -65,21 +71,48 @@ fn take_item(
     nexts: &[u16],
     todo: &mut [u64],
     marks: &mut [u64],
-) -> u64
+) -> Outcome
     requires { ⌜ Coded count (now rows) ⌝ }
     requires { ⌜ (q < n) × (i < per count) × (k < 64) × Has (getD (now todo) (q * per count + i) 0) k ⌝ }
     requires { ⌜ Linked count (now rows) (now heads) (now nexts) ⌝ }
     requires { ⌜ Roomy count n (now todo) ⌝ }
     requires { ⌜ Sized n count window (now marks) ⌝ }
     requires { ⌜ Inside window (Stands n (now marks)) ⌝ }
-    ensures { λ changed. ⌜ Taken count (now (rows .entry)) window n (q * per count + i) (now (marks .entry)) (now (marks .exit)) (now (todo .entry)) (now (todo .exit)) changed ⌝ }
+    ensures { λ v. ⌜ Taken count (now (rows .entry)) window n q (q * per count + i) (now (marks .entry)) (now (marks .exit)) (now (todo .entry)) (now (todo .exit)) (v .changed) (v .late) ⌝ }
 {
     let stride = (count + 63) / 64;
     let j = q * stride + i;
     let row = 64 * i + (k as usize);
-    let changed = visit_row(rows, count, row, q, n, window, heads, nexts, todo, marks);
+    let v = visit_row(rows, count, row, q, n, window, heads, nexts, todo, marks);
     clear_bit(todo, j, k);
-    changed
+    v
+}
+
+// The row `next` takes the place of the row `late`, which is noted in word q if it is another one and a row of the program.
+fn replace_late(
+    rows: &[u64],
+    count: usize,
+    n: usize,
+    q: usize,
+    late: usize,
+    next: usize,
+    heads: &[u16],
+    nexts: &[u16],
+    todo: &mut [u64],
+)
+    requires { ⌜ Coded count (now rows) ⌝ }
+    requires { ⌜ (q < n) × (late ≤ count) ⌝ }
+    requires { ⌜ Linked count (now rows) (now heads) (now nexts) ⌝ }
+    requires { ⌜ Roomy count n (now todo) ⌝ }
+    ensures { λ _. ⌜ Replaced count (now (rows .entry)) n q late next (now (todo .entry)) (now (todo .exit)) ⌝ }
+{
+    if late == next {
+        return;
+    }
+    if late == count {
+        return;
+    }
+    touch(rows, count, n, q, late, heads, nexts, todo);
 }
 
 // The first set bit of a word from bit `from` on; if there is none, its first at all.
@@ -94,7 +127,8 @@ fn next_bit(word: u64, from: u64) -> u64
     from + u64::trailing_zeros(rest) as u64
 }
 
-// Visits the items of word q in its i-th word of the list, round and round, until none is left there.
+// Visits the items of word q in its i-th word of the list, round and round, until none is left there. Looks at one child, visited one after
+// another, leave the child to note: it is noted once, where a visit leaves another row or none, or at the end.
 fn work_word(
     rows: &[u64],
     count: usize,
@@ -119,14 +153,18 @@ fn work_word(
     let j = q * stride + i;
     let mut changed: u64 = 0;
     let mut from: u64 = 0;
+    let mut late = count;
     while todo[j] != 0 {
         let k = next_bit(todo[j], from);
         from = (k + 1) % 64;
-        let c = take_item(rows, count, i, k, q, n, window, heads, nexts, todo, marks);
-        if c != 0 {
+        let v = take_item(rows, count, i, k, q, n, window, heads, nexts, todo, marks);
+        if v.changed != 0 {
             changed = 1;
+            replace_late(rows, count, n, q, late, v.late, heads, nexts, todo);
+            late = v.late;
         }
     }
+    replace_late(rows, count, n, q, late, count, heads, nexts, todo);
     changed
 }
 

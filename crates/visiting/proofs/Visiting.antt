@@ -2,19 +2,19 @@
 use mathlib.Core.Path.{_≡_, refl, sym, _∙_, subst}
 use mathlib.Core.Bool.{Bool}
 use mathlib.Core.List.{List}
-use mathlib.Core.Logic.{_⊎_, ⊎-elim}
+use mathlib.Core.Logic.{_⊎_, inl, inr, ⊎-elim}
 use Prim.Native.Nat.{ℕ, _+_, _/_, _≤_, _<_}
 use native.Mathlib.Omega.{arith}
-use lib.Dec.{eqb}
+use Rattle.ticks.proofs.Bits.{lt-or-ge}
 use Rattle.rows.specs.Words.{rowAt, unpacked}
-use Rattle.tilco.specs.Inference.{Node, signal, notOf, gate, mark, Marks, _or_}
+use Rattle.tilco.specs.Inference.{Node, signal, notOf, mark, Marks, _or_}
 use Rattle.tilco.specs.Table.{Stands}
 use Rattle.marking.specs.Settled.{SettledIn, Rests}
-use Rattle.marking.specs.Moves.{Wrote, WroteBefore, ByNode}
+use Rattle.marking.specs.Moves.{Wrote, WroteBefore, LookWrote, ByNode}
 use Rattle.marking.proofs.Moving.{idle}
 use Rattle.marking.proofs.Decoding.{kind, left, right, past, node-as}
 use Rattle.work_list.specs.Items.{Noted, Touched}
-use Rattle.visiting.specs.Visits.{Visits, Notes, VisitsBy}
+use Rattle.visiting.specs.Visits.{Late, Visits, Notes, VisitsBy}
 
 -- No mark.
 abbrev None : Marks
@@ -47,43 +47,60 @@ module _ (count : ℕ) (B : List ℕ) (n : ℕ) where
     still = λ e. g .still (omega arith) ∙ f .still (omega arith);
   }
 
-  -- The rules' promise and the list's together.
-  pub visits-by : (d : Node) (r q W : ℕ) (A : Marks) (T T′ D D′ : List ℕ) (x y : ℕ)
-      → ByNode d r A (λ S. SettledIn q W S r d) W n T T′ x → Notes count B n A D D′ y → x ≡ y → VisitsBy d count B r q W n T T′ D D′ x
-  visits-by d r q W A T T′ D D′ x y f k z P e inside =
+  -- The rules' promise and the list's together: what is new is noted, or is in word q of the row `late`.
+  pub visits-by : (d : Node) (r q W : ℕ) (A C : Marks) (T T′ D D′ : List ℕ) (x y late : ℕ)
+      → ByNode d r A (λ S. SettledIn q W S r d) W n T T′ x → Notes count B n C D D′ y → (x ≡ 0 → y ≡ 0)
+      → ((z t : ℕ) (v : Bool) → A (mark z t v) → ((z ≡ late) × (t / 64 ≡ q)) ⊎ C (mark z t v)) → VisitsBy d count B r q W n T T′ D D′ x late
+  visits-by d r q W A C T T′ D D′ x y late f k z among P e inside =
       let m = f P e inside in
       record {
         size = m .0 .size;
         grows = m .0 .grows;
         sound = m .0 .sound;
-        still = λ g. (m .0 .still g, k .still (omega arith));
+        still = λ g. (m .0 .still g, k .still (z g));
         moved = m .0 .moved;
         settled = subst (SettledIn q W (Stands n T′) r) (sym e) (m .1);
         heeds = record {
           size = k .size;
           kept = k .kept;
-          noted = λ s p l h off y u rests t v g i. ⊎-elim (λ j. j)
-              (λ a. absurd (off (k .noted y t v a s p l h (subst (λ (w : ℕ). Rests (rowAt B s) s p y w) (sym g) rests)))) (m .0 .only (mark y t v) i);
+          noted = λ s p l h off y u rests other t v g i. ⊎-elim (λ j. j)
+              (λ a. ⊎-elim (λ b. absurd (other (b .0) (sym g ∙ b .1)))
+              (λ b. absurd (off (k .noted y t v b s p l h (subst (λ (w : ℕ). Rests (rowAt B s) s p y w) (sym g) rests)))) (among y t v a)) (m .0 .only (mark y t v) i);
         };
       }
 
+  -- All that is new is noted.
+  pub visits-noted : (d : Node) (r q W : ℕ) (A : Marks) (T T′ D D′ : List ℕ) (x y : ℕ)
+      → ByNode d r A (λ S. SettledIn q W S r d) W n T T′ x → Notes count B n A D D′ y → x ≡ y → VisitsBy d count B r q W n T T′ D D′ x count
+  visits-noted d r q W A T T′ D D′ x y f k e = visits-by d r q W A A T T′ D D′ x y count f k (λ z. omega arith) (λ z t v a. inr a)
+
   -- A visit by the kind in the row's word.
-  module _ (r q W : ℕ) (T T′ D D′ : List ℕ) (x : ℕ) where
-    pub visits-as : (k : ℕ) → kind count B r ≡ k → VisitsBy (unpacked k (left count B r) (right count B r)) count B r q W n T T′ D D′ x → Visits count B r q W n T T′ D D′ x
+  module _ (r q W : ℕ) (T T′ D D′ : List ℕ) (x late : ℕ) where
+    pub visits-as : (k : ℕ) → kind count B r ≡ k → VisitsBy (unpacked k (left count B r) (right count B r)) count B r q W n T T′ D D′ x late
+        → Visits count B r q W n T T′ D D′ x late
     visits-as k e f P c inside = f P (node-as count B r k e P c) inside
 
-    pub visits-gate : (kind count B r ≡ 1) ⊎ (kind count B r ≡ 2) → VisitsBy (gate (eqb (kind count B r) 1) (left count B r) (right count B r)) count B r q W n T T′ D D′ x
-        → Visits count B r q W n T T′ D D′ x
-    visits-gate k f = ⊎-elim (λ e. visits-as 1 e (by e)) (λ e. visits-as 2 e (by e)) k
-      where
-        by : {z : ℕ} → kind count B r ≡ z → VisitsBy (gate (eqb z 1) (left count B r) (right count B r)) count B r q W n T T′ D D′ x
-        by e = subst (λ (z : ℕ). VisitsBy (gate (eqb z 1) (left count B r) (right count B r)) count B r q W n T T′ D D′ x) e f
-
-    pub visits-not : 4 ≤ kind count B r → VisitsBy (notOf (left count B r)) count B r q W n T T′ D D′ x → Visits count B r q W n T T′ D D′ x
+    pub visits-not : 4 ≤ kind count B r → VisitsBy (notOf (left count B r)) count B r q W n T T′ D D′ x late → Visits count B r q W n T T′ D D′ x late
     visits-not h f = visits-as (past count B r) (omega arith) f
 
   -- A signal's row has no rules.
-  pub visits-signal : (r q W : ℕ) (T D : List ℕ) → kind count B r ≡ 0 → Visits count B r q W n T T D D 0
+  pub visits-signal : (r q W : ℕ) (T D : List ℕ) → kind count B r ≡ 0 → Visits count B r q W n T T D D 0 count
   visits-signal r q W T D e =
-      visits-as r q W T T D D 0 0 e
-      (visits-by signal r q W None T T D D 0 0 (λ P g i. (idle n P W None T, tt)) (notes-none D) refl)
+      visits-as r q W T T D D 0 count 0 e
+      (visits-noted signal r q W None T T D D 0 0 (λ P g i. (idle n P W None T, tt)) (notes-none D) refl)
+
+-- ---- the row that is left to note
+
+-- None is.
+pub late-none : (count changed : ℕ) → Late count changed count
+late-none count changed = record { most = omega arith; none = λ e. refl }
+
+-- A row that is told to have changed.
+pub late-told : (count x told changed late : ℕ) → x < count → (0 < told → late ≡ x) → (told ≡ 0 → late ≡ count) → (changed ≡ 0 → told ≡ 0) → Late count changed late
+late-told count x told changed late l some none f =
+    record { most = ⊎-elim (λ h. omega (arith, some h)) (λ h. omega (arith, none (omega arith))) (lt-or-ge 0 told); none = λ e. none (f e) }
+
+-- A look's marks: its child's in word q, where the child is left to note, and its own, which are noted.
+pub look-among : (r k c q child before after late z t : ℕ) (v : Bool) → (0 < child → late ≡ c) → LookWrote r k c q child before after (mark z t v)
+    → ((z ≡ late) × (t / 64 ≡ q)) ⊎ (_or_ (WroteBefore r (k / 64) q before) (WroteBefore r (k / 64) (q + 1) after)) (mark z t v)
+look-among r k c q child before after late z t v some = ⊎-elim (λ a. inl (a .0 ∙ sym (some (a .2)), a .1)) inr

@@ -1,4 +1,5 @@
 // A visit to an item of work: the rules of a row at a word of ticks, and every item that rests on a word that they changed put on the list.
+// What a look changed in its child's word is left to the caller, who notes once what several looks at one child changed.
 // Assumes that the words are a program's rows, that the lists of parents are theirs, and that the table and the list of work have them.
 use marking::steps::gate_step;
 use marking::steps::look_step;
@@ -13,7 +14,13 @@ ghost use Rattle.marking.specs.Gains.{HasRow};
 ghost use Rattle.marking.specs.Moves.{WroteBefore, Sized};
 ghost use Rattle.work_list.specs.Links.{Linked};
 ghost use Rattle.work_list.specs.Items.{Roomy};
-ghost use Rattle.visiting.specs.Visits.{Visits, Notes, VisitsBy};
+ghost use Rattle.visiting.specs.Visits.{Late, Visits, Notes, VisitsBy};
+
+// Whether a visit changed the table, 0 if not; and the row whose word it changed and did not note, the number of rows if there is none.
+pub struct Outcome {
+    pub changed: u64,
+    pub late: usize,
+}
 
 // Row x's word e - back, if it is told that it changed: every item that rests on it is put on the list.
 fn note(
@@ -54,19 +61,24 @@ fn visit_gate(
     nexts: &[u16],
     todo: &mut [u64],
     marks: &mut [u64],
-) -> u64
+) -> Outcome
     requires { ⌜ Coded count (now rows) ⌝ }
     requires { ⌜ row < count ⌝ }
     requires { ⌜ (q < n) × HasRow n (now marks) row × HasRow n (now marks) a × HasRow n (now marks) b × (a < row) × (b < row) ⌝ }
     requires { ⌜ Linked count (now rows) (now heads) (now nexts) ⌝ }
     requires { ⌜ Roomy count n (now todo) ⌝ }
-    ensures { λ changed. ⌜ ((W : ℕ) → VisitsBy (gate u a b) count (now (rows .entry)) row q W n (now (marks .entry)) (now (marks .exit)) (now (todo .entry)) (now (todo .exit)) changed) ⌝ }
+    ensures { λ v. ⌜ ((W : ℕ) → VisitsBy (gate u a b) count (now (rows .entry)) row q W n (now (marks .entry)) (now (marks .exit)) (now (todo .entry)) (now (todo .exit)) (v .changed) (v .late)) ⌝ }
+    ensures { λ v. ⌜ Late count (v .changed) (v .late) ⌝ }
 {
     let c = gate_step(marks, n, q, row, a, b, u);
     note(rows, count, n, q, 0, row, c.row, heads, nexts, todo);
     note(rows, count, n, q, 0, a, c.left, heads, nexts, todo);
     note(rows, count, n, q, 0, b, c.right, heads, nexts, todo);
-    c.row + c.left + c.right
+    let changed = c.row + c.left + c.right;
+    Outcome {
+        changed,
+        late: count,
+    }
 }
 
 // A visit to a row that is the opposite of the row x.
@@ -81,18 +93,30 @@ fn visit_not(
     nexts: &[u16],
     todo: &mut [u64],
     marks: &mut [u64],
-) -> u64
+) -> Outcome
     requires { ⌜ Coded count (now rows) ⌝ }
     requires { ⌜ row < count ⌝ }
     requires { ⌜ (q < n) × HasRow n (now marks) row × HasRow n (now marks) x × (x < row) ⌝ }
     requires { ⌜ Linked count (now rows) (now heads) (now nexts) ⌝ }
     requires { ⌜ Roomy count n (now todo) ⌝ }
-    ensures { λ changed. ⌜ ((W : ℕ) → VisitsBy (notOf x) count (now (rows .entry)) row q W n (now (marks .entry)) (now (marks .exit)) (now (todo .entry)) (now (todo .exit)) changed) ⌝ }
+    ensures { λ v. ⌜ ((W : ℕ) → VisitsBy (notOf x) count (now (rows .entry)) row q W n (now (marks .entry)) (now (marks .exit)) (now (todo .entry)) (now (todo .exit)) (v .changed) (v .late)) ⌝ }
+    ensures { λ v. ⌜ Late count (v .changed) (v .late) ⌝ }
 {
     let c = not_step(marks, n, q, row, x);
     note(rows, count, n, q, 0, row, c.row, heads, nexts, todo);
     note(rows, count, n, q, 0, x, c.left, heads, nexts, todo);
-    c.row + c.left
+    let changed = c.row + c.left;
+    Outcome {
+        changed,
+        late: count,
+    }
+}
+
+// Row c, if it is told that it changed, and else none.
+fn left_late(count: usize, c: usize, told: u64) -> usize
+    ensures { λ late. ⌜ (0 < told → late ≡ c) × (told ≡ 0 → late ≡ count) ⌝ }
+{
+    if told == 0 { count } else { c }
 }
 
 // A visit to a row that looks at the row c, for the ticks of the child's word q.
@@ -109,21 +133,23 @@ fn visit_look(
     nexts: &[u16],
     todo: &mut [u64],
     marks: &mut [u64],
-) -> u64
+) -> Outcome
     requires { ⌜ Coded count (now rows) ⌝ }
     requires { ⌜ row < count ⌝ }
     requires { ⌜ (q < n) × HasRow n (now marks) row × HasRow n (now marks) c × (c < row) × (offset ≤ 127) × (n ≡ words window) ⌝ }
     requires { ⌜ Linked count (now rows) (now heads) (now nexts) ⌝ }
     requires { ⌜ Roomy count n (now todo) ⌝ }
-    ensures { λ changed. ⌜ VisitsBy (look offset c) count (now (rows .entry)) row q window n (now (marks .entry)) (now (marks .exit)) (now (todo .entry)) (now (todo .exit)) changed ⌝ }
+    ensures { λ v. ⌜ VisitsBy (look offset c) count (now (rows .entry)) row q window n (now (marks .entry)) (now (marks .exit)) (now (todo .entry)) (now (todo .exit)) (v .changed) (v .late) ⌝ }
+    ensures { λ v. ⌜ Late count (v .changed) (v .late) ⌝ }
 {
     let back = (offset / 64) as usize;
     let next = q + 1;
     let x = look_step(marks, n, q, row, c, offset, window);
-    note(rows, count, n, q, 0, c, x.child, heads, nexts, todo);
     note(rows, count, n, q, back, row, x.before, heads, nexts, todo);
     note(rows, count, n, next, back, row, x.after, heads, nexts, todo);
-    x.child + x.before + x.after
+    let changed = x.child + x.before + x.after;
+    let late = left_late(count, c, x.child);
+    Outcome { changed, late }
 }
 
 // A visit to item (row, q): the rules of the row, by its word, at word q. A signal's row has none.
@@ -138,13 +164,14 @@ pub fn visit(
     nexts: &[u16],
     todo: &mut [u64],
     marks: &mut [u64],
-) -> u64
+) -> Outcome
     requires { ⌜ Coded count (now rows) ⌝ }
     requires { ⌜ (row < count) × (q < n) ⌝ }
     requires { ⌜ Linked count (now rows) (now heads) (now nexts) ⌝ }
     requires { ⌜ Roomy count n (now todo) ⌝ }
     requires { ⌜ Sized n count window (now marks) ⌝ }
-    ensures { λ changed. ⌜ Visits count (now (rows .entry)) row q window n (now (marks .entry)) (now (marks .exit)) (now (todo .entry)) (now (todo .exit)) changed ⌝ }
+    ensures { λ v. ⌜ Visits count (now (rows .entry)) row q window n (now (marks .entry)) (now (marks .exit)) (now (todo .entry)) (now (todo .exit)) (v .changed) (v .late) ⌝ }
+    ensures { λ v. ⌜ Late count (v .changed) (v .late) ⌝ }
 {
     let w = rows[row];
     let kind = w % 8;
@@ -152,8 +179,11 @@ pub fn visit(
     let offset = w / 524288;
     let b = offset as usize;
     match kind {
-        0 => 0,
-        1 | 2 => visit_gate(
+        0 => Outcome {
+            changed: 0,
+            late: count,
+        },
+        1 => visit_gate(
             rows,
             count,
             row,
@@ -161,7 +191,21 @@ pub fn visit(
             n,
             a,
             b,
-            kind == 1,
+            true,
+            heads,
+            nexts,
+            todo,
+            marks,
+        ),
+        2 => visit_gate(
+            rows,
+            count,
+            row,
+            q,
+            n,
+            a,
+            b,
+            false,
             heads,
             nexts,
             todo,

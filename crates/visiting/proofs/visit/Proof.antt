@@ -1,8 +1,9 @@
 -- `visit` meets its contract. Assumes nothing.
 use borrow.Author.Needs.{needs}
 use native.Mathlib.Omega.{arith}
-use Rattle.marking.proofs.Decoding.{one-or-two, gate-asks, look-asks, not-asks}
-use Rattle.visiting.proofs.Visiting.{visits-as, visits-gate, visits-not, visits-signal}
+use mathlib.Core.Logic.{inl, inr}
+use Rattle.marking.proofs.Decoding.{gate-asks, look-asks, not-asks}
+use Rattle.visiting.proofs.Visiting.{visits-as, visits-not, visits-signal, late-none}
 use Rattle.visiting.proofs.visit.Statement.{statement}
 use Rattle.visiting.proofs.visit.Tie as tie
 
@@ -12,23 +13,28 @@ mul-w c = search needs
 shared-slice-read-w : tie.Need-shared-slice-read-w
 shared-slice-read-w c = search needs
 
+visit-gate-requires : tie.Need-visit-gate-requires
+visit-gate-requires c κs =
+    let o = c .before .before .before .before .before .before .before .before .before .pre in
+    (o .0, (o .1 .0 .0, (gate-asks _ _ _ (o .1 .0 .0) _ _ _ _ (o .0) (o .1 .1 .1 .1) (o .1 .0 .1) (inl (c .before .before .match .keys2)), (o .1 .1 .0, o .1 .1 .1 .0))))
+
+visit-gate-requires-2 : tie.Need-visit-gate-requires-2
+visit-gate-requires-2 c κs =
+    let o = c .before .before .before .before .before .before .before .before .before .pre in
+    (o .0, (o .1 .0 .0, (gate-asks _ _ _ (o .1 .0 .0) _ _ _ _ (o .0) (o .1 .1 .1 .1) (o .1 .0 .1) (inr (c .before .before .match .keys3)), (o .1 .1 .0, o .1 .1 .1 .0))))
+
 visit-look-requires : tie.Need-visit-look-requires
 visit-look-requires c κs =
     let o = c .before .before .before .before .before .before .before .before .before .pre in
-    (o .0, (o .1 .0 .0, (look-asks _ _ _ (o .1 .0 .0) _ _ _ _ (o .0) (o .1 .1 .1 .1) (o .1 .0 .1) (c .before .before .match .keys2), (o .1 .1 .0, o .1 .1 .1 .0))))
-
-visit-gate-requires : tie.Need-visit-gate-requires
-visit-gate-requires c κs =
-    let o = c .before .before .before .before .before .before .before .before .before .before .pre in
-    (o .0, (o .1 .0 .0, (gate-asks _ _ _ (o .1 .0 .0) _ _ _ _ (o .0) (o .1 .1 .1 .1) (o .1 .0 .1) (one-or-two _ (omega (arith, c .before .before .before .match .rest)) (omega (arith, c .before .before .if1 .taken))), (o .1 .1 .0, o .1 .1 .1 .0))))
+    (o .0, (o .1 .0 .0, (look-asks _ _ _ (o .1 .0 .0) _ _ _ _ (o .0) (o .1 .1 .1 .1) (o .1 .0 .1) (c .before .before .match .keys4), (o .1 .1 .0, o .1 .1 .1 .0))))
 
 visit-not-requires : tie.Need-visit-not-requires
 visit-not-requires c κs =
-    let o = c .before .before .before .before .before .before .before .before .before .before .pre in
-    (o .0, (o .1 .0 .0, (not-asks _ _ _ (o .1 .0 .0) _ _ _ _ (o .0) (o .1 .1 .1 .1) (o .1 .0 .1) (omega (arith, c .before .before .before .match .rest)), (o .1 .1 .0, o .1 .1 .1 .0))))
+    let o = c .before .before .before .before .before .before .before .before .before .pre in
+    (o .0, (o .1 .0 .0, (not-asks _ _ _ (o .1 .0 .0) _ _ _ _ (o .0) (o .1 .1 .1 .1) (o .1 .0 .1) (omega (arith, c .before .before .match .rest)), (o .1 .1 .0, o .1 .1 .1 .0))))
 
 returns : tie.Need-returns
-returns c = visits-signal _ _ _ _ _ _ _ _ (c .match .keys1)
+returns c = (visits-signal _ _ _ _ _ _ _ _ (c .match .keys1), late-none _ _)
 
 same-length : tie.Need-same-length
 same-length c = search needs
@@ -38,7 +44,7 @@ same-length-2 c = search needs
 
 returns-2 : tie.Need-returns-2
 returns-2 c =
-    visits-as _ _ _ _ _ _ _ _ _ _ _ 3 (c .before .before .before .before .before .before .before .match .keys2) (c .before .before .before .before .visit-look .ensures)
+    (visits-as _ _ _ _ _ _ _ _ _ _ _ _ 1 (c .before .before .before .before .before .before .before .match .keys2) (c .before .before .before .before .visit-gate .ensures .0 (c .before .before .before .before .before .before .before .before .before .before .before .before .before .before .args .window)), c .before .before .before .before .visit-gate .ensures .1)
 
 same-length-3 : tie.Need-same-length-3
 same-length-3 c = search needs
@@ -48,7 +54,7 @@ same-length-4 c = search needs
 
 returns-3 : tie.Need-returns-3
 returns-3 c =
-    visits-gate _ _ _ _ _ _ _ _ _ _ _ (one-or-two _ (omega (arith, c .before .before .before .before .before .before .before .before .match .rest)) (omega (arith, c .before .before .before .before .before .before .before .if1 .taken))) (c .before .before .before .before .visit-gate .ensures (c .before .before .before .before .before .before .before .before .before .before .before .before .before .before .before .args .window))
+    (visits-as _ _ _ _ _ _ _ _ _ _ _ _ 2 (c .before .before .before .before .before .before .before .match .keys3) (c .before .before .before .before .visit-gate2 .ensures .0 (c .before .before .before .before .before .before .before .before .before .before .before .before .before .before .args .window)), c .before .before .before .before .visit-gate2 .ensures .1)
 
 same-length-5 : tie.Need-same-length-5
 same-length-5 c = search needs
@@ -58,7 +64,17 @@ same-length-6 c = search needs
 
 returns-4 : tie.Need-returns-4
 returns-4 c =
-    visits-not _ _ _ _ _ _ _ _ _ _ _ (omega (arith, c .before .before .before .before .before .before .before .before .match .rest)) (c .before .before .before .before .visit-not .ensures (c .before .before .before .before .before .before .before .before .before .before .before .before .before .before .before .args .window))
+    (visits-as _ _ _ _ _ _ _ _ _ _ _ _ 3 (c .before .before .before .before .before .before .before .match .keys4) (c .before .before .before .before .visit-look .ensures .0), c .before .before .before .before .visit-look .ensures .1)
+
+same-length-7 : tie.Need-same-length-7
+same-length-7 c = search needs
+
+same-length-8 : tie.Need-same-length-8
+same-length-8 c = search needs
+
+returns-5 : tie.Need-returns-5
+returns-5 c =
+    (visits-not _ _ _ _ _ _ _ _ _ _ _ _ (omega (arith, c .before .before .before .before .before .before .before .match .rest)) (c .before .before .before .before .visit-not .ensures .0 (c .before .before .before .before .before .before .before .before .before .before .before .before .before .before .args .window)), c .before .before .before .before .visit-not .ensures .1)
 
 pub visit-spec : {M : Type 1} → statement M
 visit-spec =
@@ -66,8 +82,9 @@ visit-spec =
     (tie.spec
     mul-w
     shared-slice-read-w
-    visit-look-requires
     visit-gate-requires
+    visit-gate-requires-2
+    visit-look-requires
     visit-not-requires
     returns
     same-length
@@ -78,4 +95,7 @@ visit-spec =
     returns-3
     same-length-5
     same-length-6
-    returns-4)
+    returns-4
+    same-length-7
+    same-length-8
+    returns-5)

@@ -1,9 +1,8 @@
 -- `visit_look` meets its contract. Assumes nothing.
 use borrow.Author.Needs.{needs}
 use native.Mathlib.Omega.{arith}
-use mathlib.Core.Path.{_∙_}
 use Rattle.work_list.proofs.Noting.{roomy-as}
-use Rattle.visiting.proofs.Visiting.{note-here, notes-then, visits-by}
+use Rattle.visiting.proofs.Visiting.{notes-then, visits-by, late-told, look-among}
 use Rattle.visiting.proofs.visit_look.Statement.{statement}
 use Rattle.visiting.proofs.visit_look.Tie as tie
 
@@ -16,28 +15,24 @@ look-step-requires c κs = search needs
 note-requires : tie.Need-note-requires
 note-requires c κs =
     let o = c .before .before .before .before .before .before .before .before .before .before .pre in
-    (o .0, ((omega (arith, o .1 .0, o .1 .1 .0 .3), λ l. (omega arith, omega (arith, o .1 .1 .0 .0))), (o .1 .1 .1 .0, o .1 .1 .1 .1)))
+    let look-step = c .before .before .before .look-step in
+    (o .0, ((o .1 .0, λ l. (look-step .ensures .1 .1 l, omega (arith, o .1 .1 .0 .0))), (o .1 .1 .1 .0, o .1 .1 .1 .1)))
 
 note-requires-2 : tie.Need-note-requires-2
 note-requires-2 c κs =
     let o = c .before .before .before .before .before .before .before .before .before .before .before .before .before .before .pre in
     let look-step = c .before .before .before .before .before .before .before .look-step in
     let note = c .before .before .before .note in
-    (o .0, ((o .1 .0, λ l. (look-step .ensures .1 .1 l, omega (arith, o .1 .1 .0 .0))), (o .1 .1 .1 .0, roomy-as (note .ensures .size) (o .1 .1 .1 .1))))
+    (o .0, ((o .1 .0, λ l. (omega (arith, o .1 .1 .0 .4), look-step .ensures .1 .2 l)), (o .1 .1 .1 .0, roomy-as (note .ensures .size) (o .1 .1 .1 .1))))
 
-note-requires-3 : tie.Need-note-requires-3
-note-requires-3 c κs =
-    let o = c .before .before .before .before .before .before .before .before .before .before .before .before .before .before .before .before .before .before .pre in
-    let look-step = c .before .before .before .before .before .before .before .before .before .before .before .look-step in
-    let note = c .before .before .before .before .before .before .before .note in
-    let note2 = c .before .before .before .note2 in
-    (o .0, ((o .1 .0, λ l. (omega (arith, o .1 .1 .0 .4), look-step .ensures .1 .2 l)), (o .1 .1 .1 .0, roomy-as (note2 .ensures .size ∙ note .ensures .size) (o .1 .1 .1 .1))))
+add-changed : tie.Need-add-changed
+add-changed c = search needs
 
-add-result : tie.Need-add-result
-add-result c = search needs
+add-changed-2 : tie.Need-add-changed-2
+add-changed-2 c = search needs
 
-add-result-2 : tie.Need-add-result-2
-add-result-2 c = search needs
+left-late-requires : tie.Need-left-late-requires
+left-late-requires c κs = search needs
 
 same-length : tie.Need-same-length
 same-length c = search needs
@@ -47,12 +42,15 @@ same-length-2 c = search needs
 
 returns : tie.Need-returns
 returns c =
-    let look-step = c .before .before .before .before .before .before .before .before .before .before .before .before .before .before .before .before .look-step in
-    let note = c .before .before .before .before .before .before .before .before .before .before .before .before .note in
-    let note2 = c .before .before .before .before .before .before .before .before .note2 in
-    let note3 = c .before .before .before .before .note3 in
-    visits-by _ _ _ _ _ _ _ _ _ _ _ _ _ _ (look-step .ensures .0)
-    (notes-then _ _ _ (note-here _ _ _ _ _ _ _ _ (note .ensures)) (notes-then _ _ _ (note2 .ensures) (note3 .ensures))) (omega arith)
+    let o = c .before .before .before .before .before .before .before .before .before .before .before .before .before .before .before .before .before .before .before .before .pre in
+    let look-step = c .before .before .before .before .before .before .before .before .before .before .before .before .before .look-step in
+    let note = c .before .before .before .before .before .before .before .before .before .note in
+    let note2 = c .before .before .before .before .before .note2 in
+    let late = c .left-late in (
+      visits-by _ _ _ _ _ _ _ _ _ _ _ _ _ _ _ _ (look-step .ensures .0) (notes-then _ _ _ (note .ensures) (note2 .ensures)) (λ e. omega arith)
+          (λ z t v. look-among _ _ _ _ _ _ _ _ z t v (late .ensures .0)),
+      late-told _ _ _ _ _ (omega (arith, o .1 .0, o .1 .1 .0 .3)) (late .ensures .0) (late .ensures .1) (λ e. omega arith),
+    )
 
 pub visit-look-spec : {M : Type 1} → statement M
 visit-look-spec =
@@ -62,9 +60,9 @@ visit-look-spec =
     look-step-requires
     note-requires
     note-requires-2
-    note-requires-3
-    add-result
-    add-result-2
+    add-changed
+    add-changed-2
+    left-late-requires
     same-length
     same-length-2
     returns)

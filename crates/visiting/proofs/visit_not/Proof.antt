@@ -3,7 +3,7 @@ use borrow.Author.Needs.{needs}
 use native.Mathlib.Omega.{arith}
 use mathlib.Core.Path.{refl}
 use Rattle.work_list.proofs.Noting.{roomy-as}
-use Rattle.visiting.proofs.Visiting.{note-here, notes-then, visits-by}
+use Rattle.visiting.proofs.Visiting.{note-here, notes-then, visits-noted, late-none}
 use Rattle.visiting.proofs.visit_not.Statement.{statement}
 use Rattle.visiting.proofs.visit_not.Tie as tie
 
@@ -21,8 +21,8 @@ note-requires-2 c κs =
     let note = c .before .before .before .note in
     (o .0, ((omega (arith, o .1 .0, o .1 .1 .0 .3), λ l. (omega arith, omega (arith, o .1 .1 .0 .0))), (o .1 .1 .1 .0, roomy-as (note .ensures .size) (o .1 .1 .1 .1))))
 
-add-result : tie.Need-add-result
-add-result c = search needs
+add-changed : tie.Need-add-changed
+add-changed c = search needs
 
 same-length : tie.Need-same-length
 same-length c = search needs
@@ -34,9 +34,11 @@ returns : tie.Need-returns
 returns c =
     let not-step = c .before .before .before .before .before .before .before .before .before .before .before .not-step in
     let note = c .before .before .before .before .before .before .before .note in
-    let note2 = c .before .before .before .note2 in
-    λ W. visits-by _ _ _ _ _ _ W _ _ _ _ _ _ _ (not-step .ensures .0 W)
-    (notes-then _ _ _ (note-here _ _ _ _ _ _ _ _ (note .ensures)) (note-here _ _ _ _ _ _ _ _ (note2 .ensures))) refl
+    let note2 = c .before .before .before .note2 in (
+      λ W. visits-noted _ _ _ _ _ _ W _ _ _ _ _ _ _ (not-step .ensures .0 W)
+          (notes-then _ _ _ (note-here _ _ _ _ _ _ _ _ (note .ensures)) (note-here _ _ _ _ _ _ _ _ (note2 .ensures))) refl,
+      late-none _ _,
+    )
 
 pub visit-not-spec : {M : Type 1} → statement M
 visit-not-spec =
@@ -45,7 +47,7 @@ visit-not-spec =
     not-step-requires
     note-requires
     note-requires-2
-    add-result
+    add-changed
     same-length
     same-length-2
     returns)

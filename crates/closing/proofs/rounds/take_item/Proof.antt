@@ -39,7 +39,7 @@ clear-bit-requires c κs =
     let v = c .before .before .before .before .before .visit-row .ensures in (
       omega (arith, column-in _ (a .n) (a .q) _ (o .1 .0 .0) (o .1 .1 .1 .0 .long)),
       o .1 .0 .2,
-      kept-bit _ _ _ _ _ _ _ _ _ _ _ _ (o .1 .0 .0) (o .1 .0 .1) (o .1 .0 .2) (o .0) (o .1 .1 .1 .1 .1) (v .0) (v .1) (o .1 .0 .3),
+      kept-bit _ _ _ _ _ _ _ _ _ _ _ _ _ (o .1 .0 .0) (o .1 .0 .1) (o .1 .0 .2) (o .0) (o .1 .1 .1 .1 .1) (v .0) (v .1 .1) (o .1 .0 .3),
     )
 
 same-length : tie.Need-same-length
@@ -53,9 +53,9 @@ returns c =
     let o = c .before .before .before .before .before .before .before .before .before .before .before .before .before .before .before .before .pre in
     let a = c .before .before .before .before .before .before .before .before .before .before .before .before .before .before .before .before .args in
     let v = c .before .before .before .before .before .before .before .before .visit-row .ensures in
-    taken _ _ _ _ _ _ _ _ _ _ _ _ _ (o .1 .0 .1) (o .1 .0 .2) (omega (arith, column-in _ (a .n) (a .q) _ (o .1 .0 .0) (o .1 .1 .1 .0 .long)))
-    (kept-bit _ _ _ _ _ _ _ _ _ _ _ _ (o .1 .0 .0) (o .1 .0 .1) (o .1 .0 .2) (o .0) (o .1 .1 .1 .1 .1) (v .0) (v .1) (o .1 .0 .3))
-    (c .before .before .clear-bit .ensures) (omega arith) (o .0) (o .1 .1 .1 .1 .1) (v .0)
+    taken _ _ _ _ _ _ _ _ _ _ _ _ _ _ (o .1 .0 .1) (o .1 .0 .2) (omega (arith, column-in _ (a .n) (a .q) _ (o .1 .0 .0) (o .1 .1 .1 .0 .long)))
+    (kept-bit _ _ _ _ _ _ _ _ _ _ _ _ _ (o .1 .0 .0) (o .1 .0 .1) (o .1 .0 .2) (o .0) (o .1 .1 .1 .1 .1) (v .0) (v .1 .1) (o .1 .0 .3))
+    (c .before .before .clear-bit .ensures) (omega arith) (o .0) (o .1 .1 .1 .1 .1) (v .0) (v .1 .0)
 
 pub take-item-spec : {M : Type 1} → statement M
 take-item-spec =

@@ -1,22 +1,23 @@
--- `work_word` meets its contract. The invariant: a stretch of visits. The measure: the table's room, and then the word. Assumes nothing.
+-- `work_word` meets its contract. The invariant: a stretch of visits, after which a row is left to note. The measure: the table's room, and then the word. Assumes nothing.
 use native.Mathlib.Omega.{arith}
+use mathlib.Core.Path.{_∙_}
 use Prim.Native.Nat.{_+_, _*_, _^_, _<_}
 use lib.ListN.{getD}
 use Rattle.marking.specs.Gains.{room}
 use Rattle.marking.proofs.Decoding.{sized-as}
 use Rattle.work_list.specs.Items.{per}
-use Rattle.closing.specs.Rounds.{Works, NoItem}
-use Rattle.closing.proofs.Working.{works-none, works-item, works-inside, works-word, taken-less}
+use Rattle.closing.proofs.Working.{taken-less, changed-less}
+use Rattle.closing.proofs.Leaving.{WorksBut, but-none, but-still, but-more, but-end, but-inside}
 use Rattle.work_list.proofs.Noting.{column-in, roomy-as}
 use Rattle.closing.proofs.rounds.work_word.Statement.{statement}
 use Rattle.closing.proofs.rounds.work_word.Tie as tie
 
 abbrev Inv-loop : tie.InvT-loop
-Inv-loop rows count i q n window heads nexts todo₀ marks₀ stride j changed₀ from₀ todo marks changed from =
-    Works count rows window n NoItem marks₀ marks todo₀ todo changed × (from < 64)
+Inv-loop rows count i q n window heads nexts todo₀ marks₀ stride j changed₀ from₀ late₀ todo marks changed from late =
+    WorksBut count rows window n q marks₀ marks todo₀ todo changed late × (from < 64)
 
 abbrev μ-loop : tie.MeasureT-loop
-μ-loop rows count i q n window heads nexts todo₀ marks₀ stride j changed₀ from₀ todo marks changed from = room marks * 2 ^ 64 + getD todo j 0
+μ-loop rows count i q n window heads nexts todo₀ marks₀ stride j changed₀ from₀ late₀ todo marks changed from late = room marks * 2 ^ 64 + getD todo j 0
 
 add-stride : tie.Need-add-stride Inv-loop μ-loop
 add-stride c =
@@ -36,7 +37,7 @@ add-j c =
     omega (arith, column-in _ (a .n) (a .q) _ (o .1 .0 .0) (o .1 .1 .1 .0 .long))
 
 loop-holds : tie.Need-loop-holds Inv-loop μ-loop
-loop-holds c = (works-none _ _ _ _ _ _ _ (λ r q z. z), omega arith)
+loop-holds c = (but-none _ _ (c .before .before .before .before .before .pre .0) _ _ _ _ _, omega arith)
 
 mul-if1 : tie.Need-mul-if1 Inv-loop μ-loop
 mul-if1 c =
@@ -73,40 +74,51 @@ take-item-requires c κs =
     let o = c .before .before .before .before .before .before .before .before .before .before .before .before .pre in
     let w = c .before .before .before .before .before .before .loop .inv .0 in
     let b = c .before .before .next-bit .ensures in
-    (o .0, ((o .1 .0 .0, o .1 .0 .1, b .0, b .1), (o .1 .1 .0, (roomy-as (w .long) (o .1 .1 .1 .0), (sized-as (w .each (o .0 .program) (o .0 .codes) .size) (o .1 .1 .1 .1 .0), works-inside _ _ _ _ _ (o .0) (o .1 .1 .1 .1 .1) w)))))
+    (o .0, ((o .1 .0 .0, o .1 .0 .1, b .0, b .1), (o .1 .1 .0, (roomy-as (w .long) (o .1 .1 .1 .0), (sized-as (w .each (o .0 .program) (o .0 .codes) .size) (o .1 .1 .1 .1 .0), but-inside _ _ (o .0) _ _ _ _ (o .1 .1 .1 .1 .1) w)))))
+
+replace-late-requires : tie.Need-replace-late-requires Inv-loop μ-loop
+replace-late-requires c κs =
+    let o = c .before .before .before .before .before .before .before .before .before .before .before .before .before .before .before .before .before .before .before .before .pre in
+    let w = c .before .before .before .before .before .before .before .before .before .before .before .before .before .before .loop .inv .0 in
+    (o .0, ((o .1 .0 .0, w .row .most), (o .1 .1 .0, roomy-as (c .before .before .before .before .before .before .before .take-item .ensures .long ∙ w .long) (o .1 .1 .1 .0))))
 
 loop-less : tie.Need-loop-less Inv-loop μ-loop
 loop-less c =
-    let o = c .before .before .before .before .before .before .before .before .before .before .before .before .before .before .before .before .before .before .pre in
-    let a = c .before .before .before .before .before .before .before .before .before .before .before .before .before .before .before .before .before .before .args in
-    taken-less _ _ _ _ _ _ _ _ _ _ (o .0) (omega (arith, c .before .before .before .slice-known5 .given (a .q * per (a .count) + a .i))) (c .before .before .before .before .before .take-item .ensures)
+    let o = c .before .before .before .before .before .before .before .before .before .before .before .before .before .before .before .before .before .before .before .before .before .before .before .pre in
+    let a = c .before .before .before .before .before .before .before .before .before .before .before .before .before .before .before .before .before .before .before .before .before .before .before .args in
+    changed-less _ _ _ _ _ _ _ _ _ _ _ _ (o .0) (c .before .before .before .before .before .before .before .before .before .before .take-item .ensures) _ (omega (arith, c .slice-known7 .given (a .q * per (a .count) + a .i))) (omega arith)
 
 loop-again : tie.Need-loop-again Inv-loop μ-loop
 loop-again c =
-    let l = c .before .before .before .before .before .before .before .before .before .before .before .before .loop in
-    (works-item _ _ _ _ 1 (λ e. absurd (omega arith)) (λ e. omega arith) (l .inv .0) (c .before .before .before .before .before .take-item .ensures .works), omega arith)
+    let o = c .before .before .before .before .before .before .before .before .before .before .before .before .before .before .before .before .before .before .before .before .before .before .before .pre in
+    (but-more _ _ (o .0) _ _ _ _ _ _ (omega arith) (c .before .before .before .before .before .before .before .before .before .before .before .before .before .before .before .before .before .loop .inv .0) (c .before .before .before .before .before .before .before .before .before .before .take-item .ensures) (c .before .before .replace-late .ensures), omega arith)
 
 loop-less-2 : tie.Need-loop-less-2 Inv-loop μ-loop
 loop-less-2 c =
-    let o = c .before .before .before .before .before .before .before .before .before .before .before .before .before .before .before .before .before .before .pre in
-    let a = c .before .before .before .before .before .before .before .before .before .before .before .before .before .before .before .before .before .before .args in
-    taken-less _ _ _ _ _ _ _ _ _ _ (o .0) (omega (arith, c .before .before .before .slice-known5 .given (a .q * per (a .count) + a .i))) (c .before .before .before .before .before .take-item .ensures)
+    let o = c .before .before .before .before .before .before .before .before .before .before .before .before .before .before .before .before .before .before .before .pre in
+    taken-less _ _ _ _ _ _ _ _ _ _ _ _ (o .0) (c .before .before .before .before .before .before .take-item .ensures) (omega arith)
 
 loop-again-2 : tie.Need-loop-again-2 Inv-loop μ-loop
 loop-again-2 c =
-    let l = c .before .before .before .before .before .before .before .before .before .before .before .before .loop in
-    (works-item _ _ _ _ _ (λ e. omega arith) (λ e. omega arith) (l .inv .0) (c .before .before .before .before .before .take-item .ensures .works), omega arith)
+    let o = c .before .before .before .before .before .before .before .before .before .before .before .before .before .before .before .before .before .before .before .pre in
+    (but-still _ _ (o .0) _ _ _ _ _ _ (omega arith) (c .before .before .before .before .before .before .before .before .before .before .before .before .before .loop .inv .0) (c .before .before .before .before .before .before .take-item .ensures), omega arith)
+
+replace-late-requires-2 : tie.Need-replace-late-requires-2 Inv-loop μ-loop
+replace-late-requires-2 c κs =
+    let o = c .before .before .before .before .before .before .before .before .before .pre in
+    let w = c .before .before .before .loop .inv .0 in
+    (o .0, ((o .1 .0 .0, w .row .most), (o .1 .1 .0, roomy-as (w .long) (o .1 .1 .1 .0))))
 
 same-length : tie.Need-same-length Inv-loop μ-loop
-same-length c = c .before .before .loop .inv .0 .long
+same-length c = c .before .before .replace-late2 .ensures .size ∙ c .before .before .before .before .before .before .loop .inv .0 .long
 
 same-length-2 : tie.Need-same-length-2 Inv-loop μ-loop
 same-length-2 c =
-    let o = c .before .before .before .before .before .before .before .before .pre in
-    c .before .before .loop .inv .0 .each (o .0 .program) (o .0 .codes) .size
+    let o = c .before .before .before .before .before .before .before .before .before .before .before .before .pre in
+    c .before .before .before .before .before .before .loop .inv .0 .each (o .0 .program) (o .0 .codes) .size
 
 returns : tie.Need-returns Inv-loop μ-loop
-returns c = works-word _ _ _ _ _ _ _ _ _ _ _ (omega arith) (c .before .before .loop .inv .0)
+returns c = but-end _ _ (c .before .before .before .before .before .before .before .before .before .before .before .before .pre .0) _ _ _ _ _ _ _ _ _ _ _ (omega arith) (c .before .before .before .before .before .before .loop .inv .0) (c .before .before .replace-late2 .ensures)
 
 pub work-word-spec : {M : Type 1} → statement M
 work-word-spec =
@@ -125,10 +137,12 @@ work-word-spec =
     next-bit-requires
     add-from
     take-item-requires
+    replace-late-requires
     loop-less
     loop-again
     loop-less-2
     loop-again-2
+    replace-late-requires-2
     same-length
     same-length-2
     returns)

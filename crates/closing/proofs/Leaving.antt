@@ -1,0 +1,113 @@
+-- A row left to note in a word of ticks: what is settled meanwhile, the row noted later, and stretches of visits with such a row.
+-- Assumes that the words are a program's rows.
+use mathlib.Core.Path.{_≡_, refl, sym, _∙_, subst}
+use mathlib.Core.List.{List}
+use mathlib.Core.Logic.{inl, ⊎-elim}
+use Prim.Native.Nat.{ℕ, _+_, _*_, _<_, _≤_}
+use native.Mathlib.Decide.{ℕ-discrete}
+use native.Mathlib.Omega.{arith}
+use lib.ListN.{length, getD}
+use Rattle.rows.specs.Words.{rowAt}
+use Rattle.tilco.specs.Inference.{Node, signal, notOf, gate, look, Program, mark}
+use Rattle.tilco.specs.Table.{Stands, Inside}
+use Rattle.tilco.proofs.Derives.{stays-inside}
+use Rattle.marking.specs.Codes.{Fine, Codes, Coded}
+use Rattle.marking.specs.Settled.{Rests}
+use Rattle.work_list.specs.Items.{per, Touched, Done}
+use Rattle.visiting.specs.Visits.{Late}
+use Rattle.visiting.proofs.Visiting.{late-none}
+use Rattle.closing.specs.Rounds.{DoneBut, Stretch, Only, Either, Works, Taken, Replaced, NoItem, InWord}
+use Rattle.closing.proofs.Working.{works-none, works-word, stretch-then, stretch-end}
+
+-- Visits to items of word q, after which the row `late` is left to note in that word.
+pub record WorksBut (count : ℕ) (B : List ℕ) (W n q : ℕ) (T T′ D D′ : List ℕ) (changed late : ℕ) : Type 0 where
+  pub long : length D′ ≡ length D
+  pub each : (P : Program) → Codes P count B → Stretch (Done count B W n) (DoneBut (Only late) q count B W n) count n P W NoItem T T′ D D′ changed
+  pub row : Late count changed late
+
+-- A row rests on its own words and on words of rows before it.
+rests-below : (d : Node) (r q x p : ℕ) → Fine r d → Rests d r q x p → x ≤ r
+rests-below signal r q x p f h = absurd h
+rests-below (notOf y) r q x p f h = ⊎-elim (λ e. omega arith) (λ e. omega (arith, f)) (h .1)
+rests-below (gate u a b) r q x p f h = ⊎-elim (λ e. omega arith) (⊎-elim (λ e. omega (arith, f .0)) (λ e. omega (arith, f .1))) (h .1)
+rests-below (look k c) r q x p f h = ⊎-elim (λ e. omega (arith, f .0, e .0)) (λ e. omega (arith, e .0)) h
+
+module _ (count : ℕ) (B : List ℕ) (coded : Coded count B) where
+  -- So nothing rests on a row `count`.
+  rests-none : (r p q : ℕ) → r < count → Rests (rowAt B r) r p count q → ⊥
+  rests-none r p q l h =
+      omega (arith, rests-below (rowAt B r) r p count q (subst (Fine r) (coded .codes .nodes r) (coded .codes .fine r)) h)
+
+  -- ---- one row takes the place of another
+  module _ (n q late next : ℕ) (D : List ℕ) where
+    pub replaced-none : late ≡ count → Replaced count B n q late next D D
+    replaced-none e = record {
+      size = refl;
+      kept = λ r p l h i. i;
+      noted = λ f r p l h s. absurd (rests-none r p q l (subst (λ (x : ℕ). Rests (rowAt B r) r p x q) e s));
+      same = λ g. refl;
+    }
+
+    pub replaced-noted : (D′ : List ℕ) → (late ≡ next → ⊥) → Touched count B n late q D D′ → Replaced count B n q late next D D′
+    replaced-noted D′ f t = record { size = t .size; kept = t .kept; noted = λ g. t .noted; same = λ e. absurd (f e) }
+
+  module _ (W n q : ℕ) where
+    -- What is settled but for two rows is settled but for the second, when the first was noted.
+    done-replaced : (late next : ℕ) (T D D′ : List ℕ) → Replaced count B n q late next D D′ → DoneBut (Either late next) q count B W n T D → DoneBut (Only next) q count B W n T D′
+    done-replaced late next T D D′ f d r p l h off free = d r p l h (λ t. off (f .kept r p l h t)) (λ x. ⊎-elim (first x) (free x))
+      where
+        first : (x : ℕ) → x ≡ late → Rests (rowAt B r) r p x q → ⊥
+        first x e s = go (ℕ-discrete late next)
+          where
+            go : Dec (late ≡ next) → ⊥
+            go (yes g) = free x (e ∙ g) s
+            go (no g) = off (f .noted g r p l h (subst (λ (y : ℕ). Rests (rowAt B r) r p y q) e s))
+
+    -- A row `count` leaves nothing unsettled.
+    done-without : (late next : ℕ) (T D : List ℕ) → next ≡ count → DoneBut (Either late next) q count B W n T D → DoneBut (Only late) q count B W n T D
+    done-without late next T D e d r p l h off free = d r p l h off (λ x. ⊎-elim (free x) (λ g s. rests-none r p q l (subst (λ (y : ℕ). Rests (rowAt B r) r p y q) (g ∙ e) s)))
+
+    done-all : (T D : List ℕ) → DoneBut (Only count) q count B W n T D → Done count B W n T D
+    done-all T D d r p l h off = d r p l h off (λ x e s. rests-none r p q l (subst (λ (y : ℕ). Rests (rowAt B r) r p y q) e s))
+
+    -- ---- stretches of visits
+    pub but-none : (T D : List ℕ) → WorksBut count B W n q T T D D 0 count
+    but-none T D =
+        let w = works-none count B W n NoItem T D (λ r p z. z) in
+        record { long = refl; each = λ P c. stretch-end (λ e. refl) (λ d r p l h off free. d r p l h off) (w .each P c); row = late-none count 0 }
+
+    module _ {T T′ T″ D D′ D″ : List ℕ} {x y : ℕ} (late next j : ℕ) where
+      -- An item more that changes nothing, and one that changes something.
+      pub but-still : y ≡ 0 → WorksBut count B W n q T T′ D D′ x late → Taken count B W n q j T′ T″ D′ D″ y next → WorksBut count B W n q T T″ D D″ x late
+      but-still e a b = record {
+        long = b .long ∙ a .long;
+        each = λ P c. stretch-end (λ g. refl) (done-without late next T″ D″ (b .row .none e))
+            (stretch-then NoItem NoItem NoItem x (λ r p h i. inl i) (λ g. omega arith) (λ g. omega arith) (a .each P c) (b .each P c late));
+        row = a .row;
+      }
+
+      pub but-more : {D‴ : List ℕ} → 0 < y → WorksBut count B W n q T T′ D D′ x late → Taken count B W n q j T′ T″ D′ D″ y next → Replaced count B n q late next D″ D‴
+          → WorksBut count B W n q T T″ D D‴ 1 next
+      but-more {D‴} l a b f = record {
+        long = f .size ∙ b .long ∙ a .long;
+        each = λ P c. stretch-end (λ g. absurd (omega arith)) (done-replaced late next T″ D″ D‴ f)
+            (stretch-then NoItem NoItem NoItem 1 (λ r p h i. inl i) (λ g. absurd (omega arith)) (λ g. omega arith) (a .each P c) (b .each P c late));
+        row = record { most = b .row .most; none = λ e. absurd (omega arith) };
+      }
+
+    -- Nothing is left to note at the end, and no item of the i-th word of the list.
+    pub but-end : (i late : ℕ) (T T′ D D′ D″ : List ℕ) (x : ℕ) → getD D′ (q * per count + i) 0 ≡ 0 → WorksBut count B W n q T T′ D D′ x late
+        → Replaced count B n q late count D′ D″ → Works count B W n (InWord q i) T T′ D D″ x
+    but-end i late T T′ D D′ D″ x z a f =
+        works-word count B W n q i T T′ D D″ x (λ e. subst (λ (X : List ℕ). getD X (q * per count + i) 0 ≡ 0) (sym (same e)) z)
+        (record {
+          long = f .size ∙ a .long;
+          each = λ P c. stretch-end same (λ d. done-all T′ D″ (done-replaced late count T′ D′ D″ f (λ r p l h off free. d r p l h off (λ y e. free y (inl e))))) (a .each P c);
+        })
+      where
+        same : x ≡ 0 → D″ ≡ D′
+        same e = f .same (a .row .none e)
+
+  -- No mark leaves the window.
+  pub but-inside : (W n q late : ℕ) {T T′ D D′ : List ℕ} {x : ℕ} → Inside W (Stands n T) → WorksBut count B W n q T T′ D D′ x late → Inside W (Stands n T′)
+  but-inside W n q late w a r t v i = stays-inside w r t v (a .each (coded .program) (coded .codes) .sound (mark r t v) i)
