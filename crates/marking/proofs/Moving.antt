@@ -1,7 +1,6 @@
 -- The promise of a piece: nothing done, one after another, a weaker one, and what joined ticks give.
 -- Assumes nothing.
-use mathlib.Core.Path.{_≡_, refl, sym, ap, _∙_, subst, subst₂}
-use mathlib.Core.Bool.{Bool}
+use mathlib.Core.Path.{_≡_, refl, ap, _∙_, subst}
 use mathlib.Core.List.{List}
 use mathlib.Core.Logic.{_⊎_, inl, inr, ⊎-elim}
 use Prim.Native.Nat.{ℕ, zero, suc, _+_, _≤_, _<_}
@@ -9,8 +8,8 @@ use native.Mathlib.Nat.{le-of-eq}
 use native.Mathlib.Omega.{arith}
 use Rattle.tilco.specs.Inference.{Program, Mark, mark, Marks, Derives, start, _or_}
 use Rattle.tilco.specs.Table.{Stands, Inside}
-use Rattle.tilco.proofs.Derives.{cut, stays-inside}
-use Rattle.marking.specs.Gains.{Here, room, Joins}
+use Rattle.tilco.proofs.Derives.{cut, monotone, stays-inside}
+use Rattle.marking.specs.Gains.{room, Joins}
 use Rattle.marking.specs.Moves.{Moves}
 
 some-or-none : (k : ℕ) → (0 < k) ⊎ (k ≡ 0)
@@ -58,22 +57,14 @@ module _ (n : ℕ) (P : Program) (W : ℕ) where
     moved = λ l. ⊎-elim (λ h. omega (arith, m .moved h, room-falls k)) (λ h. omega (arith, k .moved (omega arith), room-falls m)) (some-or-none x);
   }
 
-  -- Ticks joined to row r's marks of value v, where each of them follows.
-  pub joins-move : (T T′ : List ℕ) (r : ℕ) (v : Bool) (q : ℕ) (U : ℕ → Type 0) (x : ℕ) → Joins n (Here r v q U) T T′ x
-      → ((t : ℕ) → U t → Derives P W (Stands n T) (mark r t v)) → Moves n P W (Here r v q (λ t. U t × (0 < x))) T T′ x
-  joins-move T T′ r v q U x j rule = record {
+  -- Marks joined where each of them follows from what stood in an earlier table.
+  pub joins-move : (T₀ : List ℕ) {T T′ : List ℕ} (R : Marks) {x : ℕ} → ((m : Mark) → Stands n T₀ m → Stands n T m) → Joins n R T T′ x
+      → ((m : Mark) → R m → Derives P W (Stands n T₀) m) → Moves n P W (λ m. R m × (0 < x)) T T′ x
+  joins-move T₀ {T} {T′} R {x} older j rule = record {
     size = j .gains .size;
     grows = λ m i. j .gains .exactly m .1 (inl i);
-    sound = λ m i. ⊎-elim start (follows m) (j .gains .exactly m .0 i);
-    only = new;
+    sound = λ m i. ⊎-elim start (λ h. monotone older (rule m h)) (j .gains .exactly m .0 i);
+    only = λ m i. ⊎-elim (λ l. ⊎-elim inl (λ h. inr (h, l)) (j .gains .exactly m .0 i)) (λ e. inl (subst (λ (X : List ℕ). Stands n X m) (j .still e) i)) (some-or-none x);
     still = j .still;
     moved = j .moved;
   }
-    where
-      follows : (m : Mark) → Here r v q U m → Derives P W (Stands n T) m
-      follows (mark y t z) h = subst₂ (λ (a : ℕ) (b : Bool). Derives P W (Stands n T) (mark a t b)) (sym (h .0)) (sym (h .1)) (rule t (h .3))
-
-      new : (m : Mark) → Stands n T′ m → (_or_ (Stands n T) (Here r v q (λ t. U t × (0 < x)))) m
-      new (mark y t z) i =
-          ⊎-elim (λ l. ⊎-elim inl (λ h. inr (h .0, h .1, h .2, (h .3, l))) (j .gains .exactly (mark y t z) .0 i))
-          (λ e. inl (subst (λ (X : List ℕ). Stands n X (mark y t z)) (j .still e) i)) (some-or-none x)

@@ -1,21 +1,21 @@
--- The ticks of one word of a row: as it stands, moved up or down, and those of the window.
+-- The ticks of words: of two together, of one moved up or down, of one as it stands, and those of the window.
 -- Assumes nothing; a word is one below 2 ^ 64.
-use mathlib.Core.Path.{_≡_, refl, sym, ap, _∙_, subst, subst₂}
+use mathlib.Core.Path.{_≡_, refl, sym, ap, _∙_, subst}
 use mathlib.Core.Bool.{Bool}
 use mathlib.Core.List.{List}
-use mathlib.Core.Logic.{⊎-elim}
+use mathlib.Core.Logic.{_⊎_, inl, inr, ⊎-elim}
 use Prim.Native.Nat.{ℕ, _+_, _-_, _*_, _/_, _%_, _^_, _≤_, _<_}
 use native.Mathlib.Omega.{arith}
-use lib.Bits.{bitAnd}
+use lib.Bits.{bitAnd, bitOr}
 use lib.ListN.{getD}
 use lib.Pow.{ones-lt, ones-split, high}
 use Rattle.ticks.specs.Ticks.{bit, Has, block}
-use Rattle.ticks.proofs.Bits.{lt-or-ge, bit-shr, bit-low, bit-mask, has-below, and-in, and-out}
+use Rattle.ticks.proofs.Bits.{lt-or-ge, bit-shr, bit-low, bit-mask, has-below, and-in, and-out, or-left, or-right, or-out}
 use Rattle.ticks.proofs.Shifts.{bit-up, bit-under}
 use Rattle.ticks.proofs.Tables.{in-to, in-from}
 use Rattle.tilco.specs.Inference.{mark}
 use Rattle.tilco.specs.Table.{Stands}
-use Rattle.marking.specs.Gains.{Ticks, Both, Apart, Seen}
+use Rattle.marking.specs.Gains.{Ticks, Both, Apart}
 
 -- A word moved up by k, as the code does it: the bits that leave it are dropped.
 abbrev up : ℕ → ℕ → ℕ
@@ -40,47 +40,52 @@ both-ticks q v w U R f g b h = (
   λ e. and-in v w b (f b h .1 (e .0)) (g b h .1 (e .1)),
 )
 
-module _ (n : ℕ) (T : List ℕ) (r : ℕ) (v : Bool) where
-  -- word q of the row's marks of value v
-  abbrev at : ℕ → ℕ
-  at q = getD T (block r v * n + q) 0
+-- Ticks that are in one of two words.
+pub either-ticks : (q v w : ℕ) (U R : ℕ → Type 0) → Ticks q v U → Ticks q w R → Ticks q (bitOr v w) (λ t. U t ⊎ R t)
+either-ticks q v w U R f g b h = (
+  λ e. ⊎-elim (λ x. inl (f b h .0 x)) (λ x. inr (g b h .0 x)) (or-out v w b e),
+  ⊎-elim (λ x. or-left v w b (f b h .1 x)) (λ x. or-right v w b (g b h .1 x)),
+)
 
-  stood : (q c t : ℕ) → c < 64 → t ≡ q * 64 + c → q < n → Has (at q) c → Stands n T (mark r t v)
-  stood q c t h e l k = in-to 64 n T (block r v * n) q c t h e l k
+-- Ticks s for which one of the ticks U of word p is in the relation R to s.
+abbrev pub Seen : ℕ → (ℕ → ℕ → Type 0) → (ℕ → Type 0) → ℕ → Type 0
+Seen p R U s = (t : ℕ) × (t / 64 ≡ p) × R t s × U t
 
-  stands : (q c t : ℕ) → c < 64 → t ≡ q * 64 + c → Stands n T (mark r t v) → Has (at q) c
-  stands q c t h e k = in-from 64 n T (block r v * n) q c t h e k
+-- Those of the ticks U that are in the window.
+abbrev pub InWindow : ℕ → (ℕ → Type 0) → ℕ → Type 0
+InWindow W U t = (t < W) × U t
 
+-- A word of the ticks U of word p, moved up by k: ticks of word q.
+pub raised : (p q k w : ℕ) (U : ℕ → Type 0) → Ticks p w U → Ticks q (up w k) (Seen p (Apart p q k) U)
+raised p q k w U f b h = (
+  λ e. let x = up-out w k b h e in (p * 64 + (b - k), omega (arith, x .0), omega (arith, x .0), f (b - k) (omega arith) .0 (x .1)),
+  λ e. let g : k ≤ b = omega (arith, e .1, e .2) in
+      let d : e .0 ≡ p * 64 + (b - k) = omega (arith, e .1, e .2) in up-in w k b h g (f (b - k) (omega arith) .1 (subst U d (e .3))),
+)
+
+-- A word of the ticks U of word q, moved down by k: ticks of word p.
+pub lowered : (p q k w : ℕ) (U : ℕ → Type 0) → w < 2 ^ 64 → Ticks q w U → Ticks p (w / 2 ^ k) (Seen q (λ s t. Apart p q k t s) U)
+lowered p q k w U fits f b h = (
+  λ e. let x : Has w (k + b) = sym (bit-shr w k b) ∙ e in
+      let g : k + b < 64 = has-below w 64 (k + b) fits x in (q * 64 + (k + b), omega arith, omega arith, f (k + b) g .0 x),
+  λ e. let g : k + b < 64 = omega (arith, e .1, e .2) in
+      let d : e .0 ≡ q * 64 + (k + b) = omega (arith, e .1, e .2) in bit-shr w k b ∙ f (k + b) g .1 (subst U d (e .3)),
+)
+
+module _ (n : ℕ) (T : List ℕ) (r : ℕ) (v : Bool) (q : ℕ) (l : q < n) where
   -- A word as it stands.
-  word-ticks : (q : ℕ) → q < n → Ticks q (at q) (λ t. Stands n T (mark r t v))
-  word-ticks q l b h = (stood q b (q * 64 + b) h refl l, stands q b (q * 64 + b) h refl)
+  word-ticks : Ticks q (getD T (block r v * n + q) 0) (λ t. Stands n T (mark r t v))
+  word-ticks b h = (in-to 64 n T (block r v * n) q b (q * 64 + b) h refl l, in-from 64 n T (block r v * n) q b (q * 64 + b) h refl)
 
-  -- Word p moved up by k, as the code makes it of the word that it read: ticks of word q.
-  pub raised : (p q k : ℕ) {w : ℕ} → p < n → w ≡ at p → Ticks q (up w k) (Seen (Stands n T) r v p (Apart p q k))
-  raised p q k {w} l e b h = (
-    λ f. let x = up-out w k b h f in
-        (p * 64 + (b - k), omega (arith, x .0), omega (arith, x .0), stood p (b - k) (p * 64 + (b - k)) (omega arith) refl l (subst (λ (y : ℕ). Has y (b - k)) e (x .1))),
-    λ f. let g : k ≤ b = omega (arith, f .1, f .2) in
-        up-in w k b h g (subst (λ (y : ℕ). Has y (b - k)) (sym e) (stands p (b - k) (f .0) (omega arith) (omega (arith, f .1, f .2)) (f .3))),
-  )
-
-  -- Word q moved down by k: ticks of word p.
-  pub lowered : (p q k : ℕ) {w : ℕ} → q < n → w < 2 ^ 64 → w ≡ at q → Ticks p (w / 2 ^ k) (Seen (Stands n T) r v q (λ s t. Apart p q k t s))
-  lowered p q k {w} l fits e b h = (
-    λ f. let x : Has w (k + b) = sym (bit-shr w k b) ∙ f in
-        let g : k + b < 64 = has-below w 64 (k + b) fits x in
-        (q * 64 + (k + b), omega arith, omega arith, stood q (k + b) (q * 64 + (k + b)) g refl l (subst (λ (y : ℕ). Has y (k + b)) e x)),
-    λ f. let g : k + b < 64 = omega (arith, f .1, f .2) in
-        bit-shr w k b ∙ subst (λ (y : ℕ). Has y (k + b)) (sym e) (stands q (k + b) (f .0) g (omega (arith, f .1, f .2)) (f .3)),
-  )
+  -- As the code read it.
+  pub read-ticks : {w : ℕ} → w ≡ getD T (block r v * n + q) 0 → Ticks q w (λ t. Stands n T (mark r t v))
+  read-ticks e = subst (λ (w : ℕ). Ticks q w (λ t. Stands n T (mark r t v))) (sym e) word-ticks
 
 -- Ticks at which two marks stand, as the code makes them of the words that it read.
 pub flow-ticks : (n : ℕ) (T : List ℕ) (a : ℕ) (x : Bool) (b : ℕ) (y : Bool) (q : ℕ) → q < n → {v w : ℕ}
     → v ≡ getD T (block a x * n + q) 0 → w ≡ getD T (block b y * n + q) 0 → Ticks q (bitAnd v w) (Both n T a x b y)
-flow-ticks n T a x b y q l e f =
-    subst₂ (λ (v w : ℕ). Ticks q (bitAnd v w) (Both n T a x b y)) (sym e) (sym f)
-    (both-ticks q (getD T (block a x * n + q) 0) (getD T (block b y * n + q) 0) (λ t. Stands n T (mark a t x)) (λ t. Stands n T (mark b t y))
-    (word-ticks n T a x q l) (word-ticks n T b y q l))
+flow-ticks n T a x b y q l {v} {w} e f =
+    both-ticks q v w (λ t. Stands n T (mark a t x)) (λ t. Stands n T (mark b t y)) (read-ticks n T a x q l e) (read-ticks n T b y q l f)
 
 -- The window's ticks in a word that lies in the window, and in its last word.
 pub window-all : (W q : ℕ) → 64 ≤ W - q * 64 → Ticks q (2 ^ 64 - 1) (λ t. t < W)

@@ -1,206 +1,188 @@
--- The rules of a row at the ticks of one word: what their calls, one after another, do to the table.
+-- The rules of a row at the ticks of one word: what the words that the code makes of those that it read do to the table.
 -- Assumes that a row's children are other rows; for a look, that no mark is outside the window.
-use mathlib.Core.Path.{_≡_, refl, sym}
+use mathlib.Core.Path.{_≡_, refl, sym, subst₂}
 use mathlib.Core.Bool.{Bool, true, false, not}
 use mathlib.Core.List.{List}
 use mathlib.Core.Logic.{_⊎_, inl, inr, ⊎-elim}
-use Prim.Native.Nat.{ℕ, _+_, _-_, _/_, _%_, _≤_, _<_}
+use Prim.Native.Nat.{ℕ, _+_, _-_, _*_, _/_, _%_, _^_, _<_}
 use native.Mathlib.Omega.{arith}
+use lib.Bits.{bitAnd, bitOr}
 use Rattle.ticks.proofs.Bits.{lt-or-ge}
 use Rattle.tilco.specs.Inference.{notOf, gate, look, Program, Mark, mark, Marks, Shifted, down-left, down-right, up-left, up-right, look-down, look-up, not-down, not-up, up-both, rest-right, rest-left, Derives, start, one, two, _or_}
-use Rattle.tilco.specs.Table.{Stands, Inside}
-use Rattle.marking.specs.Gains.{Here, Joins, Both, Apart, Seen, InWindow}
-use Rattle.marking.specs.Settled.{SettledIn, WholeIn, PartIn, LookIn}
-use Rattle.marking.specs.Moves.{Moves, Wrote, Valued, GateWrote, LinkWrote, PartWrote, LookWrote, Mutual, ByNode, ByLink}
+use Rattle.tilco.specs.Table.{Stands}
+use Rattle.marking.specs.Gains.{Ticks, Here, Sides, Reads, Bits, Joins, Apart}
+use Rattle.marking.specs.Settled.{SettledIn, LookIn}
+use Rattle.marking.specs.Moves.{Moves, Wrote, GateWrote, LinkWrote, PartWrote, LookWrote, Mutual, ByNode, ByLink}
+use Rattle.marking.proofs.OneWord.{Seen, InWindow, both-ticks, either-ticks, raised, lowered}
+use Rattle.marking.proofs.Gaining.{sides-as}
 use Rattle.marking.proofs.Moving.{idle, weaker, then, keeps-inside, joins-move}
-use Rattle.marking.proofs.Settling.{Ran, ran, other-value, not-apart, by-value, whole-in, part-in, gives-still, not-in, link-up, link-down}
-
--- What a call of `flow` leaves.
-abbrev Flowed : ℕ → ℕ → List ℕ → List ℕ → ℕ → Bool → ℕ → Bool → ℕ → Bool → ℕ → Type 0
-Flowed n q T T′ a x b y r v k = Joins n (Here r v q (Both n T a x b y)) T T′ k
-
--- The marks that it may have added.
-abbrev Flows : ℕ → ℕ → List ℕ → ℕ → Bool → ℕ → Bool → ℕ → Bool → ℕ → Marks
-Flows n q T a x b y r v k = Here r v q (λ t. Both n T a x b y t × (0 < k))
-
-module _ (n : ℕ) (P : Program) (W q : ℕ) where
-  flow-moves : (T T′ : List ℕ) (a : ℕ) (x : Bool) (b : ℕ) (y : Bool) (r : ℕ) (v : Bool) (k : ℕ) → Flowed n q T T′ a x b y r v k
-      → ((t : ℕ) → Derives P W (Stands n T) (mark a t x) → Derives P W (Stands n T) (mark b t y) → Derives P W (Stands n T) (mark r t v))
-      → Moves n P W (Flows n q T a x b y r v k) T T′ k
-  flow-moves T T′ a x b y r v k j rule = joins-move n P W T T′ r v q (Both n T a x b y) k j (λ t h. rule t (start (h .0)) (start (h .1)))
+use Rattle.marking.proofs.Settling.{ran, turned, Whole, Part, gate-in, by-value, not-in, link-in}
 
 -- A row's children are other rows.
 above : {r a : ℕ} → a < r → r ≡ a → ⊥
 above l e = omega arith
 
-module _ (n q : ℕ) (T₀ T₁ T₂ T₃ : List ℕ) (r a b : ℕ) (u : Bool) (x y z : ℕ) (la : a < r) (lb : b < r) where
-  -- A gate's rules about the value u.
-  pub whole-steps : Flowed n q T₀ T₁ r u r u a u x → Flowed n q T₁ T₂ r u r u b u y → Flowed n q T₂ T₃ a u b u r u z
-      → (W : ℕ) → ByNode (gate u a b) r (Valued u (GateWrote r a b q z x y)) (λ S. WholeIn q S u r a b) W n T₀ T₃ (z + x + y)
-  whole-steps i j k W P e inside =
-      let m₁ = flow-moves n P W q T₀ T₁ r u r u a u x i (λ t d g. one (down-left e) d) in
-      let m₂ = flow-moves n P W q T₁ T₂ r u r u b u y j (λ t d g. one (down-right e) d) in
-      let m₃ = flow-moves n P W q T₂ T₃ a u b u r u z k (λ t d g. two (up-both e) d g) in (
-        weaker n P W (z + x + y) (omega arith) wrote (then n P W (then n P W m₁ m₂) m₃),
-        whole-in (above la) (above lb) (ran n T₀ T₁ q a u (Both n T₀ r u r u) x i) (ran n T₁ T₂ q b u (Both n T₁ r u r u) y j) (ran n T₂ T₃ q r u (Both n T₂ a u b u) z k),
+module _ (n : ℕ) (P : Program) (W q : ℕ) where
+  -- Ticks joined to both words of a row, where each of them follows from what stood in an earlier table.
+  sides-move : (T₀ : List ℕ) {T T′ : List ℕ} (r : ℕ) (u : Bool) (U N : ℕ → Type 0) {x : ℕ} → ((m : Mark) → Stands n T₀ m → Stands n T m) → Joins n (Sides r u q U N) T T′ x
+      → ((t : ℕ) → U t → Derives P W (Stands n T₀) (mark r t u)) → ((t : ℕ) → N t → Derives P W (Stands n T₀) (mark r t (not u)))
+      → Moves n P W (λ m. Sides r u q U N m × (0 < x)) T T′ x
+  sides-move T₀ r u U N older j f g = joins-move n P W T₀ (Sides r u q U N) older j follows
+    where
+      follows : (m : Mark) → Sides r u q U N m → Derives P W (Stands n T₀) m
+      follows (mark y t z) = ⊎-elim (λ h. as-mark (h .0) (h .1) (f t (h .3))) (λ h. as-mark (h .0) (h .1) (g t (h .3)))
+        where
+          as-mark : {w : Bool} → y ≡ r → z ≡ w → Derives P W (Stands n T₀) (mark r t w) → Derives P W (Stands n T₀) (mark y t z)
+          as-mark d e h = subst₂ (λ (a : ℕ) (b : Bool). Derives P W (Stands n T₀) (mark a t b)) (sym d) (sym e) h
+
+  -- The same, of which only the word is told.
+  word-moves : (T₀ : List ℕ) {T T′ : List ℕ} (r : ℕ) (u : Bool) (U N : ℕ → Type 0) {x : ℕ} → ((m : Mark) → Stands n T₀ m → Stands n T m) → Joins n (Sides r u q U N) T T′ x
+      → ((t : ℕ) → U t → Derives P W (Stands n T₀) (mark r t u)) → ((t : ℕ) → N t → Derives P W (Stands n T₀) (mark r t (not u)))
+      → Moves n P W (Wrote r q x) T T′ x
+  word-moves T₀ r u U N {x} older j f g = weaker n P W x refl wrote (sides-move T₀ r u U N older j f g)
+    where
+      wrote : (m : Mark) → Sides r u q U N m × (0 < x) → Wrote r q x m
+      wrote (mark y t z) h = ⊎-elim (λ k. (k .0, k .2, h .1)) (λ k. (k .0, k .2, h .1)) (h .0)
+
+-- The ticks of the words that a gate's rules make of the words of the row, r₁ and r₀, and of its children, a₁ and a₀, b₁ and b₀.
+pub gate-ticks : {n : ℕ} {T : List ℕ} {q r a b : ℕ} {u : Bool} {r₁ r₀ a₁ a₀ b₁ b₀ : ℕ} → Reads n T q r u r₁ r₀ → Reads n T q a u a₁ a₀ → Reads n T q b u b₁ b₀
+    → Ticks q (bitOr a₁ r₁) (Whole (Stands n T) u r a) × Ticks q (bitOr b₁ r₁) (Whole (Stands n T) u r b) × Ticks q (bitOr (bitOr r₀ a₀) b₀) (Part (Stands n T) u r a b)
+gate-ticks {n} {T} {q} {r} {a} {b} {u} {r₁} {r₀} {a₁} {a₀} {b₁} {b₀} own left right = (
+  either-ticks q a₁ r₁ (Is a u) (Is r u) (left .this) (own .this),
+  either-ticks q b₁ r₁ (Is b u) (Is r u) (right .this) (own .this),
+  either-ticks q (bitOr r₀ a₀) b₀ (λ t. Is r (not u) t ⊎ Is a (not u) t) (Is b (not u)) (either-ticks q r₀ a₀ (Is r (not u)) (Is a (not u)) (own .other) (left .other)) (right .other),
+)
+  where
+    Is : ℕ → Bool → ℕ → Type 0
+    Is z v t = Stands n T (mark z t v)
+
+-- A gate's rules: left and right are the words of what its children have of value u, part of what it has of the other.
+module _ (n q : ℕ) (T₀ T₁ T₂ T₃ : List ℕ) (r a b : ℕ) (u : Bool) (x y z : ℕ) (la : a < r) (lb : b < r) (left right part : ℕ)
+    (lefts : Ticks q left (Whole (Stands n T₀) u r a)) (rights : Ticks q right (Whole (Stands n T₀) u r b)) (parts : Ticks q part (Part (Stands n T₀) u r a b))
+    (i : Joins n (Sides r u q (Bits (bitAnd left right)) (Bits part)) T₀ T₁ x) (j : Joins n (Sides a u q (Bits left) (Bits (bitAnd part right))) T₁ T₂ y)
+    (k : Joins n (Sides b u q (Bits right) (Bits (bitAnd part left))) T₂ T₃ z) where
+  abbrev S : Marks
+  S = Stands n T₀
+
+  abbrev Left : ℕ → Type 0
+  Left = Whole S u r a
+
+  abbrev Right : ℕ → Type 0
+  Right = Whole S u r b
+
+  abbrev Any : ℕ → Type 0
+  Any = Part S u r a b
+
+  row-joins : Joins n (Sides r u q (λ t. Left t × Right t) Any) T₀ T₁ x
+  row-joins = sides-as r u q (bitAnd left right) part (λ t. Left t × Right t) Any (both-ticks q left right Left Right lefts rights) parts i
+
+  left-joins : Joins n (Sides a u q Left (λ t. Any t × Right t)) T₁ T₂ y
+  left-joins = sides-as a u q left (bitAnd part right) Left (λ t. Any t × Right t) lefts (both-ticks q part right Any Right parts rights) j
+
+  right-joins : Joins n (Sides b u q Right (λ t. Any t × Left t)) T₂ T₃ z
+  right-joins = sides-as b u q right (bitAnd part left) Right (λ t. Any t × Left t) rights (both-ticks q part left Any Left parts lefts) k
+
+  pub gate-steps : (W : ℕ) → ByNode (gate u a b) r (GateWrote r a b q x y z) (λ S. SettledIn q W S r (gate u a b)) W n T₀ T₃ (x + y + z)
+  gate-steps W P e inside =
+      let m₁ = word-moves n P W q T₀ r u (λ t. Left t × Right t) Any (λ m h. h) row-joins (λ t h. two (up-both e) (of-left t (h .0)) (of-right t (h .1))) of-any in
+      let m₂ = word-moves n P W q T₀ a u Left (λ t. Any t × Right t) (m₁ .grows) left-joins of-left (λ t h. two (rest-left e) (of-any t (h .0)) (of-right t (h .1))) in
+      let m₃ = word-moves n P W q T₀ b u Right (λ t. Any t × Left t) (λ m h. m₂ .grows m (m₁ .grows m h)) right-joins of-right (λ t h. two (rest-right e) (of-any t (h .0)) (of-left t (h .1))) in (
+        weaker n P W (x + y + z) (omega arith) (λ m h. h) (then n P W m₁ (then n P W m₂ m₃)),
+        gate-in (above la) (above lb) (ran n T₀ T₁ q r u (λ t. Left t × Right t) Any x row-joins) (ran n T₁ T₂ q a u Left (λ t. Any t × Right t) y left-joins)
+            (ran n T₂ T₃ q b u Right (λ t. Any t × Left t) z right-joins),
       )
     where
-      wrote : (m : Mark) → (_or_ (_or_ (Flows n q T₀ r u r u a u x) (Flows n q T₁ r u r u b u y)) (Flows n q T₂ a u b u r u z)) m → Valued u (GateWrote r a b q z x y) m
-      wrote (mark w t v) =
-          ⊎-elim (⊎-elim (λ h. (h .1, inr (inl (h .0, h .2, h .3 .1)))) (λ h. (h .1, inr (inr (h .0, h .2, h .3 .1))))) (λ h. (h .1, inl (h .0, h .2, h .3 .1)))
+      of-left : (t : ℕ) → Left t → Derives P W S (mark a t u)
+      of-left t = ⊎-elim start (λ h. one (down-left e) (start h))
 
-  -- And about the other value.
-  pub part-steps : (T₄ : List ℕ) (o : ℕ) → Flowed n q T₀ T₁ a (not u) a (not u) r (not u) x → Flowed n q T₁ T₂ b (not u) b (not u) r (not u) y
-      → Flowed n q T₂ T₃ r (not u) b u a (not u) z → Flowed n q T₃ T₄ r (not u) a u b (not u) o
-      → (W : ℕ) → ByNode (gate u a b) r (Valued (not u) (GateWrote r a b q (x + y) z o)) (λ S. PartIn q S u r a b) W n T₀ T₄ (x + y + z + o)
-  part-steps T₄ o i j k l W P e inside =
-      let f = not u in
-      let m₁ = flow-moves n P W q T₀ T₁ a f a f r f x i (λ t d g. one (up-left e) d) in
-      let m₂ = flow-moves n P W q T₁ T₂ b f b f r f y j (λ t d g. one (up-right e) d) in
-      let m₃ = flow-moves n P W q T₂ T₃ r f b u a f z k (λ t d g. two (rest-left e) d g) in
-      let m₄ = flow-moves n P W q T₃ T₄ r f a u b f o l (λ t d g. two (rest-right e) d g) in (
-        weaker n P W (x + y + z + o) refl wrote (then n P W (then n P W (then n P W m₁ m₂) m₃) m₄),
-        part-in u (above la) (above lb) (ran n T₀ T₁ q r f (Both n T₀ a f a f) x i) (ran n T₁ T₂ q r f (Both n T₁ b f b f) y j)
-            (ran n T₂ T₃ q a f (Both n T₂ r f b u) z k) (ran n T₃ T₄ q b f (Both n T₃ r f a u) o l),
-      )
-    where
-      wrote : (m : Mark)
-          → (_or_ (_or_ (_or_ (Flows n q T₀ a (not u) a (not u) r (not u) x) (Flows n q T₁ b (not u) b (not u) r (not u) y)) (Flows n q T₂ r (not u) b u a (not u) z))
-          (Flows n q T₃ r (not u) a u b (not u) o)) m → Valued (not u) (GateWrote r a b q (x + y) z o) m
-      wrote (mark w t v) =
-          ⊎-elim (⊎-elim (⊎-elim (λ h. (h .1, inl (h .0, h .2, omega (arith, h .3 .1)))) (λ h. (h .1, inl (h .0, h .2, omega (arith, h .3 .1)))))
-          (λ h. (h .1, inr (inl (h .0, h .2, h .3 .1))))) (λ h. (h .1, inr (inr (h .0, h .2, h .3 .1))))
+      of-right : (t : ℕ) → Right t → Derives P W S (mark b t u)
+      of-right t = ⊎-elim start (λ h. one (down-right e) (start h))
 
--- A piece that adds no mark of value u.
-value-kept : (n : ℕ) (P : Program) (W : ℕ) (A : Marks) (u : Bool) (T T′ : List ℕ) (x : ℕ) → Moves n P W (Valued (not u) A) T T′ x
-    → (c t : ℕ) → Stands n T′ (mark c t u) → Stands n T (mark c t u)
-value-kept n P W A u T T′ x m c t h = ⊎-elim (λ k. k) (λ k. absurd (not-apart u (k .0))) (m .only (mark c t u) h)
+      of-any : (t : ℕ) → Any t → Derives P W S (mark r t (not u))
+      of-any t = ⊎-elim (⊎-elim start (λ h. one (up-left e) (start h))) (λ h. one (up-right e) (start h))
 
--- A gate's rules, all seven: those about the other value leave the marks of value u as they are.
-pub gate-steps : (n q : ℕ) (T₀ T₁ T₂ : List ℕ) (r a b : ℕ) (u : Bool) (x y z x′ y′ z′ : ℕ)
-    → ((W : ℕ) → ByNode (gate u a b) r (Valued u (GateWrote r a b q x y z)) (λ S. WholeIn q S u r a b) W n T₀ T₁ (x + y + z))
-    → ((W : ℕ) → ByNode (gate u a b) r (Valued (not u) (GateWrote r a b q x′ y′ z′)) (λ S. PartIn q S u r a b) W n T₁ T₂ (x′ + y′ + z′))
-    → (W : ℕ) → ByNode (gate u a b) r (GateWrote r a b q (x + x′) (y + y′) (z + z′)) (λ S. SettledIn q W S r (gate u a b)) W n T₀ T₂ (x + x′ + (y + y′) + (z + z′))
-gate-steps n q T₀ T₁ T₂ r a b u x y z x′ y′ z′ i j W P e inside =
-    let w = i W P e inside in
-    let p = j W P e (keeps-inside n P W (w .0) inside) in
-    let stays = gives-still (Stands n T₁) (Stands n T₂) u (p .0 .grows) (value-kept n P W (GateWrote r a b q x′ y′ z′) u T₁ T₂ (x′ + y′ + z′) (p .0)) q in (
-      weaker n P W (x + x′ + (y + y′) + (z + z′)) (omega arith) wrote (then n P W (w .0) (p .0)),
-      λ t g. record {
-        down-left = λ d. stays r r a (w .1 .0) t g d d;
-        down-right = λ d. stays r r b (w .1 .1) t g d d;
-        up-both = stays a b r (w .1 .2) t g;
-        up-left = λ d. p .1 .0 t g d d;
-        up-right = λ d. p .1 .1 t g d d;
-        rest-left = p .1 .2 t g;
-        rest-right = p .1 .3 t g;
-      },
-    )
-  where
-    more : (m : Mark) (i j k : ℕ) → i ≤ x + x′ → j ≤ y + y′ → k ≤ z + z′ → GateWrote r a b q i j k m → GateWrote r a b q (x + x′) (y + y′) (z + z′) m
-    more (mark w t v) i j k d e f =
-        ⊎-elim (λ h. inl (h .0, h .1, omega (arith, h .2))) (⊎-elim (λ h. inr (inl (h .0, h .1, omega (arith, h .2)))) (λ h. inr (inr (h .0, h .1, omega (arith, h .2)))))
+-- A not-row's rules, with its words r₁ and r₀ and its child's c₁ and c₀: of true and of false.
+module _ (n q : ℕ) (T₀ T₁ T₂ : List ℕ) (r c x y : ℕ) (l : c < r) {r₁ r₀ c₁ c₀ : ℕ} (own : Reads n T₀ q r true r₁ r₀) (child : Reads n T₀ q c true c₁ c₀)
+    (i : Joins n (Sides r true q (Bits c₀) (Bits c₁)) T₀ T₁ x) (j : Joins n (Sides c true q (Bits r₀) (Bits r₁)) T₁ T₂ y) where
+  abbrev Is : ℕ → Bool → ℕ → Type 0
+  Is z v t = Stands n T₀ (mark z t v)
 
-    wrote : (m : Mark) → (_or_ (Valued u (GateWrote r a b q x y z)) (Valued (not u) (GateWrote r a b q x′ y′ z′))) m → GateWrote r a b q (x + x′) (y + y′) (z + z′) m
-    wrote (mark w t v) =
-        ⊎-elim (λ h. more (mark w t v) x y z (omega arith) (omega arith) (omega arith) (h .1))
-        (λ h. more (mark w t v) x′ y′ z′ (omega arith) (omega arith) (omega arith) (h .1))
+  abbrev Opposite : ℕ → Bool → Type 0
+  Opposite t v = (Stands n T₂ (mark r t v) → Stands n T₂ (mark c t (not v))) × (Stands n T₂ (mark c t v) → Stands n T₂ (mark r t (not v)))
 
--- A not-row's rules.
-pub not-steps : (n q : ℕ) (T₀ T₁ T₂ T₃ T₄ : List ℕ) (r c x y z o : ℕ) → c < r
-    → Flowed n q T₀ T₁ r true r true c false x → Flowed n q T₁ T₂ r false r false c true y
-    → Flowed n q T₂ T₃ c true c true r false z → Flowed n q T₃ T₄ c false c false r true o
-    → (W : ℕ) → ByNode (notOf c) r (_or_ (Wrote r q (z + o)) (Wrote c q (x + y))) (λ S. SettledIn q W S r (notOf c)) W n T₀ T₄ (z + o + (x + y))
-not-steps n q T₀ T₁ T₂ T₃ T₄ r c x y z o lc i j k l W P e inside =
-    let m₁ = flow-moves n P W q T₀ T₁ r true r true c false x i (λ t d g. one (not-down e) d) in
-    let m₂ = flow-moves n P W q T₁ T₂ r false r false c true y j (λ t d g. one (not-down e) d) in
-    let m₃ = flow-moves n P W q T₂ T₃ c true c true r false z k (λ t d g. one (not-up e) d) in
-    let m₄ = flow-moves n P W q T₃ T₄ c false c false r true o l (λ t d g. one (not-up e) d) in (
-      weaker n P W (z + o + (x + y)) (omega arith) wrote (then n P W (then n P W (then n P W m₁ m₂) m₃) m₄),
-      not-in W (above lc) (ran n T₀ T₁ q c false (Both n T₀ r true r true) x i) (ran n T₁ T₂ q c true (Both n T₁ r false r false) y j)
-          (ran n T₂ T₃ q r false (Both n T₂ c true c true) z k) (ran n T₃ T₄ q r true (Both n T₃ c false c false) o l),
-    )
-  where
-    wrote : (m : Mark)
-        → (_or_ (_or_ (_or_ (Flows n q T₀ r true r true c false x) (Flows n q T₁ r false r false c true y)) (Flows n q T₂ c true c true r false z))
-        (Flows n q T₃ c false c false r true o)) m → (_or_ (Wrote r q (z + o)) (Wrote c q (x + y))) m
-    wrote (mark w t v) =
-        ⊎-elim (⊎-elim (⊎-elim (λ h. inr (h .0, h .2, omega (arith, h .3 .1))) (λ h. inr (h .0, h .2, omega (arith, h .3 .1))))
-        (λ h. inl (h .0, h .2, omega (arith, h .3 .1)))) (λ h. inl (h .0, h .2, omega (arith, h .3 .1)))
+  own-joins : Joins n (Sides r true q (Is c false) (Is c true)) T₀ T₁ x
+  own-joins = sides-as r true q c₀ c₁ (Is c false) (Is c true) (child .other) (child .this) i
+
+  child-joins : Joins n (Sides c true q (Is r false) (Is r true)) T₁ T₂ y
+  child-joins = sides-as c true q r₀ r₁ (Is r false) (Is r true) (own .other) (own .this) j
+
+  pub not-steps : (W : ℕ) → ByNode (notOf c) r (_or_ (Wrote r q x) (Wrote c q y)) (λ S. SettledIn q W S r (notOf c)) W n T₀ T₂ (x + y)
+  not-steps W P e inside =
+      let m = word-moves n P W q T₀ r true (Is c false) (Is c true) (λ m h. h) own-joins (λ t h. one (not-up {v = false} e) (start h)) (λ t h. one (not-up {v = true} e) (start h)) in
+      let k = word-moves n P W q T₀ c true (Is r false) (Is r true) (m .grows) child-joins (λ t h. one (not-down {v = false} e) (start h)) (λ t h. one (not-down {v = true} e) (start h)) in
+      let f = ran n T₀ T₁ q r true (Is c false) (Is c true) x own-joins in
+      let g = ran n T₁ T₂ q c true (Is r false) (Is r true) y child-joins in
+      (then n P W m k, λ t v o. by-value (Opposite t) (not-in (above l) f g t o) (not-in (above l) (turned f) (turned g) t o) v)
 
 -- ---- two rows that answer each other: hi in word q has, k bits further up, what lo has in word p
-module _ (n p q k W lo hi : ℕ) where
-  -- what `rise` and `fall` add to a table
-  abbrev Up : List ℕ → Bool → ℕ → Type 0
-  Up T v = InWindow W (Seen (Stands n T) lo v p (Apart p q k))
+module _ (n p q k W lo hi : ℕ) (T₀ T₁ T₂ : List ℕ) (x y : ℕ) (d : lo ≡ hi → ⊥) where
+  -- what hi gains of value v, and what lo gains
+  abbrev Up : Bool → ℕ → Type 0
+  Up v = InWindow W (Seen p (Apart p q k) (λ t. Stands n T₀ (mark lo t v)))
 
-  abbrev Down : List ℕ → Bool → ℕ → Type 0
-  Down T v = InWindow W (Seen (Stands n T) hi v q (λ s t. Apart p q k t s))
+  abbrev Down : Bool → ℕ → Type 0
+  Down v = InWindow W (Seen q (λ s t. Apart p q k t s) (λ s. Stands n T₀ (mark hi s v)))
 
-  -- the rows have the same marks at a pair of ticks
-  abbrev Same : List ℕ → ℕ → ℕ → Bool → Type 0
-  Same T t s v = (Stands n T (mark lo t v) → Stands n T (mark hi s v)) × (Stands n T (mark hi s v) → Stands n T (mark lo t v))
+  abbrev Same : ℕ → ℕ → Bool → Type 0
+  Same t s v = (Stands n T₂ (mark lo t v) → Stands n T₂ (mark hi s v)) × (Stands n T₂ (mark hi s v) → Stands n T₂ (mark lo t v))
 
-  -- what is new has a tick that answers it
-  up-told : (T : List ℕ) (v : Bool) (x y z : ℕ) → x ≤ z → (m : Mark) → Here hi v q (λ s. Up T v s × (0 < x)) m → LinkWrote lo p hi q k y z m
-  up-told T v x y z l (mark w t u) h = inr (h .0, h .2, (h .3 .0 .1 .0, h .3 .0 .1 .1, h .3 .0 .1 .2), omega (arith, h .3 .1))
-
-  down-told : (T : List ℕ) (v : Bool) (x y z : ℕ) → x ≤ y → (m : Mark) → Here lo v p (λ t. Down T v t × (0 < x)) m → LinkWrote lo p hi q k y z m
-  down-told T v x y z l (mark w t u) h = inl (h .0, h .2, (h .3 .0 .1 .0, h .3 .0 .1 .1, h .3 .0 .1 .2), omega (arith, h .3 .1))
-
-  module _ (P : Program) (rule : Mutual P W lo p hi q k) (T T′ : List ℕ) (v : Bool) (x : ℕ) (inside : Inside W (Stands n T)) where
-    rise-moves : Joins n (Here hi v q (Up T v)) T T′ x → Moves n P W (Here hi v q (λ s. Up T v s × (0 < x))) T T′ x
-    rise-moves j =
-        joins-move n P W T T′ hi v q (Up T v) x j
-        (λ s h. one (rule (h .1 .0) s v (h .1 .2) (inside lo (h .1 .0) v (h .1 .3)) (h .0) .0) (start (h .1 .3)))
-
-    fall-moves : Joins n (Here lo v p (Down T v)) T T′ x → Moves n P W (Here lo v p (λ t. Down T v t × (0 < x))) T T′ x
-    fall-moves j =
-        joins-move n P W T T′ lo v p (Down T v) x j
-        (λ t h. one (rule t (h .1 .0) v (h .1 .2) (h .0) (inside hi (h .1 .0) v (h .1 .3)) .1) (start (h .1 .3)))
-
-  pub link-steps : (T₀ T₁ T₂ T₃ T₄ : List ℕ) (x y z o : ℕ) → (lo ≡ hi → ⊥)
-      → Joins n (Here hi true q (Up T₀ true)) T₀ T₁ x → Joins n (Here lo true p (Down T₁ true)) T₁ T₂ y
-      → Joins n (Here hi false q (Up T₂ false)) T₂ T₃ z → Joins n (Here lo false p (Down T₃ false)) T₃ T₄ o
-      → ByLink lo p hi q k W n T₀ T₄ (y + o) (x + z)
-  link-steps T₀ T₁ T₂ T₃ T₄ x y z o d i j f g P rule inside =
-      let m₁ = rise-moves P rule T₀ T₁ true x inside i in
-      let m₂ = then n P W m₁ (fall-moves P rule T₁ T₂ true y (keeps-inside n P W m₁ inside) j) in
-      let m₃ = then n P W m₂ (rise-moves P rule T₂ T₃ false z (keeps-inside n P W m₂ inside) f) in
-      let m₄ = then n P W m₃ (fall-moves P rule T₃ T₄ false o (keeps-inside n P W m₃ inside) g) in
-      (weaker n P W (y + o + (x + z)) (omega arith) wrote m₄, λ t s v a l h b c. by-value (Same T₄ t s) (both-true t s a l h b c) (both-false t s a l h b c) v)
+  links : Joins n (Sides hi true q (Up true) (Up false)) T₀ T₁ y → Joins n (Sides lo true p (Down true) (Down false)) T₁ T₂ x
+      → ByLink lo p hi q k W n T₀ T₂ x y
+  links i j P rule inside =
+      let m = sides-move n P W q T₀ hi true (Up true) (Up false) (λ m h. h) i (rises true) (rises false) in
+      let g = sides-move n P W p T₀ lo true (Down true) (Down false) (m .grows) j (falls true) (falls false) in
+      let f = ran n T₀ T₁ q hi true (Up true) (Up false) y i in
+      let h = ran n T₁ T₂ p lo true (Down true) (Down false) x j in (
+        weaker n P W (x + y) (omega arith) wrote (then n P W m g),
+        λ t s v a b c o z. by-value (Same t s) (link-in k W d f h t s a b c o z) (link-in k W d (turned f) (turned h) t s a b c o z) v,
+      )
     where
+      rises : (v : Bool) (s : ℕ) → Up v s → Derives P W (Stands n T₀) (mark hi s v)
+      rises v s h = one (rule (h .1 .0) s v (h .1 .2) (inside lo (h .1 .0) v (h .1 .3)) (h .0) .0) (start (h .1 .3))
+
+      falls : (v : Bool) (t : ℕ) → Down v t → Derives P W (Stands n T₀) (mark lo t v)
+      falls v t h = one (rule t (h .1 .0) v (h .1 .2) (h .0) (inside hi (h .1 .0) v (h .1 .3)) .1) (start (h .1 .3))
+
+      -- what is new has a tick that answers it
+      up-told : (v w : Bool) (s z : ℕ) → Here hi v q (Up v) (mark z s w) → 0 < y → LinkWrote lo p hi q k x y (mark z s w)
+      up-told v w s z h l = inr (h .0, h .2, (h .3 .1 .0, h .3 .1 .1, h .3 .1 .2), l)
+
+      down-told : (v w : Bool) (t z : ℕ) → Here lo v p (Down v) (mark z t w) → 0 < x → LinkWrote lo p hi q k x y (mark z t w)
+      down-told v w t z h l = inl (h .0, h .2, (h .3 .1 .0, h .3 .1 .1, h .3 .1 .2), l)
+
       wrote : (m : Mark)
-          → (_or_ (_or_ (_or_ (Here hi true q (λ s. Up T₀ true s × (0 < x))) (Here lo true p (λ t. Down T₁ true t × (0 < y)))) (Here hi false q (λ s. Up T₂ false s × (0 < z))))
-          (Here lo false p (λ t. Down T₃ false t × (0 < o)))) m → LinkWrote lo p hi q k (y + o) (x + z) m
-      wrote (mark w t v) =
-          ⊎-elim (⊎-elim (⊎-elim (up-told T₀ true x (y + o) (x + z) (omega arith) (mark w t v)) (down-told T₁ true y (y + o) (x + z) (omega arith) (mark w t v)))
-          (up-told T₂ false z (y + o) (x + z) (omega arith) (mark w t v))) (down-told T₃ false o (y + o) (x + z) (omega arith) (mark w t v))
+          → (_or_ (λ m. Sides hi true q (Up true) (Up false) m × (0 < y)) (λ m. Sides lo true p (Down true) (Down false) m × (0 < x))) m → LinkWrote lo p hi q k x y m
+      wrote (mark z t v) =
+          ⊎-elim (λ h. ⊎-elim (λ g. up-told true v t z g (h .1)) (λ g. up-told false v t z g (h .1)) (h .0))
+          (λ h. ⊎-elim (λ g. down-told true v t z g (h .1)) (λ g. down-told false v t z g (h .1)) (h .0))
 
-      r₁ : Ran q hi true (Up T₀ true) (Stands n T₀) (Stands n T₁)
-      r₁ = ran n T₀ T₁ q hi true (Up T₀ true) x i
+  -- The same, as the code makes the words, of those that it read and of the window's ticks in both words.
+  pub link-steps : (ups downs : ℕ) {a₁ a₀ b₁ b₀ : ℕ} → Reads n T₀ p lo true a₁ a₀ → Reads n T₀ q hi true b₁ b₀ → b₁ < 2 ^ 64 → b₀ < 2 ^ 64
+      → Ticks q ups (λ t. t < W) → Ticks p downs (λ t. t < W)
+      → Joins n (Sides hi true q (Bits (bitAnd ups ((a₁ * 2 ^ k) % 2 ^ 64))) (Bits (bitAnd ups ((a₀ * 2 ^ k) % 2 ^ 64)))) T₀ T₁ y
+      → Joins n (Sides lo true p (Bits (bitAnd downs (b₁ / 2 ^ k))) (Bits (bitAnd downs (b₀ / 2 ^ k)))) T₁ T₂ x
+      → ByLink lo p hi q k W n T₀ T₂ x y
+  link-steps ups downs {a₁} {a₀} {b₁} {b₀} a b fits fits₀ o u i j =
+      links (sides-as hi true q (bitAnd ups ((a₁ * 2 ^ k) % 2 ^ 64)) (bitAnd ups ((a₀ * 2 ^ k) % 2 ^ 64)) (Up true) (Up false) (up-ticks true a₁ (a .this)) (up-ticks false a₀ (a .other)) i)
+      (sides-as lo true p (bitAnd downs (b₁ / 2 ^ k)) (bitAnd downs (b₀ / 2 ^ k)) (Down true) (Down false) (down-ticks true b₁ fits (b .this)) (down-ticks false b₀ fits₀ (b .other)) j)
+    where
+      up-ticks : (v : Bool) (w : ℕ) → Ticks p w (λ t. Stands n T₀ (mark lo t v)) → Ticks q (bitAnd ups ((w * 2 ^ k) % 2 ^ 64)) (Up v)
+      up-ticks v w f =
+          both-ticks q ups ((w * 2 ^ k) % 2 ^ 64) (λ t. t < W) (Seen p (Apart p q k) (λ t. Stands n T₀ (mark lo t v))) o (raised p q k w (λ t. Stands n T₀ (mark lo t v)) f)
 
-      r₂ : Ran p lo true (Down T₁ true) (Stands n T₁) (Stands n T₂)
-      r₂ = ran n T₁ T₂ p lo true (Down T₁ true) y j
-
-      r₃ : Ran q hi false (Up T₂ false) (Stands n T₂) (Stands n T₃)
-      r₃ = ran n T₂ T₃ q hi false (Up T₂ false) z f
-
-      r₄ : Ran p lo false (Down T₃ false) (Stands n T₃) (Stands n T₄)
-      r₄ = ran n T₃ T₄ p lo false (Down T₃ false) o g
-
-      -- the marks of value true are as they were after the first two
-      to : (c t : ℕ) → Stands n T₂ (mark c t true) → Stands n T₄ (mark c t true)
-      to c t h = r₄ .grown (mark c t true) (r₃ .grown (mark c t true) h)
-
-      from : (c t : ℕ) → Stands n T₄ (mark c t true) → Stands n T₂ (mark c t true)
-      from c t h = other-value r₃ c t true (not-apart true) (other-value r₄ c t true (not-apart true) h)
-
-      both-true : (t s : ℕ) → Apart p q k t s → t < W → s < W → t / 64 ≡ p → s / 64 ≡ q → Same T₄ t s true
-      both-true t s a l h b c = (λ m. to hi s (link-up k W d r₁ r₂ t s a h b c (from lo t m)), λ m. to lo t (link-down k W d r₁ r₂ t s a l b c (from hi s m)))
-
-      both-false : (t s : ℕ) → Apart p q k t s → t < W → s < W → t / 64 ≡ p → s / 64 ≡ q → Same T₄ t s false
-      both-false t s a l h b c = (link-up k W d r₃ r₄ t s a h b c, link-down k W d r₃ r₄ t s a l b c)
+      down-ticks : (v : Bool) (w : ℕ) → w < 2 ^ 64 → Ticks q w (λ s. Stands n T₀ (mark hi s v)) → Ticks p (bitAnd downs (w / 2 ^ k)) (Down v)
+      down-ticks v w l f =
+          both-ticks p downs (w / 2 ^ k) (λ t. t < W) (Seen q (λ s t. Apart p q k t s) (λ s. Stands n T₀ (mark hi s v))) u (lowered p q k w (λ s. Stands n T₀ (mark hi s v)) l f)
 
 -- ---- a look: row r has at a tick what row c has at the offset o from it, written with 64 added
 module _ (n q : ℕ) (T T′ : List ℕ) (r c o W p x y : ℕ) where

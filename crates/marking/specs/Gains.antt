@@ -1,13 +1,13 @@
 -- Ticks of one word joined to a table, told by marks. Assumes nothing.
 -- n is how many words a row has for each value, q a word of a row, T the table before and T′ after.
 use mathlib.Core.Path.{_≡_}
-use mathlib.Core.Bool.{Bool}
+use mathlib.Core.Bool.{Bool, not}
 use mathlib.Core.List.{List, [], _∷_}
 use mathlib.Core.Logic.{_↔_}
 use Prim.Native.Nat.{ℕ, _+_, _-_, _*_, _/_, _%_, _^_, _≤_, _<_}
 use lib.ListN.{length}
 use Rattle.ticks.specs.Ticks.{Has}
-use Rattle.tilco.specs.Inference.{mark, Marks}
+use Rattle.tilco.specs.Inference.{mark, Marks, _or_}
 use Rattle.tilco.specs.Table.{Stands}
 use Rattle.table.specs.Puts.{Gains}
 
@@ -22,6 +22,15 @@ Ticks q v U = (b : ℕ) → b < 64 → Has v b ↔ U (q * 64 + b)
 -- Row r's marks of value v at the ticks U of word q.
 abbrev pub Here : ℕ → Bool → ℕ → (ℕ → Type 0) → Marks
 Here r v q U (mark x t w) = (x ≡ r) × (w ≡ v) × (t / 64 ≡ q) × U t
+
+-- Row r's marks in word q: of value u at the ticks U, of the other value at the ticks N.
+abbrev pub Sides : ℕ → Bool → ℕ → (ℕ → Type 0) → (ℕ → Type 0) → Marks
+Sides r u q U N = _or_ (Here r u q U) (Here r (not u) q N)
+
+-- v is word q of row r's marks of value u, and w that of the other value.
+pub record Reads (n : ℕ) (T : List ℕ) (q r : ℕ) (u : Bool) (v w : ℕ) : Type 0 where
+  pub this : Ticks q v (λ t. Stands n T (mark r t u))
+  pub other : Ticks q w (λ t. Stands n T (mark r t (not u)))
 
 -- The bits of v, as a word's ticks.
 abbrev pub Bits : ℕ → ℕ → Type 0
@@ -46,11 +55,3 @@ Both n T a x b y t = Stands n T (mark a t x) × Stands n T (mark b t y)
 -- Tick t of word p and tick s of word q, k bits further up in its word.
 abbrev pub Apart : ℕ → ℕ → ℕ → ℕ → ℕ → Type 0
 Apart p q k t s = t + (q * 64 + k) ≡ s + p * 64
-
--- Ticks s for which a tick of word p, at which row r has the value v, is in the relation R to s.
-abbrev pub Seen : Marks → ℕ → Bool → ℕ → (ℕ → ℕ → Type 0) → ℕ → Type 0
-Seen S r v p R s = (t : ℕ) × (t / 64 ≡ p) × R t s × S (mark r t v)
-
--- Those of these ticks that are in the window.
-abbrev pub InWindow : ℕ → (ℕ → Type 0) → ℕ → Type 0
-InWindow W U t = (t < W) × U t

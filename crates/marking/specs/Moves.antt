@@ -30,10 +30,6 @@ Wrote x q told (mark y t v) = (y ≡ x) × (t / 64 ≡ q) × (0 < told)
 abbrev pub WroteBefore : ℕ → ℕ → ℕ → ℕ → Marks
 WroteBefore x h e told (mark y t v) = (y ≡ x) × (e ≡ t / 64 + h) × (0 < told)
 
--- Those of these marks that have the value v.
-abbrev pub Valued : Bool → Marks → Marks
-Valued v A (mark x t w) = (w ≡ v) × A (mark x t w)
-
 -- The marks of a gate's row r and of its children's rows a and b in word q, as far as these words are told to have changed.
 abbrev pub GateWrote : ℕ → ℕ → ℕ → ℕ → ℕ → ℕ → ℕ → Marks
 GateWrote r a b q row left right = _or_ (Wrote r q row) (_or_ (Wrote a q left) (Wrote b q right))

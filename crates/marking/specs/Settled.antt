@@ -30,20 +30,6 @@ Rests (look k c) r q x p = ((x ≡ c) × (p ≡ q)) ⊎ ((x ≡ r) × ((q ≡ p 
 abbrev pub SameWord : ℕ → List ℕ → List ℕ → ℕ → ℕ → Type 0
 SameWord n T T′ x p = (t : ℕ) (v : Bool) → t / 64 ≡ p → Stands n T′ (mark x t v) → Stands n T (mark x t v)
 
--- In word q, the marks (a, x) and (b, y) at one tick give (r, v).
-abbrev pub Gives : ℕ → Marks → ℕ → Bool → ℕ → Bool → ℕ → Bool → Type 0
-Gives q S a x b y r v = (t : ℕ) → t / 64 ≡ q → S (mark a t x) → S (mark b t y) → S (mark r t v)
-
--- Row r is a gate u of a and b, its rules about the value u: And's true gives both true, and both true gives it true.
-abbrev pub WholeIn : ℕ → Marks → Bool → ℕ → ℕ → ℕ → Type 0
-WholeIn q S u r a b = Gives q S r u r u a u × Gives q S r u r u b u × Gives q S a u b u r u
-
--- And its rules about the other value: a false child gives false, false and one child true gives the other false.
-abbrev pub PartIn : ℕ → Marks → Bool → ℕ → ℕ → ℕ → Type 0
-PartIn q S u r a b =
-    Gives q S a (not u) a (not u) r (not u) × Gives q S b (not u) b (not u) r (not u)
-    × Gives q S r (not u) b u a (not u) × Gives q S r (not u) a u b (not u)
-
 -- Row r looks at row c with the offset k: at the ticks of c's word q they have the same values, where r's tick is in the word e - k / 64.
 abbrev pub LookIn : ℕ → ℕ → ℕ → Marks → ℕ → ℕ → ℕ → Type 0
 LookIn q e W S r k c =

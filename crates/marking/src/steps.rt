@@ -1,72 +1,21 @@
 // The rules of one row at the ticks of one word, once through: they add nothing to it then. Each function tells which words changed.
 // Assumes that the table has the row and its children, and that these stand before the row.
-use crate::rules::fall;
-use crate::rules::flow;
-use crate::rules::rise;
+use crate::words::add_words;
+use crate::words::window_word;
+use crate::words::words_at;
 ghost use mathlib.Core.Path.{_≡_};
-ghost use mathlib.Core.Bool.{not};
 ghost use Prim.Native.Nat.{ℕ, _+_, _*_, _/_, _<_, _≤_};
 ghost use Rattle.tilco.specs.Inference.{notOf, gate, look, _or_};
 ghost use Rattle.tilco.specs.Table.{words};
 ghost use Rattle.marking.specs.Gains.{HasRow};
-ghost use Rattle.marking.specs.Settled.{SettledIn, WholeIn, PartIn, LookIn};
-ghost use Rattle.marking.specs.Moves.{Wrote, Valued, GateWrote, PartWrote, LookWrote, ByNode, ByLink};
+ghost use Rattle.marking.specs.Settled.{SettledIn, LookIn};
+ghost use Rattle.marking.specs.Moves.{Wrote, GateWrote, PartWrote, LookWrote, ByNode, ByLink};
 
 // Whether the word of a row, of its left child and of its right child changed: 0 if not.
 pub struct Changed {
     pub row: u64,
     pub left: u64,
     pub right: u64,
-}
-
-// A gate's rules about the value u, And's with true and Or's with false: it gives both children, both give it.
-fn gate_whole(
-    marks: &mut [u64],
-    n: usize,
-    q: usize,
-    row: usize,
-    a: usize,
-    b: usize,
-    u: bool,
-) -> Changed
-    requires { ⌜ (q < n) × HasRow n (now marks) row × HasRow n (now marks) a × HasRow n (now marks) b × (a < row) × (b < row) ⌝ }
-    ensures { λ c. ⌜ ((W : ℕ) → ByNode (gate u a b) row (Valued u (GateWrote row a b q (c .row) (c .left) (c .right))) (λ S. WholeIn q S u row a b) W n (now (marks .entry)) (now (marks .exit)) (c .row + c .left + c .right)) ⌝ }
-    ensures { λ c. ⌜ c .row + c .left + c .right ≤ 3 ⌝ }
-{
-    let c1 = flow(marks, n, q, row, u, row, u, a, u);
-    let c2 = flow(marks, n, q, row, u, row, u, b, u);
-    let c3 = flow(marks, n, q, a, u, b, u, row, u);
-    Changed {
-        row: c3,
-        left: c1,
-        right: c2,
-    }
-}
-
-// A gate's rules about the other value: a child gives it, it and one child's value u give the other child.
-fn gate_part(
-    marks: &mut [u64],
-    n: usize,
-    q: usize,
-    row: usize,
-    a: usize,
-    b: usize,
-    u: bool,
-) -> Changed
-    requires { ⌜ (q < n) × HasRow n (now marks) row × HasRow n (now marks) a × HasRow n (now marks) b × (a < row) × (b < row) ⌝ }
-    ensures { λ c. ⌜ ((W : ℕ) → ByNode (gate u a b) row (Valued (not u) (GateWrote row a b q (c .row) (c .left) (c .right))) (λ S. PartIn q S u row a b) W n (now (marks .entry)) (now (marks .exit)) (c .row + c .left + c .right)) ⌝ }
-    ensures { λ c. ⌜ c .row + c .left + c .right ≤ 4 ⌝ }
-{
-    let f = !u;
-    let c1 = flow(marks, n, q, a, f, a, f, row, f);
-    let c2 = flow(marks, n, q, b, f, b, f, row, f);
-    let c3 = flow(marks, n, q, row, f, b, u, a, f);
-    let c4 = flow(marks, n, q, row, f, a, u, b, f);
-    Changed {
-        row: c1 + c2,
-        left: c3,
-        right: c4,
-    }
 }
 
 // The rules of a row that is an And (u is true) or an Or of the rows a and b.
@@ -83,12 +32,20 @@ pub fn gate_step(
     ensures { λ c. ⌜ ((W : ℕ) → ByNode (gate u a b) row (GateWrote row a b q (c .row) (c .left) (c .right)) (λ S. SettledIn q W S row (gate u a b)) W n (now (marks .entry)) (now (marks .exit)) (c .row + c .left + c .right)) ⌝ }
     ensures { λ c. ⌜ c .row + c .left + c .right ≤ 7 ⌝ }
 {
-    let whole = gate_whole(marks, n, q, row, a, b, u);
-    let part = gate_part(marks, n, q, row, a, b, u);
+    let r = words_at(marks, n, q, row, u);
+    let x = words_at(marks, n, q, a, u);
+    let y = words_at(marks, n, q, b, u);
+    // the value u: what each child has then; the other value: what the row has then
+    let left = x.this | r.this;
+    let right = y.this | r.this;
+    let part = r.other | x.other | y.other;
+    let c1 = add_words(marks, n, q, row, u, left & right, part);
+    let c2 = add_words(marks, n, q, a, u, left, part & right);
+    let c3 = add_words(marks, n, q, b, u, right, part & left);
     Changed {
-        row: whole.row + part.row,
-        left: whole.left + part.left,
-        right: whole.right + part.right,
+        row: c1,
+        left: c2,
+        right: c3,
     }
 }
 
@@ -98,13 +55,13 @@ pub fn not_step(marks: &mut [u64], n: usize, q: usize, row: usize, x: usize) -> 
     ensures { λ c. ⌜ ((W : ℕ) → ByNode (notOf x) row (_or_ (Wrote row q (c .row)) (Wrote x q (c .left))) (λ S. SettledIn q W S row (notOf x)) W n (now (marks .entry)) (now (marks .exit)) (c .row + c .left)) ⌝ }
     ensures { λ c. ⌜ c .row + c .left ≤ 4 ⌝ }
 {
-    let c1 = flow(marks, n, q, row, true, row, true, x, false);
-    let c2 = flow(marks, n, q, row, false, row, false, x, true);
-    let c3 = flow(marks, n, q, x, true, x, true, row, false);
-    let c4 = flow(marks, n, q, x, false, x, false, row, true);
+    let r = words_at(marks, n, q, row, true);
+    let y = words_at(marks, n, q, x, true);
+    let own = add_words(marks, n, q, row, true, y.other, y.this);
+    let child = add_words(marks, n, q, x, true, r.other, r.this);
     Changed {
-        row: c3 + c4,
-        left: c1 + c2,
+        row: own,
+        left: child,
         right: 0,
     }
 }
@@ -130,14 +87,17 @@ fn link_step(
     ensures { λ c. ⌜ ByLink lo p hi q k window n (now (marks .entry)) (now (marks .exit)) (c .lo) (c .hi) ⌝ }
     ensures { λ c. ⌜ c .lo + c .hi ≤ 4 ⌝ }
 {
-    let c1 = rise(marks, n, p, lo, q, hi, true, k, window);
-    let c2 = fall(marks, n, p, lo, q, hi, true, k, window);
-    let c3 = rise(marks, n, p, lo, q, hi, false, k, window);
-    let c4 = fall(marks, n, p, lo, q, hi, false, k, window);
-    Ends {
-        lo: c2 + c4,
-        hi: c1 + c3,
-    }
+    let a = words_at(marks, n, p, lo, true);
+    let b = words_at(marks, n, q, hi, true);
+    let above = window_word(window, q);
+    let below = window_word(window, p);
+    let up = above & (a.this << k);
+    let up_other = above & (a.other << k);
+    let down = below & (b.this >> k);
+    let down_other = below & (b.other >> k);
+    let c1 = add_words(marks, n, q, hi, true, up, up_other);
+    let c2 = add_words(marks, n, p, lo, true, down, down_other);
+    Ends { lo: c2, hi: c1 }
 }
 
 // Of a look's rules those between the child's word q and the row's word q - offset / 64, if there is one: it looks at the lower ticks.

@@ -1,19 +1,44 @@
-// The words of a table of marks: reading one, joining ticks to one, and the window's ticks.
+// The words of a table of marks: reading them, joining ticks to them, and the window's ticks.
 // Assumes that the table has the row.
 use table::block_of;
 ghost use mathlib.Core.Path.{_≡_};
-ghost use Prim.Native.Nat.{_+_, _*_, _<_};
+ghost use Prim.Native.Nat.{_+_, _*_, _^_, _<_};
 ghost use lib.ListN.{getD};
 ghost use Rattle.ticks.specs.Ticks.{block};
-ghost use Rattle.marking.specs.Gains.{HasRow, Ticks, Here, Bits, Joins};
+ghost use Rattle.marking.specs.Gains.{HasRow, Ticks, Here, Sides, Reads, Bits, Joins};
+
+// The place of word q of a row's marks of one value.
+fn place_of(n: usize, q: usize, row: usize, value: bool) -> usize
+    requires { ⌜ (q < n) × (2 * (row + 1) * n < 2 ^ 64) ⌝ }
+    ensures { λ i. ⌜ (i ≡ block row value * n + q) × (i < 2 * (row + 1) * n) ⌝ }
+{
+    let k = block_of(row, value);
+    k * n + q
+}
 
 // Word q of a row's marks of one value.
 pub fn word_at(marks: &[u64], n: usize, q: usize, row: usize, value: bool) -> u64
     requires { ⌜ (q < n) × HasRow n (now marks) row ⌝ }
     ensures { λ w. ⌜ w ≡ getD (now (marks .entry)) (block row value * n + q) 0 ⌝ }
 {
-    let k = block_of(row, value);
-    marks[k * n + q]
+    let i = place_of(n, q, row, value);
+    marks[i]
+}
+
+// A word of a row's marks of one value, and that of the other value.
+pub struct Words {
+    pub this: u64,
+    pub other: u64,
+}
+
+// Word q of a row's marks of value u, and that of the other value.
+pub fn words_at(marks: &[u64], n: usize, q: usize, row: usize, u: bool) -> Words
+    requires { ⌜ (q < n) × HasRow n (now marks) row ⌝ }
+    ensures { λ w. ⌜ Reads n (now (marks .entry)) q row u (w .this) (w .other) ⌝ }
+{
+    let this = word_at(marks, n, q, row, u);
+    let other = word_at(marks, n, q, row, !u);
+    Words { this, other }
 }
 
 // Joins ticks to word q of a row's marks of one value; 0 if they were there.
@@ -21,14 +46,40 @@ pub fn add_word(marks: &mut [u64], n: usize, q: usize, row: usize, value: bool, 
     requires { ⌜ (q < n) × HasRow n (now marks) row ⌝ }
     ensures { λ changed. ⌜ Joins n (Here row value q (Bits ticks)) (now (marks .entry)) (now (marks .exit)) changed ⌝ }
 {
-    let k = block_of(row, value);
-    let i = k * n + q;
+    let i = place_of(n, q, row, value);
     let old = marks[i];
     let new = old | ticks;
     if new == old {
         return 0;
     }
     marks[i] = new;
+    1
+}
+
+// Joins ticks to word q of a row's marks of value u, and others to that of the other value; 0 if all were there.
+pub fn add_words(
+    marks: &mut [u64],
+    n: usize,
+    q: usize,
+    row: usize,
+    u: bool,
+    ticks: u64,
+    others: u64,
+) -> u64
+    requires { ⌜ (q < n) × HasRow n (now marks) row ⌝ }
+    ensures { λ changed. ⌜ Joins n (Sides row u q (Bits ticks) (Bits others)) (now (marks .entry)) (now (marks .exit)) changed ⌝ }
+{
+    let i = place_of(n, q, row, u);
+    let j = place_of(n, q, row, !u);
+    let a = marks[i];
+    let b = marks[j];
+    let x = a | ticks;
+    let y = b | others;
+    if (x ^ a) | (y ^ b) == 0 {
+        return 0;
+    }
+    marks[i] = x;
+    marks[j] = y;
     1
 }
 

@@ -5,42 +5,58 @@ use Rattle.marking.proofs.RowRules.{link-steps}
 use Rattle.marking.proofs.steps.link_step.Statement.{statement}
 use Rattle.marking.proofs.steps.link_step.Tie as tie
 
-rise-requires : tie.Need-rise-requires
-rise-requires c κs = search needs
+words-at-requires : tie.Need-words-at-requires
+words-at-requires c κs = search needs
 
-fall-requires : tie.Need-fall-requires
-fall-requires c κs = search needs
+words-at-requires-2 : tie.Need-words-at-requires-2
+words-at-requires-2 c κs = search needs
 
-rise-requires-2 : tie.Need-rise-requires-2
-rise-requires-2 c κs = search needs
+window-word-requires : tie.Need-window-word-requires
+window-word-requires c κs = search needs
 
-fall-requires-2 : tie.Need-fall-requires-2
-fall-requires-2 c κs = search needs
+window-word-requires-2 : tie.Need-window-word-requires-2
+window-word-requires-2 c κs = search needs
 
-add-t21 : tie.Need-add-t21
-add-t21 c = search needs
+shl-up : tie.Need-shl-up
+shl-up c = search needs
 
-add-t22 : tie.Need-add-t22
-add-t22 c = search needs
+shl-up-other : tie.Need-shl-up-other
+shl-up-other c = search needs
+
+shr-down : tie.Need-shr-down
+shr-down c = search needs
+
+shr-down-other : tie.Need-shr-down-other
+shr-down-other c = search needs
+
+add-words-requires : tie.Need-add-words-requires
+add-words-requires c κs = search needs
+
+add-words-requires-2 : tie.Need-add-words-requires-2
+add-words-requires-2 c κs = search needs
 
 same-length : tie.Need-same-length
 same-length c = search needs
 
 returns : tie.Need-returns
-returns c = (
-  link-steps _ _ _ _ _ _ _ _ _ _ _ _ _ _ _ _ (c .before .before .before .before .before .before .before .before .before .before .before .before .before .before .before .before .before .pre .7) (c .before .before .before .before .before .before .before .before .before .before .before .before .before .before .rise .ensures) (c .before .before .before .before .before .before .before .before .before .before .fall .ensures) (c .before .before .before .before .before .before .rise2 .ensures) (c .before .before .fall2 .ensures),
-  omega (arith, c .before .before .before .before .before .before .before .before .before .before .before .before .before .before .rise .ensures .small, c .before .before .before .before .before .before .before .before .before .before .fall .ensures .small, c .before .before .before .before .before .before .rise2 .ensures .small, c .before .before .fall2 .ensures .small),
-)
+returns c =
+    let i = c .before .before .before .before .before .before .add-words .ensures in
+    let j = c .before .before .add-words2 .ensures in
+    (link-steps _ _ _ _ _ _ _ _ _ _ _ _ (c .before .before .before .before .before .before .before .before .before .before .before .before .before .before .before .before .before .before .before .pre .7) _ _ (c .before .before .before .before .before .before .before .before .before .before .before .before .before .before .before .before .words-at .ensures) (c .before .before .before .before .before .before .before .before .before .before .before .before .before .before .words-at2 .ensures) (omega arith) (omega arith) (c .before .before .before .before .before .before .before .before .before .before .before .before .before .window-word .ensures) (c .before .before .before .before .before .before .before .before .before .before .before .before .window-word2 .ensures) i j, omega (arith, i .small, j .small))
 
 pub link-step-spec : {M : Type 1} → statement M
 link-step-spec =
     tie.close
     (tie.spec
-    rise-requires
-    fall-requires
-    rise-requires-2
-    fall-requires-2
-    add-t21
-    add-t22
+    words-at-requires
+    words-at-requires-2
+    window-word-requires
+    window-word-requires-2
+    shl-up
+    shl-up-other
+    shr-down
+    shr-down-other
+    add-words-requires
+    add-words-requires-2
     same-length
     returns)
