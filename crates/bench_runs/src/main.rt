@@ -10,13 +10,13 @@ use answers::print_answer;
 use bench_parts::clear;
 use bench_parts::number_of;
 use bench_parts::read_text;
+use names::word_is;
 use reader::adding::Adding;
 use reader::adding::add;
 use reader::checking::Checking;
 use reader::checking::check;
 use reading::read_sheet;
 use taking::take;
-use text::words::word_is;
 ghost use Prim.Native.Nat.{_≤_};
 
 // How far a run goes.

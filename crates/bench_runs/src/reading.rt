@@ -1,10 +1,10 @@
 // The sheet's text read with all its rules, and not lowered: what `check` does but for the rows. Assumes nothing of the text.
 use crate::answers::Answer;
-use formula::parser::Parsed;
-use sheet::head::Heading;
-use sheet::head::head;
+use formula::parts::Parsed;
 use sheet::rules::rule_line;
-ghost use Rattle.lowering.specs.Rules.{Legible};
+use sheet_head::Heading;
+use sheet_head::head;
+ghost use Rattle.rule_lines.specs.InTurn.{Legible};
 
 // Reads the rules on the `m` lines from `first` on, up to the sheet's end, each into the same arena.
 fn read_lines(s: &[u8], places: &[u64], m: usize, first: usize) -> Answer

@@ -1,9 +1,9 @@
 // What an add does before it closes the table: the sheet is opened and the readings are taken. Assumes nothing.
 use crate::answers::Answer;
-use opening::Opening;
 use opening::open_table;
 use readings::whole::Outcome;
 use readings::whole::take_readings;
+use sheet_opening::Opening;
 use table::words_of;
 use telling::count_facts;
 ghost use Prim.Native.Nat.{_*_, _≤_};

@@ -10,9 +10,10 @@ use Rattle.text.specs.Read.Read.{got, refused as unread}
 use Rattle.text.specs.Bytes.{pick}
 use Rattle.tilco.specs.Table.{Answer}
 use Rattle.sheet.specs.Sheet.{Contents, sheetOf, meant}
-use Rattle.opening.specs.Results.{Result, accepted, refused}
+use Rattle.sheet_opening.specs.Results.{Result, accepted, refused}
 use Rattle.reader.specs.Results.{Gain}
-use Rattle.opening.specs.Opening.{fits, sized, sheetIn, namesIn, Opens}
+use Rattle.sheet_opening.specs.SheetIn.{fits, sized, sheetIn, namesIn}
+use Rattle.opening.specs.Opening.{Opens}
 use Rattle.opening.specs.Opening.Opens.{both, not-the-sheet, not-the-length, not-inside}
 use Rattle.reader.specs.Operations.{counted, checked, Adds, Asks}
 use Rattle.reader.specs.Operations.Adds.{not-opened, not-read, added}

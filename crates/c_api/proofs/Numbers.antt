@@ -8,23 +8,25 @@ use lib.Dec.{T, ltb, leb, eqb}
 use lib.ListN.{length, take}
 use Rattle.text.specs.declared.bytes.Class.{Class}
 use Rattle.text.specs.declared.bytes.Class.the-variants.{Letter, Digit, Sign, Bracket, Other}
-use Rattle.text.specs.declared.words.Word.{Word}
-use Rattle.text.specs.declared.words.Word.the-variants as word
+use Rattle.names.specs.declared.Word.{Word}
+use Rattle.names.specs.declared.Word.the-variants as word
 use Rattle.text.specs.declared.numbers.Number.{Number}
 use Rattle.text.specs.declared.numbers.Number.the-variants.{Value, Missing}
 use Rattle.text.specs.Read.{Read, andThen}
 use Rattle.text.specs.Read.Read.{got, refused}
 use Rattle.text.specs.Bytes.{byte, bytes, peek, pick, between, oneOf, classOf, starts}
-use Rattle.text.specs.Words.{wordAt, wordEnd, namesAt, findName, isWord, nameAt}
+use Rattle.names.specs.Words.{wordAt, wordEnd, namesAt, findName, isWord, nameAt}
 use Rattle.text.specs.Numbers.{number}
-use Rattle.text.specs.Lines.{lineEnd, line, wholeNumber, wholeName, numberLine, rangedLine, nameLine, inTurn, upTo}
+use Rattle.lines.specs.Lines.{lineEnd, line, wholeNumber, wholeName, numberLine, rangedLine, nameLine, inTurn, upTo}
 use Rattle.tilco.specs.Formula.{Op, And, Or, Implies, Iff, Written}
-use Rattle.formula.specs.declared.interval.Span.{Span}
-use Rattle.formula.specs.declared.interval.Span.the-variants as span
-use Rattle.formula.specs.Interval.{endAt, endThen, endAfter, near, leftOut, spanOf, closeAt, commaAt, interval}
+use Rattle.intervals.specs.declared.Span.{Span}
+use Rattle.intervals.specs.declared.Span.the-variants as span
+use Rattle.intervals.specs.Interval.{endAt, endThen, endAfter, near, leftOut, spanOf, closeAt, commaAt, interval}
 use Rattle.formula.specs.Grammar.{Reader, declared, spanThen, times, timedPart, signText, repeats, more, level, formula, negated, closed, inParens, second, arguments, kept, worded, plainBy, plainIn, inside, plain, rule}
-use Rattle.sheet.specs.Sheet.{signalLine, headOf, head, ruleTo, ruleLine, rules, contents, sheetOf}
-use Rattle.readings.specs.Readings.{knownLine, reading, readings}
+use Rattle.sheet_head.specs.SheetHead.{signalLine, headOf, head}
+use Rattle.sheet.specs.Sheet.{ruleTo, ruleLine, rules, contents, sheetOf}
+use Rattle.one_reading.specs.OneReading.{knownLine, reading}
+use Rattle.readings.specs.Readings.{readings}
 
 -- Is n a refusal's number?
 abbrev pub Listed : ℕ → Type 0

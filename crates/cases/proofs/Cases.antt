@@ -3,19 +3,23 @@
 use mathlib.Core.Path.{refl}
 use mathlib.Core.List.{List, [], _∷_}
 use Rattle.text.specs.Bytes.{peek, classOf, nameByte, starts, run, runAt, runEnd}
-use Rattle.text.specs.Words.{namesAt, sameText, findName, isWord, nameAt}
+use Rattle.names.specs.Words.{namesAt, sameText, findName, isWord, nameAt}
 use Rattle.text.specs.Numbers.{digits, number}
-use Rattle.text.specs.Lines.{inLine, line, numberLine, rangedLine, nameLine, inTurn, upTo}
+use Rattle.lines.specs.Lines.{inLine, line, numberLine, rangedLine, nameLine, inTurn, upTo}
 use Rattle.tilco.specs.Lists.{All}
 use Rattle.tilco.specs.Cases.{Case, Holds, cases}
 use Rattle.tilco.proofs.Cases.{cases-hold}
-use Rattle.formula.specs.Interval.{signed, endAt, spanOf, endAfter, closeAt, commaAt, interval}
+use Rattle.intervals.specs.Interval.{signed, endAt, spanOf, endAfter, closeAt, commaAt, interval}
 use Rattle.formula.specs.Grammar.{declared, times, timedPart, more, level, second, kept, worded, plainIn, inside, plain, rule}
-use Rattle.sheet.specs.Sheet.{signalLine, head, ruleTo, ruleLine, rules, sheetOf}
-use Rattle.readings.specs.Readings.{knownLine, reading, readings}
+use Rattle.sheet_head.specs.SheetHead.{signalLine, head}
+use Rattle.sheet.specs.Sheet.{ruleTo, ruleLine, rules, sheetOf}
+use Rattle.one_reading.specs.OneReading.{knownLine, reading}
+use Rattle.readings.specs.Readings.{readings}
 use Rattle.writing.specs.Writes.{lastDigits, decimalText}
-use Rattle.listing.specs.Listing.{lineText, signalText, headText}
-use Rattle.opening.specs.Opening.{fits, sheetIn}
+use Rattle.listing_lines.specs.LineTexts.{lineText}
+use Rattle.listing_signals.specs.Signals.{signalText}
+use Rattle.listing.specs.Listing.{headText}
+use Rattle.sheet_opening.specs.SheetIn.{fits, sheetIn}
 use Rattle.cases.specs.Texts.{TextCase, textCases, Settled}
 use Rattle.cases.proofs.ReadAs.{ReadAs, read-settles}
 

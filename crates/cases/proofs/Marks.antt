@@ -13,7 +13,7 @@ use Rattle.tilco.specs.Lists.{tab}
 use Rattle.tilco.specs.Table.{Answer, Unsettled, True, False, Contradiction}
 use Rattle.tilco.specs.Cases.{signOf}
 use Rattle.tilco.specs.Cases as case
-use Rattle.listing.specs.Listing.{signByte, signs, signalText, signalsText}
+use Rattle.listing_signals.specs.Signals.{signByte, signs, signalText, signalsText}
 
 -- ---- a sign before a text
 

@@ -12,8 +12,8 @@ use Rattle.ticks.proofs.Tables.{empty-bare, empty-tally}
 use Rattle.text.specs.Read.{Read}
 use Rattle.text.specs.Read.Read.{got, refused as unread}
 use Rattle.text.specs.Bytes.{bytes}
-use Rattle.text.specs.Words.{sameText}
-use Rattle.text.proofs.Names.{same-text, names-many}
+use Rattle.names.specs.Words.{sameText}
+use Rattle.names.proofs.Names.{same-text, names-many}
 use Rattle.tilco.specs.Lists.{tab}
 use Rattle.tilco.specs.Formula.{Sheet}
 use Rattle.tilco.specs.Inference.{Mark}
@@ -23,10 +23,12 @@ use Rattle.tilco.specs.Cases.{Case, signs, Holds}
 use Rattle.tilco.proofs.Demand1.{asked-one}
 use Rattle.sheet.specs.Sheet.{Contents, meant}
 use Rattle.readings.specs.Readings.{readings}
-use Rattle.listing.specs.Listing.{signalsText, headText, listingText}
-use Rattle.opening.specs.Results.{Result, accepted, refused}
+use Rattle.listing_signals.specs.Signals.{signalsText}
+use Rattle.listing.specs.Listing.{headText, listingText}
+use Rattle.sheet_opening.specs.Results.{Result, accepted, refused}
 use Rattle.reader.specs.Results.{gain}
-use Rattle.opening.specs.Opening.{sheetIn, namesIn, Opens, blank}
+use Rattle.sheet_opening.specs.SheetIn.{sheetIn, namesIn, blank}
+use Rattle.opening.specs.Opening.{Opens}
 use Rattle.opening.specs.Opening.Opens.{both}
 use Rattle.reader.specs.Operations.{Adds}
 use Rattle.reader.specs.Operations.Adds.{added}

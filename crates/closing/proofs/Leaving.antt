@@ -2,9 +2,8 @@
 -- Assumes that the words are a program's rows.
 use mathlib.Core.Path.{_≡_, refl, sym, _∙_, subst}
 use mathlib.Core.List.{List}
-use mathlib.Core.Logic.{inl, ⊎-elim}
+use mathlib.Core.Logic.{_⊎_, inl, inr, ⊎-elim}
 use Prim.Native.Nat.{ℕ, _+_, _*_, _<_, _≤_}
-use native.Mathlib.Decide.{ℕ-discrete}
 use native.Mathlib.Omega.{arith}
 use lib.ListN.{length, getD}
 use Rattle.rows.specs.Words.{rowAt}
@@ -16,7 +15,7 @@ use Rattle.marking.specs.Settled.{Rests}
 use Rattle.work_list.specs.Items.{per, Touched, Done}
 use Rattle.visiting.specs.Visits.{Late}
 use Rattle.visiting.proofs.Visiting.{late-none}
-use Rattle.closing.specs.Rounds.{DoneBut, Stretch, Only, Either, Works, Taken, Replaced, NoItem, InWord}
+use Rattle.closing.specs.Rounds.{DoneBut, Stretch, Only, Either, Works, Taken, NoItem, InWord}
 use Rattle.closing.proofs.Working.{works-none, works-word, stretch-then, stretch-end}
 
 -- Visits to items of word q, after which the row `late` is left to note in that word.
@@ -38,35 +37,28 @@ module _ (count : ℕ) (B : List ℕ) (coded : Coded count B) where
   rests-none r p q l h =
       omega (arith, rests-below (rowAt B r) r p count q (subst (Fine r) (coded .codes .nodes r) (coded .codes .fine r)) h)
 
-  -- ---- one row takes the place of another
-  module _ (n q late next : ℕ) (D : List ℕ) where
-    pub replaced-none : late ≡ count → Replaced count B n q late next D D
-    replaced-none e = record {
-      size = refl;
-      kept = λ r p l h i. i;
-      noted = λ f r p l h s. absurd (rests-none r p q l (subst (λ (x : ℕ). Rests (rowAt B r) r p x q) e s));
-      same = λ g. refl;
-    }
-
-    pub replaced-noted : (D′ : List ℕ) → (late ≡ next → ⊥) → Touched count B n late q D D′ → Replaced count B n q late next D D′
-    replaced-noted D′ f t = record { size = t .size; kept = t .kept; noted = λ g. t .noted; same = λ e. absurd (f e) }
+  -- It is noted where nothing is done.
+  pub touched-none : (n q late : ℕ) (D : List ℕ) → late ≡ count → Touched count B n late q D D
+  touched-none n q late D e = record {
+    size = refl;
+    kept = λ r p l h i. i;
+    noted = λ r p l h s. absurd (rests-none r p q l (subst (λ (x : ℕ). Rests (rowAt B r) r p x q) e s));
+  }
 
   module _ (W n q : ℕ) where
     -- What is settled but for two rows is settled but for the second, when the first was noted.
-    done-replaced : (late next : ℕ) (T D D′ : List ℕ) → Replaced count B n q late next D D′ → DoneBut (Either late next) q count B W n T D → DoneBut (Only next) q count B W n T D′
-    done-replaced late next T D D′ f d r p l h off free = d r p l h (λ t. off (f .kept r p l h t)) (λ x. ⊎-elim (first x) (free x))
-      where
-        first : (x : ℕ) → x ≡ late → Rests (rowAt B r) r p x q → ⊥
-        first x e s = go (ℕ-discrete late next)
-          where
-            go : Dec (late ≡ next) → ⊥
-            go (yes g) = free x (e ∙ g) s
-            go (no g) = off (f .noted g r p l h (subst (λ (y : ℕ). Rests (rowAt B r) r p y q) e s))
+    done-noted : (late next : ℕ) (T D D′ : List ℕ) → Touched count B n late q D D′ → DoneBut (Either late next) q count B W n T D → DoneBut (Only next) q count B W n T D′
+    done-noted late next T D D′ f d r p l h off free =
+        d r p l h (λ t. off (f .kept r p l h t))
+        (λ x. ⊎-elim (λ e s. off (f .noted r p l h (subst (λ (y : ℕ). Rests (rowAt B r) r p y q) e s))) (free x))
+
+    -- And but for the first, if the second is the same row or none.
+    done-first : (late next : ℕ) (T D : List ℕ) → (next ≡ late) ⊎ (next ≡ count) → DoneBut (Either late next) q count B W n T D → DoneBut (Only late) q count B W n T D
+    done-first late next T D same d r p l h off free =
+        d r p l h off
+        (λ x. ⊎-elim (free x) (λ g s. ⊎-elim (λ e. free x (g ∙ e) s) (λ e. rests-none r p q l (subst (λ (y : ℕ). Rests (rowAt B r) r p y q) (g ∙ e) s)) same))
 
     -- A row `count` leaves nothing unsettled.
-    done-without : (late next : ℕ) (T D : List ℕ) → next ≡ count → DoneBut (Either late next) q count B W n T D → DoneBut (Only late) q count B W n T D
-    done-without late next T D e d r p l h off free = d r p l h off (λ x. ⊎-elim (free x) (λ g s. rests-none r p q l (subst (λ (y : ℕ). Rests (rowAt B r) r p y q) (g ∙ e) s)))
-
     done-all : (T D : List ℕ) → DoneBut (Only count) q count B W n T D → Done count B W n T D
     done-all T D d r p l h off = d r p l h off (λ x e s. rests-none r p q l (subst (λ (y : ℕ). Rests (rowAt B r) r p y q) e s))
 
@@ -77,36 +69,47 @@ module _ (count : ℕ) (B : List ℕ) (coded : Coded count B) where
         record { long = refl; each = λ P c. stretch-end (λ e. refl) (λ d r p l h off free. d r p l h off) (w .each P c); row = late-none count 0 }
 
     module _ {T T′ T″ D D′ D″ : List ℕ} {x y : ℕ} (late next j : ℕ) where
-      -- An item more that changes nothing, and one that changes something.
+      -- An item more, z says whether something changed: both rows are left to note.
+      both : (z : ℕ) → (z ≡ 0 → x + y ≡ 0) → (0 < z → 0 < x + y) → WorksBut count B W n q T T′ D D′ x late → Taken count B W n q j T′ T″ D′ D″ y next
+          → (P : Program) → Codes P count B → Stretch (Done count B W n) (DoneBut (Either late next) q count B W n) count n P W NoItem T T″ D D″ z
+      both z none some a b P c = stretch-then NoItem NoItem NoItem z (λ r p h i. inl i) none some (a .each P c) (b .each P c late)
+
+      -- It changes nothing.
       pub but-still : y ≡ 0 → WorksBut count B W n q T T′ D D′ x late → Taken count B W n q j T′ T″ D′ D″ y next → WorksBut count B W n q T T″ D D″ x late
       but-still e a b = record {
         long = b .long ∙ a .long;
-        each = λ P c. stretch-end (λ g. refl) (done-without late next T″ D″ (b .row .none e))
-            (stretch-then NoItem NoItem NoItem x (λ r p h i. inl i) (λ g. omega arith) (λ g. omega arith) (a .each P c) (b .each P c late));
+        each = λ P c. stretch-end (λ g. refl) (done-first late next T″ D″ (inr (b .row .none e))) (both x (λ g. omega arith) (λ g. omega arith) a b P c);
         row = a .row;
       }
 
-      pub but-more : {D‴ : List ℕ} → 0 < y → WorksBut count B W n q T T′ D D′ x late → Taken count B W n q j T′ T″ D′ D″ y next → Replaced count B n q late next D″ D‴
+      -- It changes something, and leaves the same row or another one.
+      pub but-same : 0 < y → next ≡ late → WorksBut count B W n q T T′ D D′ x late → Taken count B W n q j T′ T″ D′ D″ y next → WorksBut count B W n q T T″ D D″ 1 late
+      but-same l e a b = record {
+        long = b .long ∙ a .long;
+        each = λ P c. stretch-end (λ g. refl) (done-first late next T″ D″ (inl e)) (both 1 (λ g. absurd (omega arith)) (λ g. omega arith) a b P c);
+        row = record { most = a .row .most; none = λ g. absurd (omega arith) };
+      }
+
+      pub but-other : {D‴ : List ℕ} → 0 < y → WorksBut count B W n q T T′ D D′ x late → Taken count B W n q j T′ T″ D′ D″ y next → Touched count B n late q D″ D‴
           → WorksBut count B W n q T T″ D D‴ 1 next
-      but-more {D‴} l a b f = record {
+      but-other {D‴} l a b f = record {
         long = f .size ∙ b .long ∙ a .long;
-        each = λ P c. stretch-end (λ g. absurd (omega arith)) (done-replaced late next T″ D″ D‴ f)
-            (stretch-then NoItem NoItem NoItem 1 (λ r p h i. inl i) (λ g. absurd (omega arith)) (λ g. omega arith) (a .each P c) (b .each P c late));
-        row = record { most = b .row .most; none = λ e. absurd (omega arith) };
+        each = λ P c. stretch-end (λ g. absurd (omega arith)) (done-noted late next T″ D″ D‴ f) (both 1 (λ g. absurd (omega arith)) (λ g. omega arith) a b P c);
+        row = record { most = b .row .most; none = λ g. absurd (omega arith) };
       }
 
     -- Nothing is left to note at the end, and no item of the i-th word of the list.
     pub but-end : (i late : ℕ) (T T′ D D′ D″ : List ℕ) (x : ℕ) → getD D′ (q * per count + i) 0 ≡ 0 → WorksBut count B W n q T T′ D D′ x late
-        → Replaced count B n q late count D′ D″ → Works count B W n (InWord q i) T T′ D D″ x
-    but-end i late T T′ D D′ D″ x z a f =
+        → Touched count B n late q D′ D″ → (late ≡ count → D″ ≡ D′) → Works count B W n (InWord q i) T T′ D D″ x
+    but-end i late T T′ D D′ D″ x z a f none =
         works-word count B W n q i T T′ D D″ x (λ e. subst (λ (X : List ℕ). getD X (q * per count + i) 0 ≡ 0) (sym (same e)) z)
         (record {
           long = f .size ∙ a .long;
-          each = λ P c. stretch-end same (λ d. done-all T′ D″ (done-replaced late count T′ D′ D″ f (λ r p l h off free. d r p l h off (λ y e. free y (inl e))))) (a .each P c);
+          each = λ P c. stretch-end same (λ d. done-all T′ D″ (done-noted late count T′ D′ D″ f (λ r p l h off free. d r p l h off (λ y e. free y (inl e))))) (a .each P c);
         })
       where
         same : x ≡ 0 → D″ ≡ D′
-        same e = f .same (a .row .none e)
+        same e = none (a .row .none e)
 
   -- No mark leaves the window.
   pub but-inside : (W n q late : ℕ) {T T′ D D′ : List ℕ} {x : ℕ} → Inside W (Stands n T) → WorksBut count B W n q T T′ D D′ x late → Inside W (Stands n T′)

@@ -12,7 +12,7 @@ use Rattle.tilco.specs.Table.{Stands}
 use Rattle.marking.specs.Codes.{Codes}
 use Rattle.marking.specs.Gains.{room}
 use Rattle.marking.specs.Settled.{SettledIn, Rests}
-use Rattle.work_list.specs.Items.{ToDo, Noted, Done}
+use Rattle.work_list.specs.Items.{ToDo, Done}
 use Rattle.visiting.specs.Visits.{Late}
 
 -- Every item that is not on the list, and rests on word q of no row among L, is settled.
@@ -62,13 +62,6 @@ pub record Taken (count : ℕ) (B : List ℕ) (W n q j : ℕ) (T T′ D D′ : L
       → Stretch (DoneBut (Only before) q count B W n) (DoneBut (Either before late) q count B W n) count n P W NoItem T T′ D D′ changed
   pub row : Late count changed late
   pub less : changed ≡ 0 → getD D′ j 0 < getD D j 0
-
--- The row `next` takes the place of the row `late`: if they differ, every item that rests on word q of the latter is on the list then.
-pub record Replaced (count : ℕ) (B : List ℕ) (n q late next : ℕ) (D D′ : List ℕ) : Type 0 where
-  pub size : length D′ ≡ length D
-  pub kept : (r p : ℕ) → r < count → p < n → ToDo count D r p → ToDo count D′ r p
-  pub noted : (late ≡ next → ⊥) → Noted count B n D′ late q
-  pub same : late ≡ next → D′ ≡ D
 
 -- The items of word q, and those of them in its i-th word of the list.
 abbrev pub InColumn : ℕ → ℕ → ℕ → Type 0

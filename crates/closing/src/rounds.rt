@@ -13,9 +13,9 @@ ghost use Rattle.tilco.specs.Table.{Stands, Inside};
 ghost use Rattle.marking.specs.Codes.{Coded};
 ghost use Rattle.marking.specs.Moves.{Sized};
 ghost use Rattle.closing.specs.Closes.{ClosesAll};
-ghost use Rattle.work_list.specs.Items.{per, Roomy, Done};
+ghost use Rattle.work_list.specs.Items.{per, Roomy, Touched, Done};
 ghost use Rattle.visiting.specs.Visits.{Late, Visits};
-ghost use Rattle.closing.specs.Rounds.{Works, Taken, Replaced, InWord, InColumn, AnyItem, turn};
+ghost use Rattle.closing.specs.Rounds.{Works, Taken, InWord, InColumn, AnyItem, turn};
 ghost use Rattle.work_list.specs.Links.{Linked};
 
 // Clears bit k, which is set, of word j of the list.
@@ -88,14 +88,13 @@ fn take_item(
     v
 }
 
-// The row `next` takes the place of the row `late`, which is noted in word q if it is another one and a row of the program.
-fn replace_late(
+// Notes the row `late` in word q, if there is one.
+fn note_late(
     rows: &[u64],
     count: usize,
     n: usize,
     q: usize,
     late: usize,
-    next: usize,
     heads: &[u16],
     nexts: &[u16],
     todo: &mut [u64],
@@ -104,11 +103,9 @@ fn replace_late(
     requires { ⌜ (q < n) × (late ≤ count) ⌝ }
     requires { ⌜ Linked count (now rows) (now heads) (now nexts) ⌝ }
     requires { ⌜ Roomy count n (now todo) ⌝ }
-    ensures { λ _. ⌜ Replaced count (now (rows .entry)) n q late next (now (todo .entry)) (now (todo .exit)) ⌝ }
+    ensures { λ _. ⌜ Touched count (now (rows .entry)) n late q (now (todo .entry)) (now (todo .exit)) ⌝ }
+    ensures { λ _. ⌜ (late ≡ count → now (todo .exit) ≡ now (todo .entry)) ⌝ }
 {
-    if late == next {
-        return;
-    }
     if late == count {
         return;
     }
@@ -160,11 +157,14 @@ fn work_word(
         let v = take_item(rows, count, i, k, q, n, window, heads, nexts, todo, marks);
         if v.changed != 0 {
             changed = 1;
-            replace_late(rows, count, n, q, late, v.late, heads, nexts, todo);
-            late = v.late;
+            if v.late != late {
+                let old = late;
+                late = v.late;
+                note_late(rows, count, n, q, old, heads, nexts, todo);
+            }
         }
     }
-    replace_late(rows, count, n, q, late, count, heads, nexts, todo);
+    note_late(rows, count, n, q, late, heads, nexts, todo);
     changed
 }
 

@@ -13,7 +13,7 @@ use Rattle.sheet.proofs.Accepted.{sheet-declared}
 use Rattle.marking.specs.Codes.{Coded}
 use Rattle.marking.specs.Moves.{Sized}
 use Rattle.work_list.specs.Items.{Roomy}
-use Rattle.opening.specs.Ready.{Ready}
+use Rattle.sheet_opening.specs.Ready.{Ready}
 use Rattle.opening.proofs.Tables.{in-sheet, row-range}
 use Rattle.closing_runs.specs.Prepared.{Prepared, Lent}
 

@@ -4,20 +4,21 @@ use mathlib.Core.Path.{_≡_, sym, ap, _∙_}
 use mathlib.Core.List.{List, List·Permᴰ, Permᴰ·symm}
 use Prim.Native.Nat.{ℕ}
 use native.Mathlib.Omega.{arith}
-use Rattle.text.specs.Words.{namesAt}
+use Rattle.names.specs.Words.{namesAt}
 use Rattle.text.proofs.Answers.{same-value}
 use Rattle.tilco.specs.Formula.{hiddens, Sheet, withRules}
 use Rattle.tilco.specs.Lowering.{rowCount}
 use Rattle.tilco.proofs.Lists.{total-stays}
 use Rattle.tilco.proofs.Demand3.{shuffle-keeps-rows}
-use Rattle.sheet.specs.Sheet.{Head, Contents, meant, ruleLines, sheetText}
+use Rattle.sheet_head.specs.SheetHead.{Head}
+use Rattle.sheet.specs.Sheet.{Contents, meant, ruleLines, sheetText}
 use Rattle.sheet.proofs.Wholes.{sheet-head}
-use Rattle.sheet.proofs.HeadPrefix.{head-kept, head-names-kept}
+use Rattle.sheet_head.proofs.HeadPrefix.{head-kept, head-names-kept}
 use Rattle.sheet.proofs.Shuffled.{ShuffledFrom, shuffled, shuffled-meant}
-use Rattle.opening.specs.Results.{accepted}
-use Rattle.opening.specs.Opening.{sheetIn, namesIn}
+use Rattle.sheet_opening.specs.Results.{accepted}
+use Rattle.sheet_opening.specs.SheetIn.{sheetIn, namesIn}
 use Rattle.reader.specs.Operations.{counted, checked}
-use Rattle.opening.proofs.Sheets.{in-fits}
+use Rattle.sheet_opening.proofs.Sheets.{in-fits}
 use Rattle.opening.proofs.Tables.{InSheet, in-sheet}
 use Rattle.demands.specs.Shuffles.{Parted}
 

@@ -16,9 +16,9 @@ use Rattle.tilco.specs.Table.{Standing, tableWords, factsOf, Taken, Agrees, Lea
 use Rattle.tilco.specs.Calls.{Some}
 use Rattle.sheet.specs.Sheet.{Contents, meant, sheetText}
 use Rattle.readings.specs.Readings.{readings}
-use Rattle.opening.specs.Results.{Result, accepted, refused}
+use Rattle.sheet_opening.specs.Results.{Result, accepted, refused}
 use Rattle.reader.specs.Results.{Gain, gain}
-use Rattle.opening.specs.Opening.{sheetIn, namesIn, blank}
+use Rattle.sheet_opening.specs.SheetIn.{sheetIn, namesIn, blank}
 use Rattle.reader.specs.Operations.{checked, Adds, Asks}
 use Rattle.reader.specs.Operations.Adds.{added}
 use Rattle.demands.specs.Refusals.{SheetRefused, AddRefused, AskRefused}

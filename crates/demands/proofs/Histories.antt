@@ -11,7 +11,7 @@ use Rattle.tilco.specs.Meaning.{History, Obeys}
 use Rattle.tilco.specs.Table.{Standing, tableWords, Reading, Agrees, Answer, True, False, Contradiction, Asked, clashes, holds, fails}
 use Rattle.tilco.proofs.Demand3.{values-hold, clash-has-no-history}
 use Rattle.sheet.specs.Sheet.{Contents, meant}
-use Rattle.opening.specs.Results.{Result, accepted}
+use Rattle.sheet_opening.specs.Results.{Result, accepted}
 use Rattle.reader.specs.Results.{Gain, gain}
 use Rattle.reader.specs.Operations.{Asks}
 use Rattle.reader.specs.Operations.Asks.{asked}

@@ -8,9 +8,9 @@ use Prim.Native.Nat.{ℕ, _-_}
 use native.Mathlib.Omega.{arith}
 use Rattle.text.specs.Read.Read.{got}
 use Rattle.text.specs.Bytes.{bytes, peek, classOf, nameByte, starts, run, runAt, runEnd}
-use Rattle.text.specs.Words.{namesAt, sameText, findName, isWord, nameAt}
+use Rattle.names.specs.Words.{namesAt, sameText, findName, isWord, nameAt}
 use Rattle.text.specs.Numbers.{digits, number}
-use Rattle.text.specs.Lines.{inLine, line, numberLine, rangedLine, nameLine, inTurn, upTo}
+use Rattle.lines.specs.Lines.{inLine, line, numberLine, rangedLine, nameLine, inTurn, upTo}
 use Rattle.text.proofs.Answers.{not-both, same-value}
 use Rattle.ticks.proofs.Tables.{empty-bare}
 use Rattle.tilco.specs.Lists.{total}
@@ -19,14 +19,17 @@ use Rattle.tilco.specs.Lowering.{program}
 use Rattle.tilco.specs.Table.{words, Standing, tableWords, factsOf, Taken, Leads, Added, Unsettled, neither}
 use Rattle.tilco.proofs.At.{at-getD}
 use Rattle.tilco.proofs.Demand2.{added-keeps}
-use Rattle.sheet.specs.Sheet.{signalLine, head, ruleTo, ruleLine, rules, Contents, contents, sheetOf, meant}
-use Rattle.readings.specs.Readings.{knownLine, reading, readings}
-use Rattle.opening.specs.Results.{Result, accepted, refused}
+use Rattle.sheet_head.specs.SheetHead.{signalLine, head}
+use Rattle.sheet.specs.Sheet.{ruleTo, ruleLine, rules, Contents, contents, sheetOf, meant}
+use Rattle.one_reading.specs.OneReading.{knownLine, reading}
+use Rattle.readings.specs.Readings.{readings}
+use Rattle.sheet_opening.specs.Results.{Result, accepted, refused}
 use Rattle.reader.specs.Results.{Gain, gain}
-use Rattle.opening.specs.Opening.{sheetIn, namesIn, Opens, blank}
+use Rattle.sheet_opening.specs.SheetIn.{sheetIn, namesIn, blank}
+use Rattle.opening.specs.Opening.{Opens}
 use Rattle.reader.specs.Operations.{counted, checked, Adds, Asks}
 use Rattle.reader.specs.Operations.Asks.{asked}
-use Rattle.opening.proofs.Sheets.{in-fits}
+use Rattle.sheet_opening.proofs.Sheets.{in-fits}
 use Rattle.opening.proofs.Tables.{accepted-refused}
 use Rattle.demands.specs.Runs.{FromBlank, newIn}
 use Rattle.reader.proofs.Determined.{opens-same}

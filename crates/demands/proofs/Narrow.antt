@@ -8,20 +8,20 @@ use native.Mathlib.Omega.{arith}
 use lib.Dec.{eqb}
 use lib.ListN.{length, drop, length-append, length-drop}
 use lib.Seq.{drop-append-le}
-use Rattle.text.specs.declared.words.Word.the-variants.{Name}
+use Rattle.names.specs.declared.Word.the-variants.{Name}
 use Rattle.text.specs.declared.numbers.Number.the-variants.{Value}
 use Rattle.text.specs.Read.Read.{got}
 use Rattle.text.specs.Bytes.{bytes, byte, peek, between, digit, nameByte, run, runAt, runEnd}
-use Rattle.text.specs.Words.{wordEnd, isWord, nameAt}
+use Rattle.names.specs.Words.{wordEnd, isWord, nameAt}
 use Rattle.text.specs.Numbers.{digits, number}
-use Rattle.text.specs.Lines.{inLine, lineEnd, line, numberLine, rangedLine, nameLine}
+use Rattle.lines.specs.Lines.{inLine, lineEnd, line, numberLine, rangedLine, nameLine}
 use Rattle.text.proofs.Runs.{every}
-use Rattle.text.proofs.Spelling.{is-word}
-use Rattle.text.proofs.Names.{named, name-reach}
+use Rattle.names.proofs.Spelling.{is-word}
+use Rattle.names.proofs.Names.{named, name-reach}
 use Rattle.text.proofs.Values.{digits-reach, number-reach}
 use Rattle.text.proofs.Answers.{came, through}
-use Rattle.text.proofs.Keyed.{Placed, line-is, whole-is, number-line-is, name-line-is, number-held, name-held}
-use Rattle.text.proofs.Prefix.{peek-kept, starts-kept}
+use Rattle.lines.proofs.KeyedLines.{Placed, line-is, whole-is, number-line-is, name-line-is, number-held, name-held}
+use Rattle.lines.proofs.Prefix.{peek-kept, starts-kept}
 
 -- A run that ends in the text is the same without what follows.
 run-narrow : (P : ℕ → Bool) (l x : List ℕ) → length (run P (l ++ x)) < length l → run P l ≡ run P (l ++ x)

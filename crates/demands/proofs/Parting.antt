@@ -12,19 +12,20 @@ use lib.Seq.{drop-length, length-take-le}
 use Rattle.text.specs.Read.{Read, andThen}
 use Rattle.text.specs.Read.Read.{got, refused}
 use Rattle.text.specs.Bytes.{bytes, pick}
-use Rattle.text.specs.Words.{wordAt, namesAt, findName}
-use Rattle.text.specs.Lines.{rangedLine, nameLine, inTurn}
+use Rattle.names.specs.Words.{wordAt, namesAt, findName}
+use Rattle.lines.specs.Lines.{rangedLine, nameLine, inTurn}
 use Rattle.text.proofs.Answers.{not-both, same-place, through, came}
-use Rattle.text.proofs.Loops.{turn-reach}
-use Rattle.text.proofs.Names.{names-append}
+use Rattle.lines.proofs.Loops.{turn-reach}
+use Rattle.names.proofs.Names.{names-append}
 use Rattle.text.proofs.Places.{Reach}
-use Rattle.text.proofs.Prefix.{word-kept}
-use Rattle.text.proofs.Keyed.{ranged-past}
-use Rattle.sheet.specs.Sheet.{signalLine, Head, head, rules, Contents, contents, atEnd, sheetOf, ruleLines, sheetText}
-use Rattle.sheet.proofs.Signals.{signal-line}
-use Rattle.sheet.proofs.Heads.{head-is, head-past}
-use Rattle.opening.specs.Results.{accepted}
-use Rattle.opening.specs.Opening.{sheetIn}
+use Rattle.lines.proofs.Prefix.{word-kept}
+use Rattle.lines.proofs.KeyedLines.{ranged-past}
+use Rattle.sheet_head.specs.SheetHead.{signalLine, Head, head}
+use Rattle.sheet.specs.Sheet.{rules, Contents, contents, atEnd, sheetOf, ruleLines, sheetText}
+use Rattle.sheet_head.proofs.Signals.{signal-line}
+use Rattle.sheet_head.proofs.Heads.{head-is, head-past}
+use Rattle.sheet_opening.specs.Results.{accepted}
+use Rattle.sheet_opening.specs.SheetIn.{sheetIn}
 use Rattle.opening.proofs.Tables.{in-sheet}
 use Rattle.demands.specs.Shuffles.{InParts}
 use Rattle.demands.proofs.Narrow.{rangedLine-narrow, nameLine-narrow}

@@ -18,14 +18,15 @@ use Rattle.tilco.specs.Lowering.{rowCount}
 use Rattle.tilco.specs.Inference.{mark}
 use Rattle.tilco.specs.Table.{words, Reading}
 use Rattle.sheet.specs.Sheet.{Contents, sheetOf, meant}
-use Rattle.opening.specs.Results.{Result, accepted, refused}
-use Rattle.opening.specs.Opening.{fits, sized, sheetIn, Opens}
+use Rattle.sheet_opening.specs.Results.{Result, accepted, refused}
+use Rattle.sheet_opening.specs.SheetIn.{fits, sized, sheetIn}
+use Rattle.opening.specs.Opening.{Opens}
 use Rattle.opening.specs.Opening.Opens.{both, not-the-sheet, not-the-length, not-inside}
 use Rattle.reader.specs.Operations.{counted, checked, Adds, Asks}
 use Rattle.reader.specs.Operations.Adds.{not-opened, not-read}
 use Rattle.reader.specs.Operations.Asks.{not-opened as not-asked, out-of-range}
 use Rattle.opening.proofs.Tables.{accepted-refused}
-use Rattle.opening.proofs.Sheets.{in-refused, in-over}
+use Rattle.sheet_opening.proofs.Sheets.{in-refused, in-over}
 use Rattle.demands.specs.Refusals.{SheetRefused, TableRefused, TakenUp, AddRefused, AskRefused}
 use Rattle.demands.specs.Refusals.SheetRefused.{one-to-eight, nine}
 use Rattle.demands.specs.Refusals.TableRefused.{of-the-sheet, fifteen, sixteen}

@@ -11,10 +11,10 @@ use lib.Dec.{eqb}
 use lib.ListN.{length, drop}
 use lib.Seq.{drop-cons, drop-drop}
 use Rattle.text.specs.Read.Read.{got}
-use Rattle.text.specs.Bytes.{byte, bytes, peek, starts, run, runAt, runEnd}
-use Rattle.text.specs.Lines.{inLine, line, inTurn, InLine}
+use Rattle.text.specs.Bytes.{byte, bytes, peek, starts, run, runAt, runEnd, InLine}
+use Rattle.lines.specs.Lines.{inLine, line, inTurn}
 use Rattle.text.proofs.Answers.{same-place, came}
-use Rattle.text.proofs.Keyed.{lf-ends, Placed, placed}
+use Rattle.lines.proofs.KeyedLines.{lf-ends, Placed, placed}
 use Rattle.tilco.specs.Formula.{Written}
 use Rattle.tilco.specs.Lists.{All}
 use Rattle.sheet.specs.Sheet.{ruleTo, ruleLine, ruleLineOf, ruleLines}

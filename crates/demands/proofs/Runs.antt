@@ -9,7 +9,7 @@ use native.Mathlib.Omega.{arith}
 use lib.ListN.{length-replicate}
 use Rattle.text.specs.Read.{Read}
 use Rattle.text.specs.Read.Read.{got, refused as unread}
-use Rattle.text.proofs.Names.{names-many}
+use Rattle.names.proofs.Names.{names-many}
 use Rattle.ticks.proofs.Tables.{empty-bare}
 use Rattle.tilco.specs.Lists.{All, total}
 use Rattle.tilco.specs.Formula.{Sheet, Declared}
@@ -23,9 +23,10 @@ use Rattle.sheet.specs.Sheet.{Contents, meant}
 use Rattle.sheet.proofs.Accepted.{sheet-declared}
 use Rattle.readings.specs.Readings.{readings}
 use Rattle.readings.proofs.Bounds.{readings-of-sheet}
-use Rattle.opening.specs.Results.{Result, accepted, refused}
+use Rattle.sheet_opening.specs.Results.{Result, accepted, refused}
 use Rattle.reader.specs.Results.{Gain, gain}
-use Rattle.opening.specs.Opening.{sheetIn, namesIn, Opens, blank}
+use Rattle.sheet_opening.specs.SheetIn.{sheetIn, namesIn, blank}
+use Rattle.opening.specs.Opening.{Opens}
 use Rattle.opening.specs.Opening.Opens.{both}
 use Rattle.reader.specs.Operations.{Adds}
 use Rattle.reader.specs.Operations.Adds.{not-opened, not-read, added}

@@ -19,9 +19,10 @@ use Rattle.tilco.proofs.Lists.{all-append, all-left, all-right}
 use Rattle.tilco.proofs.Demand3.{SameSettled, shuffle-changes-nothing}
 use Rattle.sheet.specs.Sheet.{Contents, meant}
 use Rattle.readings.specs.Readings.{readings}
-use Rattle.opening.specs.Results.{Result, accepted}
+use Rattle.sheet_opening.specs.Results.{Result, accepted}
 use Rattle.reader.specs.Results.{Gain}
-use Rattle.opening.specs.Opening.{namesIn, Opens, blank}
+use Rattle.sheet_opening.specs.SheetIn.{namesIn, blank}
+use Rattle.opening.specs.Opening.{Opens}
 use Rattle.reader.specs.Operations.{Asks}
 use Rattle.reader.specs.Operations.Asks.{not-opened, out-of-range, asked}
 use Rattle.demands.specs.Runs.{RunTexts}

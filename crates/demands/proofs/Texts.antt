@@ -14,7 +14,7 @@ use Rattle.sheet.specs.Sheet.{Contents}
 use Rattle.readings.specs.Readings.{readings}
 use Rattle.readings.proofs.Cuts.{AllAccepted, cuts-agree}
 use Rattle.readings.proofs.Cuts.AllAccepted.{none, one}
-use Rattle.opening.specs.Opening.{namesIn}
+use Rattle.sheet_opening.specs.SheetIn.{namesIn}
 use Rattle.demands.specs.Runs.{callOf, calls, marksIn, accepting, acceptedOf}
 
 -- ---- calls by what is among them

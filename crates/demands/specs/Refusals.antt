@@ -14,8 +14,8 @@ use Rattle.tilco.specs.Lowering.{rowCount}
 use Rattle.tilco.specs.Table.{Standing, tableWords}
 use Rattle.sheet.specs.Sheet.{Contents, sheetOf, meant}
 use Rattle.readings.specs.Readings.{readings}
-use Rattle.opening.specs.Results.{accepted}
-use Rattle.opening.specs.Opening.{sheetIn, namesIn}
+use Rattle.sheet_opening.specs.Results.{accepted}
+use Rattle.sheet_opening.specs.SheetIn.{sheetIn, namesIn}
 
 -- check's: "1; then the sheet from its first line to its last; 9".
 pub data SheetRefused (s : List ℕ) : ℕ → ℕ → Type 0 where

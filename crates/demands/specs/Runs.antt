@@ -10,9 +10,9 @@ use Rattle.tilco.specs.Calls.{Call, readingsOf}
 use Rattle.tilco.specs.Calls as tilco
 use Rattle.sheet.specs.Sheet.{Contents}
 use Rattle.readings.specs.Readings.{readings}
-use Rattle.opening.specs.Results.{Result, accepted, refused}
+use Rattle.sheet_opening.specs.Results.{Result, accepted, refused}
 use Rattle.reader.specs.Results.{Gain, gain}
-use Rattle.opening.specs.Opening.{sheetIn, namesIn, blank}
+use Rattle.sheet_opening.specs.SheetIn.{sheetIn, namesIn, blank}
 use Rattle.reader.specs.Operations.{Adds}
 
 -- Calls of add with these readings texts lead from the table T to the table U, and these are their answers.

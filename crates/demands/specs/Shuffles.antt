@@ -9,10 +9,11 @@ use Rattle.text.specs.Read.Read.{got}
 use Rattle.tilco.specs.Lists.{All}
 use Rattle.tilco.specs.Inference.{Clash}
 use Rattle.tilco.specs.Table.{Standing, factsOf, Answer}
-use Rattle.sheet.specs.Sheet.{Head, head, Contents, meant, sheetText}
-use Rattle.opening.specs.Results.{Result}
+use Rattle.sheet_head.specs.SheetHead.{Head, head}
+use Rattle.sheet.specs.Sheet.{Contents, meant, sheetText}
+use Rattle.sheet_opening.specs.Results.{Result}
 use Rattle.reader.specs.Results.{Gain}
-use Rattle.text.specs.Lines.{InLine}
+use Rattle.text.specs.Bytes.{InLine}
 use Rattle.reader.specs.Operations.{Asks}
 
 -- h is the text of a head, to its end, and it counts the rules with these texts, each of which is within its line.

@@ -16,18 +16,18 @@ use Rattle.text.specs.declared.bytes.Class.the-variants.{Letter, Digit, Sign, B
 use Rattle.text.specs.Read.{Read, andThen}
 use Rattle.text.specs.Read.Read.{got, refused}
 use Rattle.text.specs.Bytes.{byte, bytes, peek, pick, oneOf, classOf, nameByte, starts, runEnd}
-use Rattle.text.specs.Words.{wordAt, wordEnd, findName, isWord}
+use Rattle.names.specs.Words.{wordAt, wordEnd, findName, isWord}
 use Rattle.text.proofs.Places.{peek-out}
-use Rattle.text.proofs.LinesLater.{eqb-later}
-use Rattle.text.proofs.Later.{later, peek-later, starts-later, runAt-later, runEnd-later, isWord-later}
+use Rattle.text.proofs.Later.{later, eqb-later, peek-later, starts-later, runAt-later, runEnd-later}
+use Rattle.names.proofs.NamesLater.{isWord-later}
 use Rattle.tilco.specs.Formula.{Op, And, Or, Implies, Iff, Written}
-use Rattle.formula.specs.declared.interval.Span.{Span}
-use Rattle.formula.specs.declared.interval.Span.the-variants.{Over, Refused}
-use Rattle.formula.specs.Interval.{interval}
+use Rattle.intervals.specs.declared.Span.{Span}
+use Rattle.intervals.specs.declared.Span.the-variants.{Over, Refused}
+use Rattle.intervals.specs.Interval.{interval}
 use Rattle.formula.specs.Grammar.{Reader, declared, spanThen, times, timedPart, signText, repeats, more, level, formula, negated, closed, inParens, second, arguments, kept, worded, plainBy, plainIn, inside, plain, rule}
-use Rattle.formula.proofs.Spans.{Sound, interval-sound}
+use Rattle.intervals.proofs.Spans.{Sound, interval-sound}
 use Rattle.formula.proofs.Steps.{sign-some, more-none, times-none}
-use Rattle.formula.proofs.SpansLater.{laterSpan, interval-later}
+use Rattle.intervals.proofs.SpansLater.{laterSpan, interval-later}
 
 -- The first answer is the second one d later, and what is read ends at i or after it.
 data Moved (d i : ℕ) : Read Written → Read Written → Type 0 where

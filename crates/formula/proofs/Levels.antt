@@ -20,8 +20,8 @@ use Rattle.arena.specs.Readings.{Arena, Room, Same, Held}
 use Rattle.arena.proofs.Puts.{same-put, same-then, arena-put}
 use Rattle.arena.proofs.Helds.{held-kept, held-name, held-neg, held-pair, held-time}
 use Rattle.arena.proofs.Keeps.{arena-put-keep, same-put-keep, held-keep}
-use Rattle.formula.specs.declared.parser.Parsed.{Parsed}
-use Rattle.formula.specs.declared.parser.Parsed.the-variants.{Got, Refused}
+use Rattle.formula.specs.declared.parts.Parsed.{Parsed}
+use Rattle.formula.specs.declared.parts.Parsed.the-variants.{Got, Refused}
 use Rattle.formula.specs.Grammar.{closed}
 use Rattle.formula.specs.Parsed.{Far, Parses}
 use Rattle.formula.specs.Parsed.Parses.{parsed, refuses}

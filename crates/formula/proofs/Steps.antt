@@ -15,22 +15,20 @@ use Rattle.text.specs.declared.bytes.Class.the-variants as class
 use Rattle.text.specs.declared.bytes.Class.the-variants.{Letter, Digit, Bracket, Other}
 use Rattle.text.specs.Read.{andThen}
 use Rattle.text.specs.Read.Read.{got, refused}
-use Rattle.text.specs.Bytes.{byte, bytes, peek, pick, oneOf, classOf, starts}
-use Rattle.text.specs.Words.{wordAt, wordEnd, namesAt, findName, isWord}
-use Rattle.text.specs.Bytes.{nameByte}
+use Rattle.text.specs.Bytes.{byte, bytes, peek, pick, oneOf, classOf, starts, nameByte, InLine}
+use Rattle.names.specs.Words.{wordAt, wordEnd, namesAt, findName, isWord}
 use Rattle.text.proofs.Places.{inside as inside-at, Reach}
 use Rattle.text.proofs.Classes.{class-letter}
-use Rattle.text.proofs.Spelling.{word-ahead}
-use Rattle.text.proofs.Names.{names-many}
+use Rattle.names.proofs.Spelling.{word-ahead}
+use Rattle.names.proofs.Names.{names-many}
 use Rattle.arena.specs.declared.Sign.{Sign}
 use Rattle.arena.specs.Nodes.{opOf}
 use Rattle.ticks.proofs.Bits.{lt-or-ge}
 use Rattle.tilco.specs.Formula.{Op, And, Or, Implies, Iff, Written}
-use Rattle.formula.specs.declared.interval.Span.{Span}
-use Rattle.formula.specs.declared.interval.Span.the-variants.{Over}
-use Rattle.formula.specs.Interval.{interval}
-use Rattle.formula.proofs.Spans.{one-of, none-of, interval-reach}
-use Rattle.text.specs.Lines.{InLine}
+use Rattle.intervals.specs.declared.Span.{Span}
+use Rattle.intervals.specs.declared.Span.the-variants.{Over}
+use Rattle.intervals.specs.Interval.{interval}
+use Rattle.intervals.proofs.Spans.{one-of, none-of, interval-reach}
 use Rattle.formula.specs.Grammar.{Reader, declared, spanThen, times, signText, repeats, more, below, formula, negated, closed, inParens, second, kept, worded, plainIn, inside, plain}
 
 -- ---- signs

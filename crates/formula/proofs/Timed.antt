@@ -11,10 +11,10 @@ use Rattle.tilco.specs.Formula.{Written, hiddens}
 use Rattle.arena.specs.declared.Node.the-variants.{Time}
 use Rattle.arena.specs.Nodes.{putNode}
 use Rattle.arena.specs.Readings.{Arena, Room, Held}
-use Rattle.formula.specs.declared.interval.Span.the-variants.{Over, Refused as Not}
-use Rattle.formula.specs.declared.parser.Parsed.{Parsed}
-use Rattle.formula.specs.declared.parser.Parsed.the-variants.{Refused}
-use Rattle.formula.specs.Interval.{interval}
+use Rattle.intervals.specs.declared.Span.the-variants.{Over, Refused as Not}
+use Rattle.formula.specs.declared.parts.Parsed.{Parsed}
+use Rattle.formula.specs.declared.parts.Parsed.the-variants.{Refused}
+use Rattle.intervals.specs.Interval.{interval}
 use Rattle.formula.specs.Grammar.{spanThen, times}
 use Rattle.formula.specs.Parsed.{Parses}
 use Rattle.formula.specs.Parsed.Parses.{refuses}

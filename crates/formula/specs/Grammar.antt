@@ -11,11 +11,11 @@ use Rattle.text.specs.declared.bytes.Class.the-variants.{Letter, Digit, Sign, B
 use Rattle.text.specs.Read.{Read, andThen}
 use Rattle.text.specs.Read.Read.{got, refused}
 use Rattle.text.specs.Bytes.{byte, bytes, peek, pick, oneOf, classOf, starts}
-use Rattle.text.specs.Words.{wordAt, wordEnd, findName, isWord}
+use Rattle.names.specs.Words.{wordAt, wordEnd, findName, isWord}
 use Rattle.tilco.specs.Formula.{Op, And, Or, Implies, Iff, Written}
-use Rattle.formula.specs.declared.interval.Span.{Span}
-use Rattle.formula.specs.declared.interval.Span.the-variants.{Over, Refused}
-use Rattle.formula.specs.Interval.{interval}
+use Rattle.intervals.specs.declared.Span.{Span}
+use Rattle.intervals.specs.declared.Span.the-variants.{Over, Refused}
+use Rattle.intervals.specs.Interval.{interval}
 
 -- Reads a formula, or a part of one, from a place on.
 abbrev pub Reader : Type 0

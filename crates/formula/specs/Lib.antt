@@ -1,4 +1,3 @@
 -- The definitions, lowest layer first.
-pub mod Interval
 pub mod Grammar
 pub mod Parsed

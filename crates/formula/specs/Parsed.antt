@@ -8,8 +8,8 @@ use Rattle.text.specs.Read.{Read}
 use Rattle.text.specs.Read.Read.{got, refused}
 use Rattle.tilco.specs.Formula.{Written, hiddens}
 use Rattle.arena.specs.Readings.{Arena, Room, Same, Held}
-use Rattle.formula.specs.declared.parser.Parsed.{Parsed}
-use Rattle.formula.specs.declared.parser.Parsed.the-variants.{Got, Refused}
+use Rattle.formula.specs.declared.parts.Parsed.{Parsed}
+use Rattle.formula.specs.declared.parts.Parsed.the-variants.{Got, Refused}
 
 -- From place p, with m nodes used and h the next hidden signal's row, to place q with u and h′: e bytes and e nodes on at least, and a node
 -- and a hidden signal for each byte at most. The text has L bytes.

@@ -1,3 +1,2 @@
-// Rules: from the text of a rule to its formula in an arena. Assumes nothing of the text.
-pub mod interval;
-pub mod parser;
+// The parts of a rule that hold no formula of their own, read from its text into an arena. Assumes nothing of the text.
+pub mod parts;

@@ -7,9 +7,9 @@ use Prim.Native.Nat.{ℕ, _+_, _≤_}
 use native.Mathlib.Omega.{arith}
 use lib.ListN.{length}
 use Rattle.text.specs.Bytes.{bytes}
-use Rattle.text.specs.Words.{wordAt, namesAt}
+use Rattle.names.specs.Words.{wordAt, namesAt}
 use Rattle.text.proofs.Tests.{between-is}
-use Rattle.text.proofs.Names.{find-in, names-append}
+use Rattle.names.proofs.Names.{find-in, names-append}
 use Rattle.tilco.specs.Formula.{Written}
 use Rattle.grammar.specs.Tokens.{Tokens}
 use Rattle.grammar.specs.Grammar.{Name}

@@ -12,16 +12,16 @@ use Rattle.text.specs.declared.bytes.Class.the-variants.{Letter}
 use Rattle.text.specs.Read.{Read, andThen}
 use Rattle.text.specs.Read.Read.{got}
 use Rattle.text.specs.Bytes.{byte, bytes, peek, pick, oneOf, letter, classOf, starts, runEnd}
-use Rattle.text.specs.Words.{wordAt, isWord}
+use Rattle.names.specs.Words.{wordAt, isWord}
 use Rattle.text.proofs.Places.{peek-out, inside-test}
 use Rattle.text.proofs.Classes.{class-letter}
-use Rattle.text.proofs.Names.{same-text}
+use Rattle.names.proofs.Names.{same-text}
 use Rattle.tilco.specs.Formula.{Op, And, Or, Implies, Iff, Written}
-use Rattle.formula.specs.declared.interval.Span.the-variants.{Over}
-use Rattle.formula.specs.Interval.{interval}
+use Rattle.intervals.specs.declared.Span.the-variants.{Over}
+use Rattle.intervals.specs.Interval.{interval}
 use Rattle.formula.specs.Grammar as reading
 use Rattle.formula.specs.Grammar.{Reader, times, timedPart, signText, repeats, more, closed, second, kept, worded, declared, inside, rule}
-use Rattle.formula.proofs.Spans.{interval-reach}
+use Rattle.intervals.proofs.Spans.{interval-reach}
 use Rattle.formula.proofs.Steps.{sign-some, more-none, onward, more-one, times-none, times-one, plain-letter, plain-deny, plain-paren, word-since, word-until, word-name}
 use Rattle.grammar.specs.Tokens.{TokenAt, Tokens}
 use Rattle.grammar.specs.Grammar.{Part, below, before, formula, keepWord, timeSign, Name, Is, Declared, Legal, Rule}

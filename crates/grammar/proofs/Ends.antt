@@ -13,7 +13,7 @@ use Rattle.text.specs.declared.numbers.Number.the-variants.{Value, Missing}
 use Rattle.text.specs.Bytes.{byte, peek, pick, digit, starts}
 use Rattle.text.specs.Numbers.{digits}
 use Rattle.text.proofs.Tests.{between-is}
-use Rattle.formula.specs.Interval.{signed, leading, endAt}
+use Rattle.intervals.specs.Interval.{signed, leading, endAt}
 use Rattle.grammar.specs.Tokens.{Each, decimal, Numeral, End, Token, TokenAt}
 use Rattle.grammar.proofs.Standing.{starts-head, starts-tail, starts-none, starts-one, starts-cons}
 use Rattle.grammar.proofs.Signs.{leading-digit, numeral-first, end-first, sign-end, word-no-end}

@@ -9,7 +9,7 @@ use Prim.Native.Nat.{ℕ, zero, suc}
 use borrow.Author.Tests.{eqb-true}
 use lib.Dec.{eqb}
 use Rattle.text.specs.Bytes.{byte, bytes, pick, oneOf, letter, digit}
-use Rattle.text.specs.Words.{sameText}
+use Rattle.names.specs.Words.{sameText}
 use Rattle.tilco.specs.Lists.{All}
 use Rattle.grammar.specs.Tokens.{End}
 use Rattle.grammar.specs.Grammar.{Name, Interval}

@@ -14,16 +14,17 @@ use lib.ListN.{length, length-append, take, length-take}
 use lib.Seq.{take-suc}
 use Rattle.text.specs.Read.{Read, andThen}
 use Rattle.text.specs.Read.Read.{got, refused}
-use Rattle.text.specs.Bytes.{bytes, pick, between, starts}
-use Rattle.text.specs.Words.{wordAt, namesAt, findName, nameAt}
+use Rattle.text.specs.Bytes.{bytes, pick, between, starts, InLine}
+use Rattle.names.specs.Words.{wordAt, namesAt, findName, nameAt}
 use Rattle.text.specs.Numbers as numbers
-use Rattle.text.specs.Lines.{InLine, wholeNumber, wholeName, numberLine, rangedLine, nameLine}
+use Rattle.lines.specs.Lines.{wholeNumber, wholeName, numberLine, rangedLine, nameLine}
 use Rattle.text.proofs.Places.{peek-in}
-use Rattle.text.proofs.Names.{find-in, find-most, names-many}
+use Rattle.names.proofs.Names.{find-in, find-most, names-many}
 use Rattle.text.proofs.Later.{later}
 use Rattle.formula.specs.Grammar.{rule}
 use Rattle.formula.proofs.Later.{rule-later}
-use Rattle.sheet.specs.Sheet.{signalLine, ruleTo, ruleLine}
+use Rattle.sheet_head.specs.SheetHead.{signalLine}
+use Rattle.sheet.specs.Sheet.{ruleTo, ruleLine}
 use Rattle.grammar.specs.Lines.{LineAt, after, Number, SignalName}
 use Rattle.grammar.proofs.Lines.{in-line-by, KeyedIs, line-is, keyed-reads, unkeyed-reads, value-one, value-at, number-one, NumberIs, number-is, NameIs, name-is, same-word}
 use Rattle.grammar.proofs.Standing.{starts-head, starts-tail}

@@ -11,18 +11,18 @@ use native.Mathlib.Decide.{decLt}
 use borrow.Author.Tests.{eq-eqb, eqb-true, eqb-false, ltb-true, lt-ltb, le-leb, not-false}
 use lib.Dec.{eqb, ltb}
 use lib.ListN.{length, length-append}
-use Rattle.text.specs.declared.words.Word as words
-use Rattle.text.specs.declared.words.Word.the-variants.{Name, Other}
+use Rattle.names.specs.declared.Word as words
+use Rattle.names.specs.declared.Word.the-variants.{Name, Other}
 use Rattle.text.specs.Read.{Read}
 use Rattle.text.specs.Read.Read.{got, refused}
-use Rattle.text.specs.Bytes.{byte, bytes, peek, oneOf, digit, nameByte, starts, runAt, runEnd}
-use Rattle.text.specs.Words.{wordAt, nameAt}
-use Rattle.text.specs.Lines.{inLine, InLine, lineEnd, line, whole, wholeNumber, wholeName}
+use Rattle.text.specs.Bytes.{byte, bytes, peek, oneOf, digit, nameByte, starts, runAt, runEnd, InLine}
+use Rattle.names.specs.Words.{wordAt, nameAt}
+use Rattle.lines.specs.Lines.{inLine, lineEnd, line, whole, wholeNumber, wholeName}
 use Rattle.text.proofs.Places.{peek-in}
 use Rattle.text.proofs.Runs.{run-more, run-none, run-past, end-more, end-here, end-stops}
-use Rattle.text.proofs.Keyed.{lf-ends, lf-not}
-use Rattle.text.proofs.Names.{Named, named}
-use Rattle.formula.specs.Interval.{leading}
+use Rattle.lines.proofs.KeyedLines.{lf-ends, lf-not}
+use Rattle.names.proofs.Names.{Named, named}
+use Rattle.intervals.specs.Interval.{leading}
 use Rattle.grammar.specs.Tokens.{Each, Word, decimal}
 use Rattle.grammar.specs.Lines.{LineAt, Number, SignalName}
 use Rattle.grammar.proofs.Standing.{starts-head, starts-tail, starts-none, starts-cons, starts-one, stand-same, word-stands, word-run, word-longest, word-each, word-first, letter-word}

@@ -12,11 +12,11 @@ use borrow.Author.Tests.{eqb-true, ltb-true, lt-ltb}
 use lib.Dec.{eqb, ltb}
 use lib.ListN.{length}
 use Rattle.text.specs.Bytes.{bytes, oneOf, letter}
-use Rattle.text.specs.Words.{findName}
+use Rattle.names.specs.Words.{findName}
 use Rattle.tilco.specs.Lists.{All}
-use Rattle.formula.specs.declared.interval.Span.{Span}
-use Rattle.formula.specs.declared.interval.Span.the-variants.{Over, Refused}
-use Rattle.formula.specs.Interval.{spanOf}
+use Rattle.intervals.specs.declared.Span.{Span}
+use Rattle.intervals.specs.declared.Span.the-variants.{Over, Refused}
+use Rattle.intervals.specs.Interval.{spanOf}
 use Rattle.grammar.specs.Tokens.{End, TokenAt, Tokens}
 use Rattle.grammar.specs.Grammar.{formula, keepWord, Name, Interval, Is, Declared, Legal}
 use Rattle.grammar.specs.RuleFaults.{AnyName, AnySpan, Begins, Wrong}

@@ -15,9 +15,9 @@ use Rattle.text.specs.declared.bytes.Class.the-variants.{Letter, Digit, Sign, B
 use Rattle.text.specs.Read.{Read, andThen}
 use Rattle.text.specs.Read.Read.{got, refused}
 use Rattle.text.specs.Bytes.{byte, bytes, peek, pick, oneOf, letter, classOf, starts, runEnd}
-use Rattle.text.specs.Words.{wordAt, findName, sameText, isWord}
+use Rattle.names.specs.Words.{wordAt, findName, sameText, isWord}
 use Rattle.text.proofs.Classes.{tag, class-letter}
-use Rattle.text.proofs.Names.{same-text}
+use Rattle.names.proofs.Names.{same-text}
 use Rattle.tilco.specs.Formula.{Op, And, Or, Implies, Iff, Written}
 use Rattle.formula.specs.Grammar as reading
 use Rattle.formula.specs.Grammar.{Reader, negated, closed, inParens, second, arguments, kept, worded, declared, plainBy, plainIn, inside, rule}

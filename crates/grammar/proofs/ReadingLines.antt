@@ -12,12 +12,13 @@ use lib.Dec.{eqb, ltb}
 use lib.ListN.{length}
 use Rattle.text.specs.Read.{Read, andThen}
 use Rattle.text.specs.Read.Read.{got, refused}
-use Rattle.text.specs.Bytes.{bytes, pick}
-use Rattle.text.specs.Words.{wordAt, findName}
-use Rattle.text.specs.Lines.{InLine, rangedLine, upTo}
+use Rattle.text.specs.Bytes.{bytes, pick, InLine}
+use Rattle.names.specs.Words.{wordAt, findName}
+use Rattle.lines.specs.Lines.{rangedLine, upTo}
 use Rattle.text.proofs.Answers.{not-both, same-value, then-same}
 use Rattle.tilco.specs.Inference.{Mark, mark}
-use Rattle.readings.specs.Readings.{knownLine, reading, readings}
+use Rattle.one_reading.specs.OneReading.{knownLine, reading}
+use Rattle.readings.specs.Readings.{readings}
 use Rattle.grammar.specs.Grammar.{Declared}
 use Rattle.grammar.specs.Lines.{LineAt, after, Number, SignalName}
 use Rattle.grammar.specs.ReadingLines.{Next, key, Ranged, Formed, More, Right, Reached, Unknown, OutOfRange, Fault, ReadingsFault}

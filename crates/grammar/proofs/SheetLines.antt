@@ -11,14 +11,15 @@ use borrow.Author.Tests.{eq-eqb, ne-eqb, le-leb}
 use lib.ListN.{length}
 use Rattle.text.specs.Read.{Read, andThen}
 use Rattle.text.specs.Read.Read.{got, refused}
-use Rattle.text.specs.Bytes.{bytes, between}
-use Rattle.text.specs.Words.{namesAt}
-use Rattle.text.specs.Lines.{InLine, rangedLine, inTurn}
+use Rattle.text.specs.Bytes.{bytes, between, InLine}
+use Rattle.names.specs.Words.{namesAt}
+use Rattle.lines.specs.Lines.{rangedLine, inTurn}
 use Rattle.text.proofs.Answers.{not-both, same-value, then-same}
 use Rattle.tilco.specs.Formula.{Written}
 use Rattle.formula.specs.Grammar as reading
 use Rattle.sheet.specs.Sheet as sheet
-use Rattle.sheet.specs.Sheet.{Contents, contents, atEnd, signalLine, ruleLine, sheetOf}
+use Rattle.sheet_head.specs.SheetHead.{signalLine, head}
+use Rattle.sheet.specs.Sheet.{Contents, contents, atEnd, ruleLine, sheetOf}
 use Rattle.grammar.specs.Lines.{LineAt, after, Number}
 use Rattle.grammar.specs.SheetLines.{Next, key, Ranged, Formed, More, Right, Reached, Followed, OutOfRange, BadName, BadLength, BadFormula, Fault, SheetFault}
 use Rattle.grammar.proofs.Sound.{rule-sound}
@@ -66,7 +67,7 @@ module _ (s : List ℕ) where
   from-end w places ws p = refl
 
   from-start : length s ≤ 32768 → sheetOf s ≡ from s Next.window 0
-  unfolding sheetOf sheet.head sheet.rules from signalsFrom rulesFrom
+  unfolding sheetOf head sheet.rules from signalsFrom rulesFrom
   from-start l =
       let e = le-leb (length s) 32768 l in
       rw e

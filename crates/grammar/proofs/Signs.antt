@@ -10,12 +10,12 @@ use borrow.Author.Tests.{eqb-true, ltb-true}
 use lib.Dec.{eqb, ltb}
 use lib.ListN.{length}
 use Rattle.text.specs.Bytes.{byte, bytes, peek, pick, oneOf, letter, digit, starts}
-use Rattle.text.specs.Words.{wordAt, sameText, findName}
+use Rattle.names.specs.Words.{wordAt, sameText, findName}
 use Rattle.text.proofs.Tests.{between-in, between-is}
-use Rattle.text.proofs.Names.{find-in}
+use Rattle.names.proofs.Names.{find-in}
 use Rattle.tilco.specs.Formula.{Op, And, Or, Implies, Iff}
 use Rattle.tilco.specs.Lists.{All}
-use Rattle.formula.specs.Interval.{leading}
+use Rattle.intervals.specs.Interval.{leading}
 use Rattle.formula.specs.Grammar.{signText}
 use Rattle.grammar.specs.Tokens.{Word, Numeral, End, signs, Token, TokenAt}
 use Rattle.grammar.proofs.Standing.{starts-head, starts-one, word-stands, word-longest, word-each, letter-word, word-first}

@@ -14,16 +14,16 @@ use Rattle.text.specs.declared.bytes.Class.the-variants.{Letter, Digit, Sign, B
 use Rattle.text.specs.Read.{Read, andThen}
 use Rattle.text.specs.Read.Read.{got, refused}
 use Rattle.text.specs.Bytes.{byte, bytes, peek, pick, oneOf, letter, classOf, nameByte, starts, runEnd}
-use Rattle.text.specs.Words.{wordAt, wordEnd, findName, sameText, isWord}
+use Rattle.names.specs.Words.{wordAt, wordEnd, findName, sameText, isWord}
 use Rattle.text.proofs.Answers.{not-both, same-value, same-place, through, came}
 use Rattle.text.proofs.Classes.{class-letter}
-use Rattle.text.proofs.Names.{same-text}
+use Rattle.names.proofs.Names.{same-text}
 use Rattle.text.proofs.Runs.{every}
-use Rattle.text.proofs.Spelling.{is-word}
+use Rattle.names.proofs.Spelling.{is-word}
 use Rattle.tilco.specs.Formula.{Op, And, Or, Implies, Iff, Written}
-use Rattle.formula.specs.declared.interval.Span.{Span}
-use Rattle.formula.specs.declared.interval.Span.the-variants.{Over, Refused}
-use Rattle.formula.specs.Interval.{interval}
+use Rattle.intervals.specs.declared.Span.{Span}
+use Rattle.intervals.specs.declared.Span.the-variants.{Over, Refused}
+use Rattle.intervals.specs.Interval.{interval}
 use Rattle.formula.specs.Grammar as reading
 use Rattle.formula.specs.Grammar.{Reader, times, timedPart, signText, repeats, more, inParens, negated, closed, second, arguments, kept, worded, declared, plainBy, plainIn, inside, rule}
 use Rattle.grammar.specs.Tokens.{TokenAt, Tokens}

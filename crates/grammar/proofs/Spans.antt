@@ -12,9 +12,9 @@ use Rattle.text.specs.declared.numbers.Number.{Number}
 use Rattle.text.specs.declared.numbers.Number.the-variants.{Value}
 use Rattle.text.specs.Bytes.{byte, bytes, peek, pick, oneOf}
 use Rattle.text.proofs.Tests.{between-is}
-use Rattle.formula.specs.declared.interval.Span.{Span}
-use Rattle.formula.specs.declared.interval.Span.the-variants.{Over, Refused}
-use Rattle.formula.specs.Interval.{leftOut, near, endAt, spanOf, endThen, endAfter, closeAt, commaAt, interval}
+use Rattle.intervals.specs.declared.Span.{Span}
+use Rattle.intervals.specs.declared.Span.the-variants.{Over, Refused}
+use Rattle.intervals.specs.Interval.{leftOut, near, endAt, spanOf, endThen, endAfter, closeAt, commaAt, interval}
 use Rattle.grammar.specs.Tokens.{End, TokenAt, Tokens}
 use Rattle.grammar.specs.Grammar.{Interval, Legal}
 use Rattle.grammar.proofs.Standing.{starts-head, token-one, next-is, none-is, one-at}

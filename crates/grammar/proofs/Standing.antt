@@ -9,9 +9,9 @@ use borrow.Author.Tests.{eqb-true, eq-eqb}
 use lib.Dec.{eqb}
 use lib.ListN.{length}
 use Rattle.text.specs.Bytes.{peek, letter, nameByte, starts}
-use Rattle.text.specs.Words.{wordAt}
+use Rattle.names.specs.Words.{wordAt}
 use Rattle.text.proofs.Runs.{run-past}
-use Rattle.text.proofs.Spelling.{word-more, word-none}
+use Rattle.names.proofs.Spelling.{word-more, word-none}
 use Rattle.grammar.specs.Tokens.{Each, Word, TokenAt, Tokens}
 
 module _ (s : List ℕ) (p : ℕ) where

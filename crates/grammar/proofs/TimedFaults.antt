@@ -16,10 +16,10 @@ use Rattle.text.specs.Read.Read.{got}
 use Rattle.text.specs.Bytes.{byte, bytes, peek, pick, oneOf, digit, starts}
 use Rattle.text.proofs.Places.{peek-out}
 use Rattle.tilco.specs.Formula.{Written}
-use Rattle.formula.specs.declared.interval.Span.{Span}
-use Rattle.formula.specs.declared.interval.Span.the-variants.{Over, Refused}
-use Rattle.formula.specs.Interval as reading
-use Rattle.formula.specs.Interval.{endAt, endThen, endAfter, closeAt, commaAt, spanOf}
+use Rattle.intervals.specs.declared.Span.{Span}
+use Rattle.intervals.specs.declared.Span.the-variants.{Over, Refused}
+use Rattle.intervals.specs.Interval as reading
+use Rattle.intervals.specs.Interval.{endAt, endThen, endAfter, closeAt, commaAt, spanOf}
 use Rattle.formula.specs.Grammar.{Reader, spanThen, times, timedPart}
 use Rattle.grammar.specs.Tokens.{End, Token, TokenAt, Tokens}
 use Rattle.grammar.specs.Grammar.{Part, timeSign, Interval, Is}

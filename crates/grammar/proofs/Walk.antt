@@ -9,8 +9,8 @@ use Prim.Native.Nat.{ℕ, zero, suc, _+_}
 use native.Mathlib.Omega.{arith}
 use lib.Dec.{eqb}
 use Rattle.text.specs.Bytes.{byte, bytes, pick, oneOf, letter, digit}
-use Rattle.text.specs.Words.{sameText}
-use Rattle.text.proofs.Names.{same-text}
+use Rattle.names.specs.Words.{sameText}
+use Rattle.names.proofs.Names.{same-text}
 use Rattle.tilco.specs.Formula.{Op, And, Or, Implies, Iff, Written}
 use Rattle.formula.specs.Grammar.{signText, repeats}
 use Rattle.grammar.specs.Tokens.{Word, Numeral, End}

@@ -6,9 +6,9 @@ use mathlib.Core.List.{List, [], _∷_, _++_}
 use Prim.Native.Nat.{ℕ, suc, _+_, _<_}
 use lib.ListN.{length}
 use Rattle.text.specs.Bytes.{byte, bytes, pick, oneOf}
-use Rattle.text.specs.Words.{findName}
+use Rattle.names.specs.Words.{findName}
 use Rattle.tilco.specs.Formula.{Op, And, Or, Implies, Iff, Written}
-use Rattle.formula.specs.Interval.{leftOut, near}
+use Rattle.intervals.specs.Interval.{leftOut, near}
 use Rattle.formula.specs.Grammar.{signText, repeats}
 use Rattle.grammar.specs.Tokens.{Word, End, Tokens}
 

@@ -5,9 +5,8 @@ use mathlib.Core.Bool.{true}
 use mathlib.Core.List.{List, _∷_}
 use Prim.Native.Nat.{ℕ, _+_, _≤_, _<_}
 use lib.ListN.{length}
-use Rattle.text.specs.Bytes.{byte, bytes, peek, digit, starts}
-use Rattle.text.specs.Lines.{InLine}
-use Rattle.formula.specs.Interval.{leading}
+use Rattle.text.specs.Bytes.{byte, bytes, peek, digit, starts, InLine}
+use Rattle.intervals.specs.Interval.{leading}
 use Rattle.grammar.specs.Tokens.{Each, decimal}
 use Rattle.grammar.specs.Grammar.{Name}
 

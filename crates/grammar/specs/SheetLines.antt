@@ -6,7 +6,7 @@ use mathlib.Core.List.{List, [], _∷_, _++_, List·Memᴰ}
 use Prim.Native.Nat.{ℕ, zero, suc, _+_, _<_}
 use lib.ListN.{length}
 use Rattle.text.specs.Bytes.{bytes, between}
-use Rattle.text.specs.Words.{namesAt}
+use Rattle.names.specs.Words.{namesAt}
 use Rattle.tilco.specs.Formula.{Written}
 use Rattle.grammar.specs.Grammar.{Rule}
 use Rattle.grammar.specs.RuleFaults.{RuleFault}

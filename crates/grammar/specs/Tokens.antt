@@ -8,7 +8,7 @@ use Prim.Native.Nat.{ℕ, _+_, _-_, _*_, _≤_}
 use lib.ListN.{length}
 use Rattle.text.specs.Bytes.{byte, bytes, letter, digit, nameByte, starts}
 use Rattle.tilco.specs.Lists.{All}
-use Rattle.formula.specs.Interval.{leading}
+use Rattle.intervals.specs.Interval.{leading}
 
 -- Every byte passes the test.
 abbrev pub Each : (ℕ → Bool) → List ℕ → Type 0

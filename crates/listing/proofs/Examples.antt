@@ -6,11 +6,13 @@ use Prim.Native.Nat.{ℕ}
 use lib.Dec.{T}
 use lib.ListN.{getD}
 use Rattle.text.specs.Bytes.{bytes}
-use Rattle.text.specs.Words.{sameText}
+use Rattle.names.specs.Words.{sameText}
 use Rattle.tilco.specs.Table.{Answer}
 use Rattle.tilco.specs.Table.Answer.{Unsettled, True, Contradiction}
 use Rattle.writing.specs.Writes.{lastDigits, decimalText}
-use Rattle.listing.specs.Listing.{lineText, signs, signalText, signalsText, headText, listingText, refusalText}
+use Rattle.listing_lines.specs.LineTexts.{lineText}
+use Rattle.listing_signals.specs.Signals.{signs, signalText, signalsText}
+use Rattle.listing.specs.Listing.{headText, listingText, refusalText}
 
 -- The answers that lists give, one list a signal.
 abbrev given : List (List Answer) → ℕ → ℕ → Answer

@@ -11,7 +11,9 @@ use Rattle.tilco.specs.Lists.{All}
 use Rattle.tilco.specs.Table.{Answer}
 use Rattle.writing.specs.Writes.{decimalText}
 use Rattle.writing.proofs.Decimals.{decimal-few}
-use Rattle.listing.specs.Listing.{lineText, numberText, signs, signalText, signalsText, oneIf, headText, listingText, refusalText}
+use Rattle.listing_lines.specs.LineTexts.{lineText, numberText}
+use Rattle.listing_signals.specs.Signals.{signs, signalText, signalsText}
+use Rattle.listing.specs.Listing.{oneIf, headText, listingText, refusalText}
 
 line-length : (key value : List ℕ) → length (lineText key value) ≡ length key + length value + 1
 unfolding lineText

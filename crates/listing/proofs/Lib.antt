@@ -1,5 +1,3 @@
 -- The laws, one idea a file.
-pub mod Signs
-pub mod Answered
 pub mod Lengths
 pub mod Examples

@@ -1,14 +1,15 @@
 // The listing of a closed table, and that of a refusal, from the buffer's first place on.
-use crate::lines::write_number_line;
-use crate::marks::write_signals;
+use listing_lines::write_number_line;
+use listing_signals::write_signals;
 use writing::Next;
 ghost use mathlib.Core.Path.{_≡_};
 ghost use Prim.Native.Nat.{ℕ};
 ghost use lib.ListN.{length};
-ghost use Rattle.text.specs.Words.{namesAt};
+ghost use Rattle.names.specs.Words.{namesAt};
 ghost use Rattle.tilco.specs.Table.{Stands, Answer};
 ghost use Rattle.writing.specs.Writes.{Wrote};
-ghost use Rattle.listing.specs.Listing.{Listable, Answers, oneIf, headText, listingText, refusalText};
+ghost use Rattle.listing_signals.specs.Signals.{Listable, Answers};
+ghost use Rattle.listing.specs.Listing.{oneIf, headText, listingText, refusalText};
 
 // 1 for yes and 0 for no.
 fn one_if(yes: bool) -> usize

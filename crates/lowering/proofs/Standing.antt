@@ -9,7 +9,7 @@ use native.Mathlib.Omega.{arith}
 use lib.ListN.{length, length-append, length-map}
 use Rattle.text.specs.Read.{Read}
 use Rattle.text.specs.Read.Read.{refused}
-use Rattle.text.specs.Words.{namesAt}
+use Rattle.names.specs.Words.{namesAt}
 use Rattle.text.proofs.Answers.{same-value}
 use Rattle.tilco.specs.Lists.{total, laid}
 use Rattle.tilco.specs.Formula.{Written, hiddens, spelled}
@@ -20,13 +20,14 @@ use Rattle.sheet.proofs.Ruled.{rules-many}
 use Rattle.rule_rows.specs.declared.rules.AllLowered.{AllLowered}
 use Rattle.rule_rows.specs.declared.rules.AllLowered.the-variants.{Next, Full}
 use Rattle.rule_rows.proofs.Spelled.{definings-length}
-use Rattle.lowering.specs.Rules.{Legible, Lent, spelledAll, Tried, RulesRead, InPlace, Sized, RulesStand}
-use Rattle.lowering.specs.Rules.Tried.{went, full}
-use Rattle.lowering.specs.Rules.RulesRead.{read, refused-at as not-read}
+use Rattle.rule_lines.specs.InTurn.{Legible, spelledAll, Tried, RulesRead}
+use Rattle.lowering.specs.Rules.{Lent, InPlace, Sized, RulesStand}
+use Rattle.rule_lines.specs.InTurn.Tried.{went, full}
+use Rattle.rule_lines.specs.InTurn.RulesRead.{read, refused-at as not-read}
 use Rattle.lowering.specs.Rules.Sized.{fits, over}
 use Rattle.lowering.specs.Rules.RulesStand.{stand, refused-at}
-use Rattle.lowering.specs.declared.rules.RuleLines.{RuleLines}
-use Rattle.lowering.specs.declared.rules.RuleLines.the-variants as lines
+use Rattle.rule_lines.specs.declared.RuleLines.{RuleLines}
+use Rattle.rule_lines.specs.declared.RuleLines.the-variants as lines
 
 -- How many formulas rules come to: one a rule, and one a hidden signal.
 pub spelled-many : (ws : List Written) (n : ℕ) → length (laid hiddens spelled ws n) ≡ length ws + total hiddens ws

@@ -1,4 +1,3 @@
-// A sheet's rows: each rule is read once into one arena and lowered before the next is read. Assumes that the head was accepted.
+// A sheet's rows: its rules are read and lowered with a guess of their hidden signals, and once more where it was wrong. Assumes that the head was accepted.
 pub mod guess;
-pub mod rules;
 pub mod whole;

@@ -1,13 +1,14 @@
 // All rules of a sheet: read once where the guess of their hidden signals is right, else twice. Assumes that the head was accepted.
 use crate::guess::guess_hidden;
-use crate::rules::RuleLines;
-use crate::rules::read_rules;
+use rule_lines::RuleLines;
+use rule_lines::read_rules;
 use rule_rows::rules::AllLowered;
 ghost use lib.ListN.{length};
-ghost use Rattle.text.specs.Words.{namesAt};
+ghost use Rattle.names.specs.Words.{namesAt};
 ghost use Rattle.rows.specs.Words.{Blank};
 ghost use Rattle.sheet.specs.Sheet.{rules as rulesOf};
-ghost use Rattle.lowering.specs.Rules.{Legible, Lent, RulesStand};
+ghost use Rattle.rule_lines.specs.InTurn.{Legible};
+ghost use Rattle.lowering.specs.Rules.{Lent, RulesStand};
 
 // Takes every row out of the buffer.
 fn blank_rows(out: &mut [u64])

@@ -90,12 +90,12 @@ fn link_step(
     let a = words_at(marks, n, p, lo, true);
     let b = words_at(marks, n, q, hi, true);
     let above = window_word(window, q);
-    let below = window_word(window, p);
     let up = above & (a.this << k);
     let up_other = above & (a.other << k);
+    let c1 = add_words(marks, n, q, hi, true, up, up_other);
+    let below = window_word(window, p);
     let down = below & (b.this >> k);
     let down_other = below & (b.other >> k);
-    let c1 = add_words(marks, n, q, hi, true, up, up_other);
     let c2 = add_words(marks, n, p, lo, true, down, down_other);
     Ends { lo: c2, hi: c1 }
 }

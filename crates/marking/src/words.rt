@@ -1,6 +1,5 @@
 // The words of a table of marks: reading them, joining ticks to them, and the window's ticks.
 // Assumes that the table has the row.
-use table::block_of;
 ghost use mathlib.Core.Path.{_≡_};
 ghost use Prim.Native.Nat.{_+_, _*_, _^_, _<_};
 ghost use lib.ListN.{getD};
@@ -12,8 +11,11 @@ fn place_of(n: usize, q: usize, row: usize, value: bool) -> usize
     requires { ⌜ (q < n) × (2 * (row + 1) * n < 2 ^ 64) ⌝ }
     ensures { λ i. ⌜ (i ≡ block row value * n + q) × (i < 2 * (row + 1) * n) ⌝ }
 {
-    let k = block_of(row, value);
-    k * n + q
+    let first = 2 * row * n + q;
+    if value {
+        return first;
+    }
+    first + n
 }
 
 // Word q of a row's marks of one value.

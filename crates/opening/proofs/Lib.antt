@@ -1,3 +1,2 @@
 -- The laws, one idea a file, in the order in which they build on each other.
-pub mod Sheets
 pub mod Tables

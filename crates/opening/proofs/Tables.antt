@@ -17,15 +17,17 @@ use Rattle.tilco.specs.Formula.{hiddens}
 use Rattle.tilco.specs.Lowering.{rowCount}
 use Rattle.tilco.specs.Table.{words, Stands, tableWords, Inside}
 use Rattle.sheet.specs.Sheet.{Contents, sheetOf, meant}
-use Rattle.sheet.specs.Reading.{Sizes}
+use Rattle.sheet_head.specs.SheetHead.{Sizes}
 use Rattle.sheet.proofs.Wholes.{sheet-sizes}
-use Rattle.opening.specs.declared.Opening.{Opening}
-use Rattle.opening.specs.declared.Opening.the-variants as opening
-use Rattle.opening.specs.Results.{accepted, refused}
-use Rattle.opening.specs.Opening.{fits, sized, sheetIn, Opens}
-use Rattle.opening.specs.Ready.{Ready, AtHand, SheetOpens, TableOpens}
+use Rattle.sheet_opening.specs.declared.Opening.{Opening}
+use Rattle.sheet_opening.specs.declared.Opening.the-variants as opening
+use Rattle.sheet_opening.specs.Results.{accepted, refused}
+use Rattle.sheet_opening.specs.SheetIn.{fits, sized, sheetIn}
+use Rattle.opening.specs.Opening.{Opens}
+use Rattle.sheet_opening.specs.Ready.{Ready, SheetOpens}
+use Rattle.opening.specs.Ready.{AtHand, TableOpens}
 use Rattle.opening.specs.Opening.Opens.{both, not-the-sheet, not-the-length, not-inside}
-use Rattle.opening.specs.Ready.SheetOpens.{ready, refused-at}
+use Rattle.sheet_opening.specs.Ready.SheetOpens.{ready, refused-at}
 use Rattle.opening.specs.Ready.TableOpens.{ready as at-hand, refused-at as not-opened}
 
 pub accepted-one : {A : Type 0} {x y : A} → accepted x ≡ accepted y → x ≡ y

@@ -1,4 +1,3 @@
 -- The definitions that the contracts cite, lowest layer first; `Ready` serves the functions.
-pub mod Results
 pub mod Opening
 pub mod Ready

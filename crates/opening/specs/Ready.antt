@@ -1,36 +1,17 @@
 -- What opening a sheet and a table leaves in the operation's own buffers.
 -- Assumes nothing. `s` is the sheet's text, T the lent table, `places` the places of the names, B the rows' words.
-use mathlib.Core.Path.{_≡_}
 use mathlib.Core.List.{List}
 use Prim.Native.Nat.{ℕ, _≤_}
 use lib.ListN.{length, take}
-use Rattle.tilco.specs.Lowering.{program, rowCount}
-use Rattle.sheet.specs.Sheet.{Contents, meant}
-use Rattle.marking.specs.Codes.{Codes, TopsAre}
-use Rattle.opening.specs.declared.Opening.{Opening}
-use Rattle.opening.specs.declared.Opening.the-variants as opening
-use Rattle.opening.specs.Results.{accepted, refused}
-use Rattle.opening.specs.Opening.{sheetIn, Opens}
+use Rattle.sheet_opening.specs.declared.Opening.{Opening}
+use Rattle.sheet_opening.specs.declared.Opening.the-variants as opening
+use Rattle.sheet_opening.specs.Results.{accepted, refused}
+use Rattle.opening.specs.Opening.{Opens}
+use Rattle.sheet_opening.specs.Ready.{Ready}
 
--- The sheet stands ready: the places of its names, its rows' words in B and its t top rows in `tops`.
-pub record Ready (s places B tops : List ℕ) (w t count : ℕ) : Type 0 where
-  pub contents : Contents
-  pub holds : sheetIn s ≡ accepted contents
-  pub window-is : w ≡ contents .window
-  pub names-are : places ≡ contents .places
-  pub rows : count ≡ rowCount (meant contents)
-  pub codes : Codes (program (meant contents)) count B
-  pub tops-are : TopsAre (program (meant contents)) tops t
-  pub few : t ≤ length tops
-
--- The same, and the table is accepted with it.
+-- The sheet stands ready, and the table is accepted with it.
 abbrev pub AtHand : List ℕ → List ℕ → List ℕ → List ℕ → List ℕ → ℕ → ℕ → ℕ → Type 0
 AtHand s T places B tops w t count = (k : Ready s places B tops w t count) × Opens s T (accepted (k .contents))
-
--- What each case of the sheet's opening says: the names' places are the first n.
-pub data SheetOpens (s places B tops : List ℕ) : Opening → Type 0 where
-  ready : {w n t count : ℕ} → n ≤ length places → Ready s (take n places) B tops w t count → SheetOpens s places B tops (opening.Sheet w n t count)
-  refused-at : {n p : ℕ} → sheetIn s ≡ refused n p → SheetOpens s places B tops (opening.Refused n p)
 
 -- What each case of the sheet's and the table's opening says.
 pub data TableOpens (s T places B tops : List ℕ) : Opening → Type 0 where

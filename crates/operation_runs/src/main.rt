@@ -2,6 +2,7 @@
 // A heading says what is run, then what it shows: `=== sheet` with the sheet for what follows; `=== table N` with the table for what follows,
 // of N words, all 0 but those of its lines `I W`; `=== check`; `=== add` with the readings; `=== ask X T`.
 use libc::STDIN_FILENO;
+use names::word_end;
 use reader::adding::Adding;
 use reader::adding::add;
 use reader::asking::Asking;
@@ -17,7 +18,6 @@ use run_cases::text_under;
 use table::Value;
 use text::bytes::byte_at;
 use text::bytes::starts_at;
-use text::words::word_end;
 ghost use mathlib.Core.Path.{_≡_};
 ghost use Prim.Native.Nat.{_<_, _≤_};
 ghost use lib.ListN.{length};

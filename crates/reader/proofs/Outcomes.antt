@@ -9,7 +9,7 @@ use native.Mathlib.Nat.{mul-le-mul-right}
 use native.Mathlib.Omega.{arith}
 use lib.ListN.{length, getD, replicate}
 use Rattle.text.specs.Read.Read.{got, refused as unread}
-use Rattle.text.specs.Words.{namesAt}
+use Rattle.names.specs.Words.{namesAt}
 use Rattle.ticks.specs.Ticks.{Small}
 use Rattle.tilco.specs.Inference.{Clash}
 use Rattle.tilco.specs.Lowering.{program}
@@ -28,10 +28,12 @@ use Rattle.marking.specs.Moves.{Sized}
 use Rattle.closing.specs.Closes.{SettlesAll}
 use Rattle.work_list.specs.Items.{Roomy}
 use Rattle.closing.proofs.Outcomes.{settles-added}
-use Rattle.opening.specs.Results.{accepted, refused}
+use Rattle.sheet_opening.specs.Results.{accepted, refused}
 use Rattle.reader.specs.Results.{gain}
-use Rattle.opening.specs.Opening.{sheetIn, Opens}
-use Rattle.opening.specs.Ready.{Ready, AtHand}
+use Rattle.sheet_opening.specs.SheetIn.{sheetIn}
+use Rattle.opening.specs.Opening.{Opens}
+use Rattle.sheet_opening.specs.Ready.{Ready}
+use Rattle.opening.specs.Ready.{AtHand}
 use Rattle.opening.specs.Opening.Opens.{both}
 use Rattle.reader.specs.Operations.{Adds, Asks}
 use Rattle.reader.specs.Operations.Adds.{not-read, added}

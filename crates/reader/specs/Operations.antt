@@ -11,9 +11,10 @@ use Rattle.tilco.specs.Lowering.{rowCount}
 use Rattle.tilco.specs.Table.{Standing, factsOf, Reading, Added, Answer, Asked}
 use Rattle.sheet.specs.Sheet.{Contents, meant}
 use Rattle.readings.specs.Readings.{readings}
-use Rattle.opening.specs.Results.{Result, accepted, refused}
+use Rattle.sheet_opening.specs.Results.{Result, accepted, refused}
 use Rattle.reader.specs.Results.{Gain, gain}
-use Rattle.opening.specs.Opening.{sheetIn, namesIn, Opens}
+use Rattle.sheet_opening.specs.SheetIn.{sheetIn, namesIn}
+use Rattle.opening.specs.Opening.{Opens}
 
 -- "check: the sheet's row count, or a refusal."
 abbrev pub counted : Result Contents → Result ℕ

@@ -4,7 +4,7 @@ use mathlib.Core.Bool.{Bool}
 use Prim.Native.Nat.{ℕ}
 use Rattle.tilco.specs.Table.{Answer}
 use Rattle.table.specs.Values.{valueSays}
-use Rattle.opening.specs.Results.{Result, accepted, refused}
+use Rattle.sheet_opening.specs.Results.{Result, accepted, refused}
 use Rattle.reader.specs.declared.checking.Checking.{Checking}
 use Rattle.reader.specs.declared.checking.Checking.the-variants as checking
 use Rattle.reader.specs.declared.adding.Adding.{Adding}

@@ -1,9 +1,9 @@
 // add: the readings are taken into the lent table, and the table is closed. Assumes nothing.
 use closing::tops::settle;
-use opening::Opening;
 use opening::open_table;
 use readings::whole::Outcome;
 use readings::whole::take_readings;
+use sheet_opening::Opening;
 use table::words_of;
 use telling::clash_in;
 use telling::count_facts;

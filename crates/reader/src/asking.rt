@@ -1,6 +1,6 @@
 // ask: what the lent table says of a signal at a tick. Assumes nothing.
-use opening::Opening;
 use opening::open_table;
+use sheet_opening::Opening;
 use table::Value;
 use table::value_at;
 use table::words_of;

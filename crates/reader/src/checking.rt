@@ -1,6 +1,6 @@
 // check: the sheet's row count, or a refusal. Assumes nothing.
-use opening::Opening;
-use opening::open_sheet;
+use sheet_opening::Opening;
+use sheet_opening::open_sheet;
 ghost use mathlib.Core.Path.{_≡_};
 ghost use Rattle.reader.specs.Results.{checkingSays};
 ghost use Rattle.reader.specs.Operations.{checked};

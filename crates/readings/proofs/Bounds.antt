@@ -11,19 +11,20 @@ use lib.Dec.{ltb}
 use lib.ListN.{length}
 use Rattle.text.specs.Read.{Read}
 use Rattle.text.specs.Read.Read.{got}
-use Rattle.text.specs.Lines.{upTo}
+use Rattle.lines.specs.Lines.{upTo}
 use Rattle.text.proofs.Answers.{same-value, came}
-use Rattle.text.specs.Words.{namesAt}
-use Rattle.text.proofs.Names.{names-many}
+use Rattle.names.specs.Words.{namesAt}
+use Rattle.names.proofs.Names.{names-many}
 use Rattle.tilco.specs.Formula.{Sheet}
 use Rattle.tilco.specs.Inference.{Mark, mark}
 use Rattle.tilco.specs.Lists.{All}
 use Rattle.tilco.specs.Table.{Stands, Reading, Inside}
 use Rattle.tilco.proofs.Lists.{all-append, all-at, all-weaker}
 use Rattle.table.specs.Puts.{Puts}
-use Rattle.readings.specs.Readings.{reading, readings}
+use Rattle.one_reading.specs.OneReading.{reading}
+use Rattle.readings.specs.Readings.{readings}
 use Rattle.readings.specs.Noted.{Room}
-use Rattle.readings.proofs.Lines.{Within, reading-past}
+use Rattle.one_reading.proofs.Lines.{Within, reading-past}
 use Rattle.readings.proofs.Turns.{readings-every}
 
 -- What holds of each part that P reads holds of all that are read up to an end.

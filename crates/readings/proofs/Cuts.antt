@@ -11,16 +11,17 @@ use lib.ListN.{length, length-append}
 use Rattle.text.specs.Read.{Read}
 use Rattle.text.specs.Read.Read.{got, refused}
 use Rattle.text.specs.Bytes.{bytes, nameByte}
-use Rattle.text.specs.Words.{wordAt, findName}
-use Rattle.text.specs.Lines.{rangedLine, nameLine, upTo}
+use Rattle.names.specs.Words.{wordAt, findName}
+use Rattle.lines.specs.Lines.{rangedLine, nameLine, upTo}
 use Rattle.text.proofs.Answers.{same-value, same-place, came}
-use Rattle.text.proofs.Loops.{up-enough}
+use Rattle.lines.proofs.Loops.{up-enough}
 use Rattle.text.proofs.Later.{moved, later, pick-map, runAt-later}
-use Rattle.text.proofs.LinesLater.{then-moved, rangedLine-later, nameLine-later, up-later}
-use Rattle.text.proofs.Prefix.{rangedLine-kept, nameLine-kept, word-kept}
+use Rattle.lines.proofs.LinesLater.{then-moved, rangedLine-later, nameLine-later, up-later}
+use Rattle.lines.proofs.Prefix.{rangedLine-kept, nameLine-kept, word-kept}
 use Rattle.tilco.specs.Inference.{Mark}
-use Rattle.readings.specs.Readings.{knownLine, reading, readings}
-use Rattle.readings.proofs.Lines.{three-lines, reading-is, reading-ahead}
+use Rattle.one_reading.specs.OneReading.{knownLine, reading}
+use Rattle.readings.specs.Readings.{readings}
+use Rattle.one_reading.proofs.Lines.{three-lines, reading-is, reading-ahead}
 use Rattle.readings.proofs.Turns.{every, Passed, passed-none, passed-one, readings-short, readings-every}
 
 -- An answer that comes after the marks ms and after d bytes.

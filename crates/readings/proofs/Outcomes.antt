@@ -5,9 +5,10 @@ use mathlib.Core.List.{List}
 use Prim.Native.Nat.{ℕ, _≤_}
 use native.Mathlib.Omega.{arith}
 use lib.ListN.{length}
-use Rattle.text.specs.declared.lines.Step.{Step}
-use Rattle.text.specs.declared.lines.Step.the-variants as step
-use Rattle.text.specs.Read.{Read, says}
+use Rattle.lines.specs.declared.Step.{Step}
+use Rattle.lines.specs.declared.Step.the-variants as step
+use Rattle.text.specs.Read.{Read}
+use Rattle.lines.specs.Lines.{says}
 use Rattle.text.specs.Read.Read.{got, refused}
 use Rattle.text.proofs.Answers.{not-both, same-value}
 use Rattle.ticks.specs.Ticks.{Small}

@@ -8,10 +8,11 @@ use lib.Dec.{ltb, leb}
 use lib.ListN.{length}
 use Rattle.text.specs.Read.Read.{got, refused}
 use Rattle.text.specs.Bytes.{bytes}
-use Rattle.text.specs.Words.{wordAt, findName}
-use Rattle.text.specs.Lines.{rangedLine, nameLine, upTo}
-use Rattle.readings.specs.Readings.{knownLine, reading, readings}
-use Rattle.text.proofs.Stays.{Stays, Any, then-stays, pick-stays, up-stays, ranged-stays, name-stays, stays-refused}
+use Rattle.names.specs.Words.{wordAt, findName}
+use Rattle.lines.specs.Lines.{rangedLine, nameLine, upTo}
+use Rattle.one_reading.specs.OneReading.{knownLine, reading}
+use Rattle.readings.specs.Readings.{readings}
+use Rattle.lines.proofs.Stays.{Stays, Any, then-stays, pick-stays, up-stays, ranged-stays, name-stays, stays-refused}
 
 -- A line with a declared name.
 known-stays : (s : List ℕ) (p : ℕ) → p ≤ length s → (names : List (List ℕ)) → Stays Any (length s) (knownLine names s p)

@@ -11,12 +11,13 @@ use lib.ListN.{length}
 use Rattle.text.specs.Read.{Read}
 use Rattle.text.specs.Read.Read.{got, refused}
 use Rattle.text.specs.Bytes.{pick}
-use Rattle.text.specs.Lines.{upTo}
+use Rattle.lines.specs.Lines.{upTo}
 use Rattle.text.proofs.Answers.{not-both}
-use Rattle.text.proofs.Loops.{up-end, up-on, up-off}
+use Rattle.lines.proofs.Loops.{up-end, up-on, up-off}
 use Rattle.text.proofs.Places.{Reach}
 use Rattle.tilco.specs.Inference.{Mark}
-use Rattle.readings.specs.Readings.{reading, readings}
+use Rattle.one_reading.specs.OneReading.{reading}
+use Rattle.readings.specs.Readings.{readings}
 
 -- All the parts that P reads in the text s.
 abbrev pub every : {A : Type 0} → (ℕ → Read A) → List ℕ → Read (List A)

@@ -5,8 +5,8 @@ use mathlib.Core.List.{List, map}
 use Prim.Native.Nat.{ℕ, _+_, _*_, _/_, _%_, _<_, _≤_}
 use lib.Dec.{eqb}
 use lib.ListN.{length, take}
-use Rattle.text.specs.declared.lines.Step.{Step}
-use Rattle.text.specs.declared.lines.Step.the-variants.{Got, Refused}
+use Rattle.lines.specs.declared.Step.{Step}
+use Rattle.lines.specs.declared.Step.the-variants.{Got, Refused}
 use Rattle.text.specs.Read.{Read}
 use Rattle.text.specs.Read.Read.{got, refused}
 use Rattle.tilco.specs.Inference.{Mark, mark}

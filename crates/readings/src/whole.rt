@@ -1,16 +1,17 @@
 // The readings of a whole text: it is read once, and no mark is put before all are accepted. Assumes nothing of the text.
 use crate::noted::number_of;
 use crate::noted::put_noted;
-use crate::reading::Reading;
-use crate::reading::reading_at;
-use text::lines::Step;
+use lines::Step;
+use one_reading::Reading;
+use one_reading::reading_at;
 ghost use mathlib.Core.Path.{_≡_};
 ghost use Prim.Native.Nat.{_*_, _≤_};
 ghost use lib.ListN.{length};
-ghost use Rattle.text.specs.declared.lines.Step.the-variants.{Refused};
+ghost use Rattle.lines.specs.declared.Step.the-variants.{Refused};
 ghost use Rattle.text.specs.Read.{numberOf, placeOf};
-ghost use Rattle.text.specs.Words.{namesAt};
-ghost use Rattle.readings.specs.Readings.{readings, readingOf};
+ghost use Rattle.names.specs.Words.{namesAt};
+ghost use Rattle.one_reading.specs.OneReading.{readingOf};
+ghost use Rattle.readings.specs.Readings.{readings};
 ghost use Rattle.readings.specs.Noted.{Notes};
 ghost use Rattle.readings.specs.Taking.{Took};
 

@@ -1,8 +1,8 @@
 // A rule's own formula and the defining rules of its hidden signals, each in its true sense: a sheet's rows are these two, rule after
 // rule. `at` is the next free place of the tops, `used` the rows in use.
-use crate::formulas::lower;
 use arena::Node;
 use arena::node_at;
+use formula_rows::lower;
 use rows::words::Lowered;
 ghost use mathlib.Core.Path.{_≡_};
 ghost use mathlib.Core.List.{[], _∷_, _++_};

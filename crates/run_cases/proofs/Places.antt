@@ -7,7 +7,7 @@ use native.Mathlib.Omega.{arith}
 use lib.ListN.{length}
 use lib.Seq.{length-take-le}
 use Rattle.io.specs.Counts.{Counts}
-use Rattle.text.specs.Lines.{inLine, lineEnd}
+use Rattle.lines.specs.Lines.{inLine, lineEnd}
 use Rattle.text.proofs.Places.{Reach}
 use Rattle.text.proofs.Runs.{end-reach}
 

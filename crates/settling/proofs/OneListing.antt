@@ -6,18 +6,19 @@ use mathlib.Core.List.{List, [], _∷_, _++_}
 use Prim.Native.Nat.{ℕ, zero, suc, _+_, _<_}
 use native.Mathlib.Omega.{arith}
 use lib.ListN.{length}
-use Rattle.text.proofs.Names.{names-many}
+use Rattle.names.proofs.Names.{names-many}
 use Rattle.tilco.specs.Lowering.{rowCount}
 use Rattle.tilco.specs.Table.{Standing, factsOf, Answer}
 use Rattle.tilco.proofs.Demand1.{asked-one}
 use Rattle.sheet.specs.Sheet.{Contents, meant}
-use Rattle.opening.specs.Results.{Result, accepted, refused}
+use Rattle.sheet_opening.specs.Results.{Result, accepted, refused}
 use Rattle.reader.specs.Results.{Gain, gain}
-use Rattle.opening.specs.Opening.{sheetIn, namesIn, blank}
+use Rattle.sheet_opening.specs.SheetIn.{sheetIn, namesIn, blank}
 use Rattle.reader.specs.Operations.{Adds}
 use Rattle.opening.proofs.Tables.{accepted-one, accepted-refused}
 use Rattle.reader.proofs.Determined.{adds-one}
-use Rattle.listing.specs.Listing.{signByte, signs, signalText, signalsText, headText, listingText, refusalText, Answers}
+use Rattle.listing_signals.specs.Signals.{signByte, signs, signalText, signalsText, Answers}
+use Rattle.listing.specs.Listing.{headText, listingText, refusalText}
 use Rattle.settling.specs.Prints.{Prints}
 use Rattle.settling.specs.Prints.Prints.{no-sheet, not-added, listed}
 

@@ -8,8 +8,8 @@ use Prim.Native.Nat.{ℕ, zero, suc, _-_, _*_, _≤_}
 use native.Mathlib.Nat.{mul-le-mul-right, zero-add}
 use native.Mathlib.Omega.{arith}
 use lib.ListN.{length, take, replicate, length-replicate}
-use Rattle.text.specs.Words.{namesAt}
-use Rattle.text.proofs.Names.{names-many}
+use Rattle.names.specs.Words.{namesAt}
+use Rattle.names.proofs.Names.{names-many}
 use Rattle.ticks.specs.Ticks.{empty}
 use Rattle.ticks.proofs.Tables.{empty-tally}
 use Rattle.tilco.specs.Inference.{Clash}
@@ -18,25 +18,26 @@ use Rattle.tilco.specs.Table.{words, Stands, Standing, tableWords, factsOf, Ans
 use Rattle.tilco.proofs.Order.{row-count}
 use Rattle.sheet.specs.Sheet.{Contents, meant}
 use Rattle.sheet.proofs.Wholes.{sheet-head}
-use Rattle.sheet.proofs.ShortNames.{head-names-short}
+use Rattle.sheet_head.proofs.ShortNames.{head-names-short}
 use Rattle.writing.specs.Writes.{Wrote}
 use Rattle.writing.specs.declared.Next.{Next}
 use Rattle.reader.specs.declared.adding.Adding.{Adding}
 use Rattle.reader.specs.declared.adding.Adding.the-variants as adding
-use Rattle.opening.specs.Results.{accepted, refused}
+use Rattle.sheet_opening.specs.Results.{accepted, refused}
 use Rattle.reader.specs.Results.{gain, addingSays}
-use Rattle.opening.specs.Opening.{sheetIn, namesIn, blank}
-use Rattle.opening.specs.Ready.{Ready}
+use Rattle.sheet_opening.specs.SheetIn.{sheetIn, namesIn, blank}
+use Rattle.sheet_opening.specs.Ready.{Ready}
 use Rattle.reader.specs.Operations.{Adds}
 use Rattle.reader.specs.Operations.Adds.{added}
 use Rattle.opening.proofs.Tables.{accepted-one, InSheet, in-sheet, one-word}
 use Rattle.reader.proofs.Outcomes.{fitting}
-use Rattle.listing.specs.Listing.{Listable, Answers, listingText, refusalText}
+use Rattle.listing_signals.specs.Signals.{Listable, Answers}
+use Rattle.listing.specs.Listing.{listingText, refusalText}
 use Rattle.settling.specs.Prints.{Prints, Printed, lengthOf, PrintedWhole, Begun}
 use Rattle.settling.specs.Prints.Prints.{no-sheet, not-added, listed}
 use Rattle.writing.proofs.Writing.{fitted, placed}
 use Rattle.listing.proofs.Lengths.{listing-most, refusal-most}
-use Rattle.listing.proofs.Answered.{answers-there}
+use Rattle.listing_signals.proofs.Answered.{answers-there}
 
 -- The first words of an empty table are an empty table.
 pub take-empty : (n m : ℕ) → n ≤ m → take n (replicate {A = ℕ} m 0) ≡ empty n

@@ -12,11 +12,12 @@ use Rattle.sheet.specs.Sheet.{Contents, meant}
 use Rattle.writing.specs.Writes.{Wrote}
 use Rattle.writing.specs.declared.Next.{Next}
 use Rattle.writing.specs.declared.Next.the-variants.{Place, Full}
-use Rattle.opening.specs.Results.{accepted, refused}
+use Rattle.sheet_opening.specs.Results.{accepted, refused}
 use Rattle.reader.specs.Results.{gain}
-use Rattle.opening.specs.Opening.{sheetIn, namesIn, blank}
+use Rattle.sheet_opening.specs.SheetIn.{sheetIn, namesIn, blank}
 use Rattle.reader.specs.Operations.{Adds}
-use Rattle.listing.specs.Listing.{Answers, listingText, refusalText}
+use Rattle.listing_signals.specs.Signals.{Answers}
+use Rattle.listing.specs.Listing.{listingText, refusalText}
 
 -- The text printed: the listing of what one add makes of the empty table, or the refusal.
 pub data Prints (s r : List ℕ) : List ℕ → Type 0 where

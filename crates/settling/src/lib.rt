@@ -1,10 +1,10 @@
 // One add to an empty table, and its listing. Assumes nothing.
 use listing::whole::write_listing;
 use listing::whole::write_refusal;
-use opening::Opening;
-use opening::open_sheet;
 use reader::adding::Adding;
 use reader::adding::add;
+use sheet_opening::Opening;
+use sheet_opening::open_sheet;
 use table::words_of;
 use writing::Next;
 ghost use mathlib.Core.Path.{_≡_};

@@ -10,16 +10,17 @@ use lib.Seq.{length-take-le}
 use Rattle.text.specs.Read.{andThen}
 use Rattle.text.specs.Read.Read.{got, refused}
 use Rattle.text.specs.Bytes.{bytes, pick, between}
-use Rattle.text.specs.Words.{wordAt, namesAt, findName}
-use Rattle.text.specs.Lines.{line, rangedLine, nameLine, inTurn}
-use Rattle.text.proofs.Keyed.{placed}
-use Rattle.text.proofs.Names.{names-many}
-use Rattle.text.proofs.Stays.{Stays, Any, then-stays, pick-stays, stays-longer, stays-got, stays-refused, line-stays, ranged-stays, name-stays}
+use Rattle.names.specs.Words.{wordAt, namesAt, findName}
+use Rattle.lines.specs.Lines.{line, rangedLine, nameLine, inTurn}
+use Rattle.lines.proofs.KeyedLines.{placed}
+use Rattle.names.proofs.Names.{names-many}
+use Rattle.lines.proofs.Stays.{Stays, Any, then-stays, pick-stays, stays-longer, stays-got, stays-refused, line-stays, ranged-stays, name-stays}
 use Rattle.tilco.specs.Formula.{Named, Declared}
 use Rattle.tilco.specs.Lists.{All}
 use Rattle.tilco.proofs.Lists.{all-weaker}
 use Rattle.formula.specs.Grammar.{rule}
-use Rattle.sheet.specs.Sheet.{signalLine, headOf, head, ruleTo, ruleLine, rules, Contents, contents, sheetOf, meant}
+use Rattle.sheet_head.specs.SheetHead.{signalLine, headOf, head}
+use Rattle.sheet.specs.Sheet.{ruleTo, ruleLine, rules, Contents, contents, sheetOf, meant}
 use Rattle.sheet.proofs.Stays.{turn-stays}
 use Rattle.sheet.proofs.Formulas.{Fits, rule-reads}
 

@@ -7,13 +7,13 @@ use lib.ListN.{take}
 use Rattle.text.specs.Read.{Read}
 use Rattle.text.specs.Read.Read.{got, refused}
 use Rattle.tilco.specs.Formula.{Written}
-use Rattle.formula.specs.declared.parser.Parsed.{Parsed}
-use Rattle.formula.specs.declared.parser.Parsed.the-variants as parsed
-use Rattle.sheet.specs.declared.head.Heading.{Heading}
-use Rattle.sheet.specs.declared.head.Heading.the-variants as heading
-use Rattle.sheet.specs.Sheet.{headOf, head}
-use Rattle.sheet.specs.Reading.{Sizes, Headed, Rule, RuleRead}
-use Rattle.sheet.specs.Reading.Headed.{headed, refused-at as no-head}
+use Rattle.formula.specs.declared.parts.Parsed.{Parsed}
+use Rattle.formula.specs.declared.parts.Parsed.the-variants as parsed
+use Rattle.sheet_head.specs.declared.Heading.{Heading}
+use Rattle.sheet_head.specs.declared.Heading.the-variants as heading
+use Rattle.sheet_head.specs.SheetHead.{headOf, head, Sizes, Headed}
+use Rattle.sheet.specs.Reading.{Rule, RuleRead}
+use Rattle.sheet_head.specs.SheetHead.Headed.{headed, refused-at as no-head}
 use Rattle.sheet.specs.Reading.RuleRead.{read as rule-read, refused-at as no-rule}
 
 -- of the head's

@@ -12,10 +12,10 @@ use lib.ListN.{length, take, length-append}
 use lib.Seq.{take-at}
 use Rattle.text.specs.Read.{Read, andThen}
 use Rattle.text.specs.Read.Read.{got, refused}
-use Rattle.text.specs.Bytes.{byte, bytes, pick, between, peek, starts, run, runAt, runEnd}
-use Rattle.text.specs.Lines.{inLine, lineEnd, inTurn, InLine}
+use Rattle.text.specs.Bytes.{byte, bytes, pick, between, peek, starts, run, runAt, runEnd, InLine}
+use Rattle.lines.specs.Lines.{inLine, lineEnd, inTurn}
 use Rattle.text.proofs.Answers.{not-both, same-value, same-place}
-use Rattle.text.proofs.Keyed.{line-is}
+use Rattle.lines.proofs.KeyedLines.{line-is}
 use Rattle.text.proofs.Later.{later, starts-later, runEnd-later}
 use Rattle.tilco.specs.Formula.{Written}
 use Rattle.tilco.specs.Lists.{All}

@@ -7,7 +7,7 @@ use Prim.Native.Nat.{ℕ, zero, suc, _<_, _≤_}
 use native.Mathlib.Omega.{arith}
 use lib.ListN.{length, getD, take}
 use Rattle.text.specs.Bytes.{byte, peek, nameByte, run, runAt}
-use Rattle.text.specs.Words.{wordAt, namesAt}
+use Rattle.names.specs.Words.{wordAt, namesAt}
 use Rattle.text.proofs.Places.{peek-in}
 use Rattle.tilco.specs.Lists.{All}
 

@@ -9,13 +9,14 @@ use lib.Dec.{T, eqb}
 use Rattle.text.specs.Read.{Read}
 use Rattle.text.specs.Read.Read.{got, refused}
 use Rattle.text.specs.Bytes.{bytes, peek, classOf, nameByte, starts, run, runAt, runEnd}
-use Rattle.text.specs.Words.{namesAt, sameText, findName, isWord, nameAt}
+use Rattle.names.specs.Words.{namesAt, sameText, findName, isWord, nameAt}
 use Rattle.text.specs.Numbers.{digits, number}
-use Rattle.text.specs.Lines.{inLine, line, numberLine, rangedLine, nameLine, inTurn}
+use Rattle.lines.specs.Lines.{inLine, line, numberLine, rangedLine, nameLine, inTurn}
 use Rattle.tilco.specs.Formula.{Implies, Written, always}
-use Rattle.formula.specs.Interval.{signed, endAt, spanOf, endAfter, closeAt, commaAt, interval}
+use Rattle.intervals.specs.Interval.{signed, endAt, spanOf, endAfter, closeAt, commaAt, interval}
 use Rattle.formula.specs.Grammar.{declared, times, timedPart, more, level, second, kept, worded, plainIn, inside, plain, rule}
-use Rattle.sheet.specs.Sheet.{signalLine, head, ruleTo, ruleLine, rules, Contents, contents, sheetOf}
+use Rattle.sheet_head.specs.SheetHead.{signalLine, head}
+use Rattle.sheet.specs.Sheet.{ruleTo, ruleLine, rules, Contents, contents, sheetOf}
 
 -- The sheet of P1.
 abbrev pub p1-text : List ℕ

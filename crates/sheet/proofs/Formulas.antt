@@ -13,19 +13,18 @@ use Rattle.text.specs.declared.bytes.Class.{Class}
 use Rattle.text.specs.declared.bytes.Class.the-variants.{Letter, Digit, Sign, Bracket, Other}
 use Rattle.text.specs.Read.{Read, andThen}
 use Rattle.text.specs.Read.Read.{got, refused}
-use Rattle.text.specs.Bytes.{byte, bytes, peek, pick, oneOf, classOf, nameByte, starts}
-use Rattle.text.specs.Words.{wordAt, wordEnd, findName, isWord}
+use Rattle.text.specs.Bytes.{byte, bytes, peek, pick, oneOf, classOf, nameByte, starts, InLine}
+use Rattle.names.specs.Words.{wordAt, wordEnd, findName, isWord}
 use Rattle.text.proofs.Places.{inside-test}
 use Rattle.text.proofs.Runs.{end-reach}
-use Rattle.text.proofs.Stays.{Stays, then-stays, pick-stays}
+use Rattle.lines.proofs.Stays.{Stays, then-stays, pick-stays}
 use Rattle.tilco.specs.Formula.{Op, And, Or, Implies, Iff, Written, Named}
-use Rattle.formula.specs.declared.interval.Span.{Span}
-use Rattle.formula.specs.declared.interval.Span.the-variants as span
-use Rattle.formula.specs.Interval.{interval}
+use Rattle.intervals.specs.declared.Span.{Span}
+use Rattle.intervals.specs.declared.Span.the-variants as span
+use Rattle.intervals.specs.Interval.{interval}
 use Rattle.formula.specs.Grammar.{Reader, declared, spanThen, times, timedPart, signText, repeats, more, level, formula, negated, closed, inParens, second, arguments, kept, worded, plainBy, plainIn, inside, plain, rule}
-use Rattle.formula.proofs.Spans.{Sound, interval-sound}
+use Rattle.intervals.proofs.Spans.{Sound, interval-sound}
 use Rattle.formula.proofs.Steps.{starts-inside, sign-inside}
-use Rattle.text.specs.Lines.{InLine}
 use Rattle.sheet.specs.Sheet.{Near}
 
 -- Each name is one of n, and each interval is near.

@@ -1,9 +1,5 @@
 -- The laws, one idea a file.
 pub mod Cut
-pub mod Signals
-pub mod Heads
-pub mod HeadPrefix
-pub mod ShortNames
 pub mod Ruled
 pub mod Answers
 pub mod Wholes

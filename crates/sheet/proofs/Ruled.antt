@@ -10,18 +10,18 @@ use lib.Seq.{length-take-le}
 use Rattle.text.specs.Read.{andThen}
 use Rattle.text.specs.Read.Read.{got, refused}
 use Rattle.text.specs.Bytes.{bytes, pick, between}
-use Rattle.text.specs.Words.{namesAt}
-use Rattle.text.specs.Lines.{line, inTurn}
+use Rattle.names.specs.Words.{namesAt}
+use Rattle.lines.specs.Lines.{line, inTurn}
 use Rattle.text.proofs.Tests.{between-in, between-low, between-high}
 use Rattle.text.proofs.Places.{Reach}
 use Rattle.text.proofs.Answers.{not-both, same-place, came}
-use Rattle.text.proofs.Keyed.{placed}
-use Rattle.text.proofs.Loops.{turn-start, turn-next, turn-off, turn-end, turn-reach}
+use Rattle.lines.proofs.KeyedLines.{placed}
+use Rattle.lines.proofs.Loops.{turn-start, turn-next, turn-off, turn-end, turn-reach}
 use Rattle.tilco.specs.Formula.{Written, hiddens}
 use Rattle.tilco.specs.Lists.{total}
 use Rattle.tilco.proofs.Lists.{total-append}
-use Rattle.formula.specs.declared.parser.Parsed.{Parsed}
-use Rattle.formula.specs.declared.parser.Parsed.the-variants.{Got, Refused}
+use Rattle.formula.specs.declared.parts.Parsed.{Parsed}
+use Rattle.formula.specs.declared.parts.Parsed.the-variants.{Got, Refused}
 use Rattle.formula.specs.Grammar.{rule}
 use Rattle.formula.specs.Parsed as formula
 use Rattle.formula.specs.Parsed.{Parses}
@@ -30,7 +30,7 @@ use Rattle.sheet.specs.Sheet.{ruleTo, ruleLine, rules}
 use Rattle.sheet.specs.Reading.{Ready, Ended, RuleRead}
 use Rattle.sheet.specs.Reading.RuleRead.{read, refused-at}
 use Rattle.sheet.proofs.Cut.{names-kept}
-use Rattle.sheet.proofs.Signals.{up-to}
+use Rattle.sheet_head.proofs.Signals.{up-to}
 
 -- ---- a rule from v to its LF at e
 

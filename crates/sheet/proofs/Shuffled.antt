@@ -11,16 +11,16 @@ use lib.Dec.{leb, eqb}
 use lib.ListN.{length, length-append}
 use Rattle.text.specs.Read.{Read, andThen}
 use Rattle.text.specs.Read.Read.{got, refused}
-use Rattle.text.specs.Bytes.{byte, pick}
-use Rattle.text.specs.Words.{namesAt}
+use Rattle.text.specs.Bytes.{byte, pick, InLine}
+use Rattle.names.specs.Words.{namesAt}
 use Rattle.text.proofs.Answers.{not-both, through, came}
 use Rattle.tilco.specs.Formula.{Written, withRules}
 use Rattle.tilco.specs.Lists.{All, total}
 use Rattle.tilco.proofs.Lists.{total-stays, all-stays}
-use Rattle.sheet.specs.Sheet.{Head, head, rules, Contents, contents, atEnd, sheetOf, meant, ruleLineOf, ruleLines, sheetText}
-use Rattle.sheet.proofs.HeadPrefix.{head-kept, head-names-kept}
+use Rattle.sheet_head.specs.SheetHead.{Head, head}
+use Rattle.sheet.specs.Sheet.{rules, Contents, contents, atEnd, sheetOf, meant, ruleLineOf, ruleLines, sheetText}
+use Rattle.sheet_head.proofs.HeadPrefix.{head-kept, head-names-kept}
 use Rattle.sheet.proofs.Bodies.{ruleText, Each, rules-exactly}
-use Rattle.text.specs.Lines.{InLine}
 use Rattle.sheet.proofs.Bodies.Each.{none, one}
 
 -- ---- texts in another order

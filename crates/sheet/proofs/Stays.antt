@@ -4,8 +4,8 @@ use mathlib.Core.List.{List, [], _∷_, _++_}
 use Prim.Native.Nat.{ℕ, zero, suc, _≤_}
 use Rattle.text.specs.Read.{Read, andThen}
 use Rattle.text.specs.Read.Read.{got, refused}
-use Rattle.text.specs.Lines.{inTurn}
-use Rattle.text.proofs.Stays.{Stays}
+use Rattle.lines.specs.Lines.{inTurn}
+use Rattle.lines.proofs.Stays.{Stays}
 use Rattle.tilco.specs.Lists.{All}
 use Rattle.tilco.proofs.Lists.{all-append}
 

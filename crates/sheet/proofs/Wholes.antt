@@ -10,12 +10,12 @@ use lib.ListN.{length}
 use Rattle.text.specs.Read.{andThen}
 use Rattle.text.specs.Read.Read.{got, refused}
 use Rattle.text.specs.Bytes.{pick}
-use Rattle.text.specs.Words.{namesAt}
+use Rattle.names.specs.Words.{namesAt}
 use Rattle.text.proofs.Answers.{not-both, through, came}
 use Rattle.tilco.specs.Formula.{Written}
-use Rattle.sheet.specs.Sheet.{headOf, head, rules, Contents, contents, atEnd, sheetOf}
-use Rattle.sheet.specs.Reading.{Sizes}
-use Rattle.sheet.proofs.Heads.{head-past}
+use Rattle.sheet_head.specs.SheetHead.{headOf, head, Sizes}
+use Rattle.sheet.specs.Sheet.{rules, Contents, contents, atEnd, sheetOf}
+use Rattle.sheet_head.proofs.Heads.{head-past}
 
 -- A sheet over its length is refused.
 pub sheet-long : (s : List ℕ) → 32768 < length s → sheetOf s ≡ refused 1 0

@@ -7,35 +7,12 @@ use lib.Dec.{leb, eqb}
 use Rattle.text.specs.Read.{Read, andThen}
 use Rattle.text.specs.Read.Read.{got, refused}
 use Rattle.text.specs.Bytes.{byte, bytes, pick, between}
-use Rattle.text.specs.Words.{wordAt, namesAt, findName}
-use Rattle.text.specs.Lines.{line, rangedLine, nameLine, inTurn}
+use Rattle.names.specs.Words.{namesAt}
+use Rattle.lines.specs.Lines.{line, inTurn}
 use Rattle.tilco.specs.Formula as tilco
 use Rattle.tilco.specs.Formula.{Written}
 use Rattle.formula.specs.Grammar.{rule}
-
--- The line `signal=` with a name, after those at `places`: the place of the name, and the place after the line. A name given twice is 4.
-unfoldable pub signalLine : List ℕ → List ℕ → ℕ → Read ℕ
-signalLine s places p =
-    andThen (nameLine s p (bytes "signal=") 2 4) (λ v q.
-    pick (eqb (findName (wordAt s v) (namesAt s places)) (length places)) (λ _. got v q) (refused 4 v))
-
--- What stands before the rules: the window, the place of each signal's name, and how many rules there are.
-pub record Head : Type 0 where
-  pub window : ℕ
-  pub places : List ℕ
-  pub count : ℕ
-
--- A head of these parts.
-abbrev pub headOf : ℕ → List ℕ → ℕ → Head
-headOf w places m = record { window = w; places = places; count = m }
-
--- "Fixed order: `window=`, `signals=`, one `signal=` a signal, `rules=`": the head, and the place of the first rule's line.
-unfoldable pub head : List ℕ → Read Head
-head s =
-    andThen (rangedLine s 0 (bytes "window=") 2 3 1 64) (λ w p.
-    andThen (rangedLine s p (bytes "signals=") 2 3 1 64) (λ n q.
-    andThen (inTurn (signalLine s) n [] q) (λ places u.
-    andThen (rangedLine s u (bytes "rules=") 2 3 0 64) (λ m e. got (headOf w places m) e))))
+use Rattle.sheet_head.specs.SheetHead.{head}
 
 -- A rule from v to its LF at e, and the place after the line. "A rule has 1 to 256 bytes", else 5 at v, before its formula is read.
 unfoldable pub ruleTo : List (List ℕ) → List ℕ → ℕ → ℕ → Read Written

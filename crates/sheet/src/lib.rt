@@ -1,3 +1,3 @@
-// Reads a sheet's head, and a rule's line. Assumes nothing of the text; places are counted from 0.
-pub mod head;
+// Reads a rule's line of a sheet. Assumes nothing of the text; places are counted from 0.
 pub mod rules;
+pub mod whole_rule;

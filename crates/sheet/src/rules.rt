@@ -1,9 +1,9 @@
 // A rule's line. Assumes nothing of the text. The names are those at `places` of the sheet text `s`, before the rules.
-use formula::parser::Parsed;
-use formula::parser::rule;
-use text::lines::Step;
-use text::lines::line_at;
-ghost use Rattle.text.specs.Words.{namesAt};
+use crate::whole_rule::rule;
+use formula::parts::Parsed;
+use lines::Step;
+use lines::line_at;
+ghost use Rattle.names.specs.Words.{namesAt};
 ghost use Rattle.sheet.specs.Sheet.{ruleTo, ruleLine};
 ghost use Rattle.sheet.specs.Reading.{Ready, Ended, RuleRead};
 

@@ -1,22 +1,20 @@
 -- What stands before a text changes only the places: in u ++ t, from the place length u + i on, is read what t has from i on, and every place that
--- is given is length u later. Here bytes, words and numbers; lines are in LinesLater.
+-- is given is length u later. Here bytes and numbers.
 -- Assumes nothing.
 use mathlib.Core.Path.{_≡_, refl, ap}
-use mathlib.Core.Bool.{Bool, true, false, not, _&&_}
+use mathlib.Core.Bool.{Bool, true, false}
 use mathlib.Core.List.{List, [], _∷_, _++_}
 use Prim.Native.Nat.{ℕ, zero, suc, _+_, _-_, _*_}
 use native.Mathlib.Omega.{arith}
-use lib.Dec.{leb, eqb}
+use borrow.Author.Tests.{eqb-true, eqb-false, eq-eqb, ne-eqb}
+use lib.Dec.{eqb}
 use lib.ListN.{length}
 use lib.Seq.{drop-append-add, getD-append-add}
-use Rattle.text.specs.declared.words.Word.{Word}
-use Rattle.text.specs.declared.words.Word.the-variants.{Name, Other}
 use Rattle.text.specs.declared.numbers.Number.{Number}
 use Rattle.text.specs.declared.numbers.Number.the-variants.{Value, Missing}
 use Rattle.text.specs.Read.{Read}
 use Rattle.text.specs.Read.Read.{got, refused}
-use Rattle.text.specs.Bytes.{bytes, byte, peek, pick, between, letter, digit, nameByte, starts, run, runAt, runEnd}
-use Rattle.text.specs.Words.{wordAt, wordEnd, isWord, nameAt}
+use Rattle.text.specs.Bytes.{byte, peek, pick, between, digit, starts, run, runAt, runEnd}
 use Rattle.text.specs.Numbers.{digits, number}
 
 -- An answer whose place is d later, and whose value is f of what it was.
@@ -28,12 +26,7 @@ moved f d (refused n p) = refused n (d + p)
 abbrev pub later : {A : Type 0} → ℕ → Read A → Read A
 later d = moved (λ a. a) d
 
--- The same of a word that is read.
-abbrev pub laterWord : ℕ → Word → Word
-laterWord d (Name q) = Name (d + q)
-laterWord d Other = Other
-
--- The same of a number.
+-- The same of a number that is read.
 abbrev pub laterNumber : ℕ → Number → Number
 laterNumber d (Value v q) = Value v (d + q)
 laterNumber d Missing = Missing
@@ -42,6 +35,14 @@ laterNumber d Missing = Missing
 pub pick-map : {A B : Type 0} (f : A → B) (b : Bool) (x y : A) → pick b (λ _. f x) (f y) ≡ f (pick b (λ _. x) y)
 pick-map f true x y = refl
 pick-map f false x y = refl
+
+-- Two places are one, later by as much.
+pub eqb-later : (d a b : ℕ) → eqb (d + a) (d + b) ≡ eqb a b
+eqb-later d a b = go (eqb a b) refl
+  where
+    go : (c : Bool) → eqb a b ≡ c → eqb (d + a) (d + b) ≡ c
+    go true e = eq-eqb (d + a) (d + b) (omega (arith, eqb-true a b e))
+    go false e = ne-eqb (d + a) (d + b) (λ i. eqb-false a b e (omega arith))
 
 module _ (u t : List ℕ) where
   -- bytes
@@ -65,20 +66,6 @@ module _ (u t : List ℕ) where
   pub runEnd-later : (i : ℕ) (P : ℕ → Bool) → runEnd P (u ++ t) (length u + i) ≡ length u + runEnd P t i
   unfolding runEnd
   runEnd-later i P = rw (runAt-later i P) (omega arith)
-
-  -- words
-  pub isWord-later : (i : ℕ) (w : List ℕ) → isWord (u ++ t) (length u + i) w ≡ isWord t i w
-  unfolding isWord
-  isWord-later i w =
-      let n : length u + i + length w ≡ length u + (i + length w) = omega arith in
-      rw (n, starts-later i w, peek-later (i + length w))
-
-  -- names
-  pub nameAt-later : (i : ℕ) → nameAt (u ++ t) (length u + i) ≡ laterWord (length u) (nameAt t i)
-  unfolding nameAt
-  nameAt-later i =
-      rw (peek-later i, runAt-later i nameByte, isWord-later i (bytes "since"), isWord-later i (bytes "until"), runEnd-later i nameByte)
-      (pick-map (laterWord (length u)) (letter (peek t i) && leb (length (wordAt t i)) 16 && not (isWord t i (bytes "since")) && not (isWord t i (bytes "until"))) (Name (wordEnd t i)) Other)
 
   -- numbers
   pub digits-later : (i k v : ℕ) → digits (u ++ t) k (length u + i) v ≡ laterNumber (length u) (digits t k i v)

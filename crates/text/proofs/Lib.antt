@@ -3,14 +3,6 @@ pub mod Tests
 pub mod Places
 pub mod Runs
 pub mod Classes
-pub mod Spelling
-pub mod Names
 pub mod Values
 pub mod Answers
-pub mod Keyed
-pub mod ValueFirst
-pub mod Loops
 pub mod Later
-pub mod LinesLater
-pub mod Prefix
-pub mod Stays

@@ -1,5 +1,6 @@
 -- The bytes of a quoted text, the byte at a place, and the classes of bytes (01, "The sheet" and "Numbers of refusal").
 -- Assumes nothing. A text is the list of its bytes.
+use mathlib.Core.Path.{_≡_}
 use Prim.Native.Nat.{ℕ, zero, suc, _+_}
 use Prim.Native.String.{String, len, charAt}
 use Prim.Native.Char as Chr
@@ -78,3 +79,8 @@ runAt P s p = run P (drop p s)
 -- The place after them: that of the first byte from p on that does not pass, or the text's length.
 unfoldable pub runEnd : (ℕ → Bool) → List ℕ → ℕ → ℕ
 runEnd P s p = p + length (runAt P s p)
+
+-- No byte of the text is LF.
+abbrev pub InLine : List ℕ → Type 0
+InLine [] = Unit {0}
+InLine (x ∷ w) = (x ≡ byte "\n" → ⊥) × InLine w

@@ -1,6 +1,4 @@
 -- The definitions that the contracts cite, lowest layer first.
 pub mod Read
 pub mod Bytes
-pub mod Words
 pub mod Numbers
-pub mod Lines

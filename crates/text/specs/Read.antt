@@ -1,8 +1,6 @@
--- What reading a text finds, and what a reader's answer says (01, "Numbers of refusal").
+-- What reading a text finds (01, "Numbers of refusal").
 -- Assumes nothing.
 use Prim.Native.Nat.{ℕ}
-use Rattle.text.specs.declared.lines.Step.{Step}
-use Rattle.text.specs.declared.lines.Step.the-variants.{Got, Refused}
 
 -- A value and the place after it, or a refusal's number and place.
 pub data Read (A : Type 0) : Type 0 where
@@ -23,8 +21,3 @@ numberOf (refused n p) = n
 abbrev pub placeOf : {A : Type 0} → Read A → ℕ
 placeOf (got a q) = 0
 placeOf (refused n p) = p
-
--- What each case of a reader's answer says.
-abbrev pub says : Step → Read ℕ
-says (Got v q) = got v q
-says (Refused n p) = refused n p

@@ -1,7 +1,7 @@
 -- `mikhakun_add` meets its contract. Assumes nothing.
 use mathlib.Core.Path.{refl, ap, subst}
 use denote.Ref.{now}
-use Rattle.opening.specs.Results.{accepted, refused}
+use Rattle.sheet_opening.specs.Results.{accepted, refused}
 use Rattle.reader.specs.Results.{gain, addingSays}
 use Rattle.reader.specs.Operations.{Adds}
 use Rattle.c_api.specs.Leaves.{left}

@@ -2,7 +2,7 @@
 use mathlib.Core.Path.{refl, ap, subst}
 use denote.Ref.{now}
 use Rattle.table.specs.Values.{valueSays}
-use Rattle.opening.specs.Results.{accepted, refused}
+use Rattle.sheet_opening.specs.Results.{accepted, refused}
 use Rattle.reader.specs.Results.{askingSays}
 use Rattle.reader.specs.Operations.{Asks}
 use Rattle.c_api.specs.Leaves.{left}

@@ -6,8 +6,8 @@ use mathlib.Core.List.{List}
 use lib.ListN.{length}
 use Rattle.text.proofs.Places.{Reach}
 use Rattle.sheet.specs.Reading.{Ready}
-use Rattle.lowering.specs.Rules.{Legible}
-use Rattle.sheet.proofs.Signals.{up-to}
+use Rattle.rule_lines.specs.InTurn.{Legible}
+use Rattle.sheet_head.proofs.Signals.{up-to}
 use Rattle.sheet.proofs.Ruled.{rule-past}
 use Rattle.sheet.proofs.Answers.{when-rule}
 use borrow.Author.Needs.{needs}

@@ -3,7 +3,7 @@ use native.Mathlib.Omega.{arith}
 use mathlib.Core.Path.{refl}
 use lib.ListN.{length-take}
 use Rattle.sheet.proofs.Answers.{when-headed}
-use Rattle.opening.proofs.Sheets.{begun, legible}
+use Rattle.sheet_opening.proofs.Sheets.{begun, legible}
 use borrow.Author.Needs.{needs}
 use Rattle.bench_runs.proofs.reading.read_sheet.Statement.{statement}
 use Rattle.bench_runs.proofs.reading.read_sheet.Tie as tie

@@ -7,7 +7,7 @@ use Rattle.marking.specs.Gains.{room}
 use Rattle.marking.proofs.Decoding.{sized-as}
 use Rattle.work_list.specs.Items.{per}
 use Rattle.closing.proofs.Working.{taken-less, changed-less}
-use Rattle.closing.proofs.Leaving.{WorksBut, but-none, but-still, but-more, but-end, but-inside}
+use Rattle.closing.proofs.Leaving.{WorksBut, but-none, but-still, but-same, but-other, but-end, but-inside}
 use Rattle.work_list.proofs.Noting.{column-in, roomy-as}
 use Rattle.closing.proofs.rounds.work_word.Statement.{statement}
 use Rattle.closing.proofs.rounds.work_word.Tie as tie
@@ -76,41 +76,52 @@ take-item-requires c κs =
     let b = c .before .before .next-bit .ensures in
     (o .0, ((o .1 .0 .0, o .1 .0 .1, b .0, b .1), (o .1 .1 .0, (roomy-as (w .long) (o .1 .1 .1 .0), (sized-as (w .each (o .0 .program) (o .0 .codes) .size) (o .1 .1 .1 .1 .0), but-inside _ _ (o .0) _ _ _ _ (o .1 .1 .1 .1 .1) w)))))
 
-replace-late-requires : tie.Need-replace-late-requires Inv-loop μ-loop
-replace-late-requires c κs =
-    let o = c .before .before .before .before .before .before .before .before .before .before .before .before .before .before .before .before .before .before .before .before .pre in
-    let w = c .before .before .before .before .before .before .before .before .before .before .before .before .before .before .loop .inv .0 in
-    (o .0, ((o .1 .0 .0, w .row .most), (o .1 .1 .0, roomy-as (c .before .before .before .before .before .before .before .take-item .ensures .long ∙ w .long) (o .1 .1 .1 .0))))
+note-late-requires : tie.Need-note-late-requires Inv-loop μ-loop
+note-late-requires c κs =
+    let o = c .before .before .before .before .before .before .before .before .before .before .before .before .before .before .before .before .before .before .before .before .before .before .pre in
+    let w = c .before .before .before .before .before .before .before .before .before .before .before .before .before .before .before .before .loop .inv .0 in
+    (o .0, ((o .1 .0 .0, w .row .most), (o .1 .1 .0, roomy-as (c .before .before .before .before .before .before .before .before .before .take-item .ensures .long ∙ w .long) (o .1 .1 .1 .0))))
 
 loop-less : tie.Need-loop-less Inv-loop μ-loop
 loop-less c =
-    let o = c .before .before .before .before .before .before .before .before .before .before .before .before .before .before .before .before .before .before .before .before .before .before .before .pre in
-    let a = c .before .before .before .before .before .before .before .before .before .before .before .before .before .before .before .before .before .before .before .before .before .before .before .args in
-    changed-less _ _ _ _ _ _ _ _ _ _ _ _ (o .0) (c .before .before .before .before .before .before .before .before .before .before .take-item .ensures) _ (omega (arith, c .slice-known7 .given (a .q * per (a .count) + a .i))) (omega arith)
+    let o = c .before .before .before .before .before .before .before .before .before .before .before .before .before .before .before .before .before .before .before .before .before .before .before .before .before .pre in
+    let a = c .before .before .before .before .before .before .before .before .before .before .before .before .before .before .before .before .before .before .before .before .before .before .before .before .before .args in
+    changed-less _ _ _ _ _ _ _ _ _ _ _ _ (o .0) (c .before .before .before .before .before .before .before .before .before .before .before .before .take-item .ensures) _ (omega (arith, c .slice-known7 .given (a .q * per (a .count) + a .i))) (omega arith)
 
 loop-again : tie.Need-loop-again Inv-loop μ-loop
 loop-again c =
-    let o = c .before .before .before .before .before .before .before .before .before .before .before .before .before .before .before .before .before .before .before .before .before .before .before .pre in
-    (but-more _ _ (o .0) _ _ _ _ _ _ (omega arith) (c .before .before .before .before .before .before .before .before .before .before .before .before .before .before .before .before .before .loop .inv .0) (c .before .before .before .before .before .before .before .before .before .before .take-item .ensures) (c .before .before .replace-late .ensures), omega arith)
+    let o = c .before .before .before .before .before .before .before .before .before .before .before .before .before .before .before .before .before .before .before .before .before .before .before .before .before .pre in
+    (but-other _ _ (o .0) _ _ _ _ _ _ (omega arith) (c .before .before .before .before .before .before .before .before .before .before .before .before .before .before .before .before .before .before .before .loop .inv .0) (c .before .before .before .before .before .before .before .before .before .before .before .before .take-item .ensures) (c .before .before .note-late .ensures .0), omega arith)
 
 loop-less-2 : tie.Need-loop-less-2 Inv-loop μ-loop
 loop-less-2 c =
-    let o = c .before .before .before .before .before .before .before .before .before .before .before .before .before .before .before .before .before .before .before .pre in
-    taken-less _ _ _ _ _ _ _ _ _ _ _ _ (o .0) (c .before .before .before .before .before .before .take-item .ensures) (omega arith)
+    let o = c .before .before .before .before .before .before .before .before .before .before .before .before .before .before .before .before .before .before .before .before .before .pre in
+    let a = c .before .before .before .before .before .before .before .before .before .before .before .before .before .before .before .before .before .before .before .before .before .args in
+    changed-less _ _ _ _ _ _ _ _ _ _ _ _ (o .0) (c .before .before .before .before .before .before .before .before .take-item .ensures) _ (omega (arith, c .before .before .before .before .before .before .slice-known5 .given (a .q * per (a .count) + a .i))) (omega arith)
 
 loop-again-2 : tie.Need-loop-again-2 Inv-loop μ-loop
 loop-again-2 c =
+    let o = c .before .before .before .before .before .before .before .before .before .before .before .before .before .before .before .before .before .before .before .before .before .pre in
+    (but-same _ _ (o .0) _ _ _ _ _ _ (omega arith) (omega arith) (c .before .before .before .before .before .before .before .before .before .before .before .before .before .before .before .loop .inv .0) (c .before .before .before .before .before .before .before .before .take-item .ensures), omega arith)
+
+loop-less-3 : tie.Need-loop-less-3 Inv-loop μ-loop
+loop-less-3 c =
+    let o = c .before .before .before .before .before .before .before .before .before .before .before .before .before .before .before .before .before .before .before .pre in
+    taken-less _ _ _ _ _ _ _ _ _ _ _ _ (o .0) (c .before .before .before .before .before .before .take-item .ensures) (omega arith)
+
+loop-again-3 : tie.Need-loop-again-3 Inv-loop μ-loop
+loop-again-3 c =
     let o = c .before .before .before .before .before .before .before .before .before .before .before .before .before .before .before .before .before .before .before .pre in
     (but-still _ _ (o .0) _ _ _ _ _ _ (omega arith) (c .before .before .before .before .before .before .before .before .before .before .before .before .before .loop .inv .0) (c .before .before .before .before .before .before .take-item .ensures), omega arith)
 
-replace-late-requires-2 : tie.Need-replace-late-requires-2 Inv-loop μ-loop
-replace-late-requires-2 c κs =
+note-late-requires-2 : tie.Need-note-late-requires-2 Inv-loop μ-loop
+note-late-requires-2 c κs =
     let o = c .before .before .before .before .before .before .before .before .before .pre in
     let w = c .before .before .before .loop .inv .0 in
-    (o .0, ((o .1 .0 .0, w .row .most), (o .1 .1 .0, roomy-as (w .long) (o .1 .1 .1 .0))))
+    (o .0, ((o .1 .0 .0, omega (arith, w .row .most)), (o .1 .1 .0, roomy-as (w .long) (o .1 .1 .1 .0))))
 
 same-length : tie.Need-same-length Inv-loop μ-loop
-same-length c = c .before .before .replace-late2 .ensures .size ∙ c .before .before .before .before .before .before .loop .inv .0 .long
+same-length c = c .before .before .note-late2 .ensures .0 .size ∙ c .before .before .before .before .before .before .loop .inv .0 .long
 
 same-length-2 : tie.Need-same-length-2 Inv-loop μ-loop
 same-length-2 c =
@@ -118,7 +129,7 @@ same-length-2 c =
     c .before .before .before .before .before .before .loop .inv .0 .each (o .0 .program) (o .0 .codes) .size
 
 returns : tie.Need-returns Inv-loop μ-loop
-returns c = but-end _ _ (c .before .before .before .before .before .before .before .before .before .before .before .before .pre .0) _ _ _ _ _ _ _ _ _ _ _ (omega arith) (c .before .before .before .before .before .before .loop .inv .0) (c .before .before .replace-late2 .ensures)
+returns c = but-end _ _ (c .before .before .before .before .before .before .before .before .before .before .before .before .pre .0) _ _ _ _ _ _ _ _ _ _ _ (omega arith) (c .before .before .before .before .before .before .loop .inv .0) (c .before .before .note-late2 .ensures .0) (c .before .before .note-late2 .ensures .1)
 
 pub work-word-spec : {M : Type 1} → statement M
 work-word-spec =
@@ -137,12 +148,14 @@ work-word-spec =
     next-bit-requires
     add-from
     take-item-requires
-    replace-late-requires
+    note-late-requires
     loop-less
     loop-again
     loop-less-2
     loop-again-2
-    replace-late-requires-2
+    loop-less-3
+    loop-again-3
+    note-late-requires-2
     same-length
     same-length-2
     returns)

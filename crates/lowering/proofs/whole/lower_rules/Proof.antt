@@ -2,7 +2,7 @@
 use native.Mathlib.Omega.{arith}
 use mathlib.Core.Path.{subst, _∙_}
 use mathlib.Core.Logic.{inl}
-use Rattle.lowering.specs.Rules.{RulesRead}
+use Rattle.rule_lines.specs.InTurn.{RulesRead}
 use Rattle.lowering.specs.Rules.Sized.{over}
 use Rattle.lowering.specs.Rules.RulesStand.{stand}
 use Rattle.lowering.proofs.Standing.{same-hidden, when-read, when-not-read, stands}

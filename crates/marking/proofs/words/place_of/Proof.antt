@@ -1,38 +1,61 @@
 -- `place_of` meets its contract. Assumes nothing.
 use borrow.Author.Needs.{needs}
 use native.Mathlib.Omega.{arith}
-use mathlib.Core.Path.{_≡_, ap}
-use mathlib.Core.Bool.{Bool}
-use Prim.Native.Nat.{ℕ, _+_, _*_, _<_}
-use native.Mathlib.Nat.{le-refl}
+use mathlib.Core.Path.{_≡_, _∙_, ap, sym}
+use mathlib.Core.Bool.{Bool, true, false}
+use Prim.Native.Nat.{ℕ, suc, _+_, _*_}
+use native.Mathlib.Nat.{suc-mul, le-refl}
 use Rattle.ticks.specs.Ticks.{block}
-use Rattle.table.proofs.Marks.{row-fits, place-inside}
+use Rattle.table.proofs.Marks.{row-fits}
 use Rattle.marking.proofs.words.place_of.Statement.{statement}
 use Rattle.marking.proofs.words.place_of.Tie as tie
 
--- The place is below the end of the row's words.
-below : (n q row : ℕ) (v : Bool) (k : ℕ) → q < n → k ≡ block row v → k * n + q < 2 * (row + 1) * n
-below n q row v k l e = place-inside n row q v (2 * (row + 1) * n) l (le-refl (2 * (row + 1) * n)) k e
+-- A row's words are two blocks of n.
+two-blocks : (n row : ℕ) → 2 * (row + 1) * n ≡ 2 * row * n + n + n
+two-blocks n row =
+    let e : 2 * (row + 1) * n ≡ suc (suc (2 * row)) * n = ap (λ (k : ℕ). k * n) (omega arith) in
+    e ∙ omega (arith, suc-mul (suc (2 * row)) n, suc-mul (2 * row) n)
 
-block-of-requires : tie.Need-block-of-requires
-block-of-requires c κs =
+-- The true marks' block is the first, the false marks' the second.
+first-block : (n row q : ℕ) (v : Bool) → v ≡ true → 2 * row * n + q ≡ block row v * n + q
+first-block n row q v e = ap (λ (k : ℕ). k * n + q) (omega arith) ∙ ap (λ (u : Bool). block row u * n + q) (sym e)
+
+second-block : (n row q : ℕ) (v : Bool) → v ≡ false → 2 * row * n + q + n ≡ block row v * n + q
+second-block n row q v e =
+    let l : suc (2 * row) * n ≡ block row false * n = ap (λ (k : ℕ). k * n) (omega arith) in
+    omega (arith, suc-mul (2 * row) n) ∙ ap (λ (u : Bool). block row u * n + q) (sym e)
+
+mul-first : tie.Need-mul-first
+mul-first c =
     let l = row-fits (c .args .n) (c .args .row) _ (omega (arith, c .pre .0)) (le-refl _) in
-    omega arith
+    omega (arith, c .pre .1)
 
-mul-result : tie.Need-mul-result
-mul-result c =
-    let l = below _ _ _ (c .before .args .value) _ (c .before .pre .0) (c .block-of .ensures) in
-    search needs
+mul-first-2 : tie.Need-mul-first-2
+mul-first-2 c =
+    let l = two-blocks (c .args .n) (c .args .row) in
+    omega (arith, c .pre .1)
 
-add-result : tie.Need-add-result
-add-result c =
-    let l = below _ _ _ (c .before .args .value) _ (c .before .pre .0) (c .block-of .ensures) in
-    search needs
+add-first : tie.Need-add-first
+add-first c =
+    let l = two-blocks (c .args .n) (c .args .row) in
+    omega (arith, c .pre .0, c .pre .1)
 
 returns : tie.Need-returns
 returns c =
     let a = c .before .args in
-    (ap (λ (k : ℕ). k * a .n + a .q) (c .block-of .ensures), below _ _ _ (a .value) _ (c .before .pre .0) (c .block-of .ensures))
+    let l = two-blocks (a .n) (a .row) in
+    (first-block (a .n) (a .row) (a .q) (a .value) (c .if1 .taken), omega (arith, c .before .pre .0))
+
+add-result : tie.Need-add-result
+add-result c =
+    let l = two-blocks (c .before .args .n) (c .before .args .row) in
+    omega (arith, c .before .pre .0, c .before .pre .1)
+
+returns-2 : tie.Need-returns-2
+returns-2 c =
+    let a = c .before .args in
+    let l = two-blocks (a .n) (a .row) in
+    (second-block (a .n) (a .row) (a .q) (a .value) (c .if1 .left), omega (arith, c .before .pre .0))
 
 pub place-of-spec : {M : Type 1} → statement M
-place-of-spec = tie.close (tie.spec block-of-requires mul-result add-result returns)
+place-of-spec = tie.close (tie.spec mul-first mul-first-2 add-first returns add-result returns-2)

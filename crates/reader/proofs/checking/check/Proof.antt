@@ -1,6 +1,6 @@
 -- `check` meets its contract. Assumes nothing.
 use mathlib.Core.Path.{refl, sym, ap, _∙_}
-use Rattle.opening.specs.Results.{accepted}
+use Rattle.sheet_opening.specs.Results.{accepted}
 use Rattle.reader.specs.Operations.{counted}
 use Rattle.opening.proofs.Tables.{when-ready, when-refused}
 use Rattle.reader.proofs.Outcomes.{no-rows}

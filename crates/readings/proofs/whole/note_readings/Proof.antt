@@ -5,14 +5,14 @@ use native.Mathlib.Omega.{arith}
 use mathlib.Core.Path.{_≡_, refl, sym, subst, _∙_}
 use Prim.Native.Nat.{_*_, _-_, _<_, _≤_}
 use lib.ListN.{length, length-set}
-use Rattle.text.specs.declared.lines.Step.the-variants.{Refused}
-use Rattle.text.specs.Words.{namesAt}
-use Rattle.text.proofs.Names.{names-many}
+use Rattle.lines.specs.declared.Step.the-variants.{Refused}
+use Rattle.names.specs.Words.{namesAt}
+use Rattle.names.proofs.Names.{names-many}
 use Rattle.text.proofs.Answers.{answered, taken-over}
-use Rattle.readings.specs.Readings.{reading, readingOf}
+use Rattle.one_reading.specs.OneReading.{reading, readingOf}
 use Rattle.readings.specs.Noted.{marksIn, Notes}
 use Rattle.readings.specs.Noted.Notes.{all-noted, refused-at}
-use Rattle.readings.proofs.Lines.{reading-past, reading-long}
+use Rattle.one_reading.proofs.Lines.{reading-past, reading-long}
 use Rattle.readings.proofs.Turns.{Passed, passed-none, passed-one, passed-off, passed-all, readings-long, readings-short}
 use Rattle.readings.proofs.Numbers.{marks-more}
 use Rattle.readings.proofs.whole.note_readings.Statement.{statement}
@@ -20,7 +20,7 @@ use Rattle.readings.proofs.whole.note_readings.Tie as tie
 use Rattle.readings.proofs.whole.note_readings.Reads as reads
 use Rattle.readings.proofs.whole.note_readings.Lts as lts
 use Rattle.readings.proofs.noted.number_of.Reads as number-of-reads
-use Rattle.readings.proofs.reading.reading_at.Reads as reading-at-reads
+use Rattle.one_reading.proofs.reading_at.Reads as reading-at-reads
 use Rattle.readings.proofs.whole.refused_reading.Reads as refused-reading-reads
 
 abbrev Inv-loop : tie.InvT-loop

@@ -1,6 +1,6 @@
 -- `rule_line` meets its contract. Assumes nothing.
 use borrow.Author.Needs.{needs}
-use Rattle.text.specs.Read.{says}
+use Rattle.lines.specs.Lines.{says}
 use Rattle.text.proofs.Answers.{answered}
 use Rattle.sheet.proofs.Ruled.{line-read, line-refused, line-ended, line-ready}
 use Rattle.sheet.proofs.rules.rule_line.Statement.{statement}

@@ -1,0 +1,2 @@
+-- The definitions, lowest layer first.
+pub mod Interval

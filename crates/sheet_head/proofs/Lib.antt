@@ -1,0 +1,5 @@
+-- The laws, one idea a file.
+pub mod Signals
+pub mod Heads
+pub mod HeadPrefix
+pub mod ShortNames
