@@ -4,14 +4,12 @@ use mathlib.Core.Path.{_≡_, refl, _∙_}
 use mathlib.Core.Bool.{Bool}
 use mathlib.Core.List.{List}
 use Prim.Native.Nat.{ℕ, _+_, _≤_, _<_}
-use native.Mathlib.Omega.{arith}
 use Rattle.tilco.specs.Formula.{Written, hiddens}
 use Rattle.arena.specs.Nodes.{opOf, putNode}
 use Rattle.arena.specs.Readings.{readingOf, readTo, readAt, formAt, writtenAt, definingsAt, Right, Arena, Room, Same, Held, ruleReading}
 use Rattle.arena.specs.declared.Sign.{Sign}
 use Rattle.arena.specs.declared.Node.{Node}
 use Rattle.arena.specs.declared.Node.the-variants.{Name, Deny, Pair, Time}
-use Rattle.arena.proofs.Puts.{same-put}
 use Rattle.arena.proofs.Read.{read-same, read-put}
 
 -- A rule that stands has its readings.
@@ -51,7 +49,3 @@ module _ {a : List ℕ} {c : ℕ} (A : Arena c a) (R : Room a c 1) where
       → Held (putNode a c (Time u l first more)) x c (Written.time u first more w)
   held-time {x} {l} {w} u first more hl low high h =
       held-put (Time u l first more) x (Written.time u first more w) (hl, low, high) (cc (held-read h))
-
-  -- A rule before it stays.
-  pub held-still : {x n : ℕ} {w : Written} (k : Node) → n < c → Held a x n w → Held (putNode a c k) x n w
-  held-still k lt h = held-kept A (same-put a c c k (omega arith)) lt h

@@ -8,12 +8,12 @@ use native.Mathlib.Nat.{add-zero}
 use native.Mathlib.Numerals.{towards-suc}
 use native.Mathlib.Omega.{arith}
 use Rattle.tilco.specs.Formula.{Written, hiddens, defining, stepOf}
-use lib.ListN.{length, getD}
+use lib.ListN.{getD}
 use Rattle.arena.specs.Nodes.{pick, nodeAt, putNode, putNodes, keepNodes, putKeep}
 use Rattle.arena.specs.Readings.{formOf, formAt, Rights, Arena, Room, Same, Held}
 use Rattle.arena.specs.declared.Sign.{Sign}
 use Rattle.arena.specs.declared.Node.the-variants.{Name, Pair, Time, Keep}
-use Rattle.arena.proofs.Puts.{length-puts, node-puts, same-puts, arena-puts}
+use Rattle.arena.proofs.Puts.{node-puts, same-puts, arena-puts}
 use Rattle.arena.proofs.Read.{form-step, text-step, definings-step}
 use Rattle.arena.proofs.Helds.{held-kept}
 
@@ -40,11 +40,6 @@ keep-rights c b x l r hl hr = (
     ((omega arith, omega arith), ((omega arith, omega arith), ((omega arith, omega arith), ((omega arith, omega arith), tt)))),
   ),
 )
-
--- The buffer's length stays.
-pub length-put-keep : (a : List ℕ) (c : ℕ) (b : Bool) (x l r : ℕ) → length (putKeep a c b x l r) ≡ length a
-unfolding putKeep
-length-put-keep a c b x l r = length-puts a c (keepNodes c b x l r)
 
 -- The nodes before are the same.
 pub same-put-keep : (a : List ℕ) (c : ℕ) (b : Bool) (x l r : ℕ) → Same c a (putKeep a c b x l r)

@@ -89,10 +89,6 @@ right-later (Pair s x y) n m h r = (omega arith, omega arith)
 right-later (Time u x first more) n m h r = (omega arith, omega arith, omega arith)
 right-later (Keep b x y row) n m h r = (omega arith, omega arith)
 
--- A buffer with no node is an arena.
-pub arena-none : (a : List ℕ) → Arena 0 a
-arena-none a = record { inside = omega arith; right = λ n lt. absurd (omega arith) }
-
 -- Fewer nodes are an arena too.
 pub arena-fewer : {a : List ℕ} {c : ℕ} (d : ℕ) → d ≤ c → Arena c a → Arena d a
 arena-fewer d h A = record { inside = omega (arith, A .inside); right = λ n lt. A .right n (omega arith) }

@@ -1,13 +1,11 @@
 -- Loops over a text: a number of things in turn, and things up to an end.
 -- Assumes nothing.
 use mathlib.Core.Path.{_≡_, refl, sym, ap, subst, _∙_}
-use mathlib.Core.Bool.{Bool, true, false}
 use mathlib.Core.List.{List, [], _∷_, _++_}
 use Prim.Native.Nat.{ℕ, zero, suc, _+_, _-_, _<_, _≤_}
 use native.Mathlib.Numerals.{add-one}
 use native.Mathlib.Omega.{arith}
 use borrow.Author.Tests.{lt-ltb, le-ltb}
-use lib.Dec.{ltb}
 use lib.ListN.{length, take, set, length-append}
 use lib.Seq.{take-suc-set}
 use Rattle.text.specs.Read.{Read}
@@ -99,16 +97,3 @@ module _ {A : Type 0} (P : ℕ → Read A) (end : ℕ) where
       let e = then-same (P p) (λ a q. upTo P end n (t ++ (a ∷ [])) q) (λ a q. upTo P end m (t ++ (a ∷ [])) q)
       (λ a q f. up-enough part n m (t ++ (a ∷ [])) q (omega (arith, part p a q f)) (omega (arith, part p a q f))) in
       rw e
-
-  pub up-reach : (s : List ℕ) → ((p : ℕ) (a : A) (q : ℕ) → P p ≡ got a q → Reach s p q) → (n : ℕ) (t : List A) (p : ℕ) {u : List A} {q : ℕ} → p ≤ length s → upTo P end n t p ≡ got u q → Reach s p q
-  unfolding upTo
-  up-reach s part zero t p h e = let j = same-place e in record { ahead = omega arith; inside = omega arith }
-  up-reach s part (suc n) t p {u} {q} h e = go (ltb p end) refl (λ t' p' i f. up-reach s part n t' p' i f)
-    where
-      go : (b : Bool) → ltb p end ≡ b → ((t' : List A) (p' : ℕ) → p' ≤ length s → upTo P end n t' p' ≡ got u q → Reach s p' q) → Reach s p q
-      go true l r =
-          let d = came (P p) (λ a q. upTo P end n (t ++ (a ∷ [])) q) (rw l at e) in
-          let w = part p (d .value) (d .place) (d .first) in
-          let x = r (t ++ (d .value ∷ [])) (d .place) (w .inside) (d .then) in
-          record { ahead = omega (arith, w .ahead, x .ahead); inside = x .inside }
-      go false l r = let j = same-place (rw l at e) in record { ahead = omega arith; inside = omega arith }

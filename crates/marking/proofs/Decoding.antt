@@ -2,12 +2,11 @@
 -- Assumes nothing.
 use mathlib.Core.Path.{_≡_, ap, _∙_, subst}
 use mathlib.Core.List.{List}
-use mathlib.Core.Logic.{_⊎_, inl, inr, ⊎-elim}
+use mathlib.Core.Logic.{_⊎_, ⊎-elim}
 use Prim.Native.Nat.{ℕ, suc, _+_, _-_, _*_, _/_, _%_, _≤_, _<_}
 use native.Mathlib.Nat.{mul-le-mul-right}
 use native.Mathlib.Omega.{arith}
 use lib.ListN.{length, getD}
-use Rattle.ticks.proofs.Bits.{lt-or-ge}
 use Rattle.tilco.specs.Inference.{Program, node}
 use Rattle.tilco.specs.Table.{words}
 use Rattle.rows.specs.Words.{unpacked}
@@ -34,10 +33,6 @@ has-row n count W T x s l =
 -- A table of the same length is as large.
 pub sized-as : {n count W : ℕ} {T T′ : List ℕ} → length T′ ≡ length T → Sized n count W T → Sized n count W T′
 sized-as e s = record { some = s .some; most = s .most; words-are = s .words-are; long = omega (arith, e, s .long) }
-
--- The kinds of gates.
-pub one-or-two : (k : ℕ) → 0 < k → k ≤ 2 → (k ≡ 1) ⊎ (k ≡ 2)
-one-or-two k l h = ⊎-elim (λ a. inl (omega arith)) (λ a. inr (omega arith)) (lt-or-ge k 2)
 
 module _ (count : ℕ) (B : List ℕ) (r : ℕ) where
   -- the kind and the two numbers of the row's word

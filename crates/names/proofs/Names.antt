@@ -137,12 +137,6 @@ unfolding namesAt
 names-many s [] = refl
 names-many s (p ∷ ps) = ap suc (names-many s ps)
 
-pub names-at : (s ps : List ℕ) (i : ℕ) → i < length ps → getD (namesAt s ps) i [] ≡ wordAt s (getD ps i 0)
-unfolding namesAt
-names-at s [] i h = let z : ⊥ = omega arith in absurd z
-names-at s (p ∷ ps) zero h = refl
-names-at s (p ∷ ps) (suc i) h = let k : i < length ps = omega arith in names-at s ps i k
-
 pub names-append : (s ps qs : List ℕ) → namesAt s (ps ++ qs) ≡ namesAt s ps ++ namesAt s qs
 unfolding namesAt
 names-append s [] qs = refl

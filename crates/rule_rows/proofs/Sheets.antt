@@ -14,7 +14,7 @@ use Rattle.tilco.proofs.Rows.{length-rowsAll}
 use Rattle.tilco.proofs.Order.{Ordered, row-count, children-before}
 use Rattle.rows.specs.Words.{rowAt, Blank}
 use Rattle.rule_rows.specs.Rules.{LowersAll}
-use Rattle.rule_rows.specs.declared.rules.AllLowered.the-variants.{Next, Full}
+use Rattle.rule_rows.specs.declared.rules.AllLowered.the-variants.{Next}
 use Rattle.rows.proofs.Decoding.{Coded, row-at}
 
 -- A row's word tells it, where its children stand before it.
@@ -29,11 +29,6 @@ module _ (s : Sheet) (m m′ : List ℕ) (k : ℕ) (ts ts′ : List ℕ) where
   pub sheet-used : (at used : ℕ) → LowersAll (lows (formulas s)) (signalRows s) m m′ k ts ts′ (Next at used) → (used ≡ rowCount s) × (rowCount s ≤ length m)
   unfolding LowersAll
   sheet-used at used w = (omega (arith, w .1, row-count s), omega (arith, w .1, w .2, row-count s))
-
-  -- No room is answered where the sheet has more rows than the buffer.
-  pub sheet-full : LowersAll (lows (formulas s)) (signalRows s) m m′ k ts ts′ Full → length m < rowCount s
-  unfolding LowersAll
-  sheet-full w = omega (arith, w .0, row-count s)
 
 module _ (s : Sheet) (declared : Declared s) where
   -- Past the last row the word is a signal's.

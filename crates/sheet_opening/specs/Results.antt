@@ -6,8 +6,3 @@ use Prim.Native.Nat.{ℕ}
 pub data Result (A : Type 0) : Type 0 where
   accepted : A → Result A
   refused : ℕ → ℕ → Result A
-
--- "`answer` is 0 or the refusal number."
-abbrev pub answerNumber : {A : Type 0} → Result A → ℕ
-answerNumber (accepted x) = 0
-answerNumber (refused n p) = n

@@ -62,16 +62,6 @@ module _ (s : List ℕ) where
   unfolding digits
   digits-none k p v e = rw e
 
-  -- Digits that may be none are always read.
-  pub digits-some : (k p v : ℕ) → digits s k p v ≡ Missing → ⊥
-  unfolding digits
-  digits-some zero p v e = none-not e
-  digits-some (suc k) p v e = go (digit (peek s p)) refl (digits-some k (p + 1) (10 * v + (peek s p - byte "0")))
-    where
-      go : (b : Bool) → digit (peek s p) ≡ b → (digits s k (p + 1) (10 * v + (peek s p - byte "0")) ≡ Missing → ⊥) → ⊥
-      go true d r = r (sym (digits-step k p v d) ∙ e)
-      go false d r = none-not (sym (digits-stop (suc k) p v d) ∙ e)
-
   -- Where digits end, and how large their value is.
   pub digits-reach : (k p v : ℕ) {x q : ℕ} → p ≤ length s → digits s k p v ≡ Value x q → Reach s p q × (x < (v + 1) * 10 ^ k)
   unfolding digits

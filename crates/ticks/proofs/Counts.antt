@@ -2,7 +2,7 @@
 -- Assumes nothing. No law fixes the width of a word.
 use mathlib.Core.Path.{_≡_, refl, sym, ap, ap₂, _∙_, subst}
 use Prim.Native.Nat.{ℕ, zero, suc, _+_, _/_, _%_, _^_, _≤_, _<_}
-use native.Mathlib.Nat.{mod-lt, zero-lt-suc, add-comm, mod-one, mod-eq-of-lt, two-pow-succ, le-of-suc-le-suc, not-suc-le-zero}
+use native.Mathlib.Nat.{mod-lt, zero-lt-suc, add-comm, mod-one, mod-eq-of-lt, two-pow-succ}
 use native.Mathlib.Numerals.{add-one, one-add}
 use native.Mathlib.Omega.{arith}
 use lib.Count.{ones, onesIn, ones-cat, ones-step, trailingZeros, under}
@@ -49,16 +49,6 @@ ones-grow (suc n) a b h f =
     less (suc x) y l g = let e : suc x ≡ 1 = omega arith in omega (arith, g e)
 
 -- ---- the first tick
-
-pub first-clear : (n w t : ℕ) → t < trailingZeros n w → bit w t ≡ 0
-unfolding trailingZeros
-first-clear zero w t h = absurd (omega arith)
-first-clear (suc n) w t h = go (λ u. first-clear n (w / 2) u) (w % 2) refl t h
-  where
-    go : ((u : ℕ) → u < trailingZeros n (w / 2) → bit (w / 2) u ≡ 0) → (d : ℕ) → w % 2 ≡ d → (t : ℕ) → t < under d (trailingZeros n (w / 2)) → bit w t ≡ 0
-    go rest zero e zero l = bit-zero w ∙ e
-    go rest zero e (suc t) l = bit-suc w t ∙ rest t (le-of-suc-le-suc l)
-    go rest (suc d) e t l = absurd (not-suc-le-zero l)
 
 pub first-has : (n w : ℕ) → 0 < w → w < 2 ^ n → Has w (trailingZeros n w)
 unfolding trailingZeros

@@ -10,7 +10,7 @@ use Rattle.ticks.specs.Ticks.{Has}
 use Rattle.rows.specs.Words.{rowAt}
 use Rattle.tilco.specs.Inference.{Node, signal, notOf, gate, look, mark}
 use Rattle.tilco.specs.Table.{Stands}
-use Rattle.marking.specs.Settled.{SettledIn, Rests, SameWord}
+use Rattle.marking.specs.Settled.{SettledIn, Rests}
 
 -- The words that a word of ticks has in the list: one bit a row.
 abbrev pub per : ℕ → ℕ
@@ -55,12 +55,6 @@ pub record Touched (count : ℕ) (B : List ℕ) (n x p : ℕ) (D D′ : List ℕ
   pub size : length D′ ≡ length D
   pub kept : (r q : ℕ) → r < count → q < n → ToDo count D r q → ToDo count D′ r q
   pub noted : Noted count B n D′ x p
-
--- Nothing is taken off the list, and what is not on it rests on no word that changed.
-pub record Heeds (count : ℕ) (B : List ℕ) (n : ℕ) (T T′ D D′ : List ℕ) : Type 0 where
-  pub size : length D′ ≡ length D
-  pub kept : (r q : ℕ) → r < count → q < n → ToDo count D r q → ToDo count D′ r q
-  pub noted : (r q : ℕ) → r < count → q < n → (ToDo count D′ r q → ⊥) → (x p : ℕ) → Rests (rowAt B r) r q x p → SameWord n T T′ x p
 
 -- Nothing is taken off the list, and every item that rests on a mark in one of the words X is on it: X has rows with a word of theirs.
 pub record Starts (count : ℕ) (B : List ℕ) (n : ℕ) (X : ℕ → ℕ → Type 0) (T D D′ : List ℕ) : Type 0 where

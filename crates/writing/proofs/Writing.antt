@@ -6,8 +6,8 @@ use Prim.Native.Nat.{ℕ, suc, _+_, _<_, _≤_}
 use native.Mathlib.Nat.{add-zero, add-suc, suc-add}
 use native.Mathlib.Numerals.{add-one}
 use native.Mathlib.Omega.{arith}
-use lib.ListN.{length, getD, set, take, drop, length-append}
-use lib.Seq.{sets, sets-eq, length-sets, length-take-le, take-suc, take-length, take-at, drop-at}
+use lib.ListN.{length, getD, set, take, length-append}
+use lib.Seq.{sets, length-sets, length-take-le, take-suc, take-length}
 use Rattle.writing.specs.Writes.{Wrote}
 use Rattle.writing.specs.Writes.Wrote.{fits, full}
 use Rattle.writing.specs.declared.Next.{Next}
@@ -86,15 +86,6 @@ one-more m b ws i {o} h e =
 -- All of them stored: i is how many there are.
 pub all-stored : (m : List ℕ) (b : ℕ) (ws : List ℕ) (i : ℕ) {o : List ℕ} → i ≡ length ws → b + length ws ≤ length m → o ≡ sets m b (take i ws) → Wrote ws b m o (Place (b + i))
 all-stored m b ws i h l e = fits {u = b + i} (omega arith) (omega arith) (e ∙ rw (h, take-length))
-
--- Written from the first place on, the entries are all that stands before the place answered, and the rest of the buffer stays.
-pub from-first : {ws m m₁ : List ℕ} {r : Next} {u : ℕ} → Wrote ws 0 m m₁ r → r ≡ Place u → (take u m₁ ≡ ws) × (drop u m₁ ≡ drop u m)
-from-first {ws} {m} {u = u} h e =
-    let R = fitted h e in
-    let n : length ws ≡ u = omega arith in
-    let z : 0 + length ws ≡ u = omega arith in
-    let s = R .holds ∙ sets-eq ws m 0 (omega arith) ∙ ap (λ (k : ℕ). ws ++ drop k m) z in
-    (ap (take u) s ∙ take-at ws (drop u m) u n, ap (drop u) s ∙ drop-at ws (drop u m) u n)
 
 -- Two writes of the same entries, where there is room for them, end alike.
 pub wrote-one : {ws : List ℕ} {b : ℕ} {m m₁ m₂ : List ℕ} {r₁ r₂ : Next} → Wrote ws b m m₁ r₁ → Wrote ws b m m₂ r₂ → b + length ws ≤ length m → (r₁ ≡ r₂) × (m₁ ≡ m₂)

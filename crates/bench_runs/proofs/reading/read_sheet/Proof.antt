@@ -1,6 +1,5 @@
 -- `read_sheet` is safe and ends. Assumes nothing.
 use native.Mathlib.Omega.{arith}
-use mathlib.Core.Path.{refl}
 use lib.ListN.{length-take}
 use Rattle.sheet.proofs.Answers.{when-headed}
 use Rattle.sheet_opening.proofs.Sheets.{begun, legible}
