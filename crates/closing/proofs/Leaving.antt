@@ -3,16 +3,17 @@
 use mathlib.Core.Path.{_≡_, refl, sym, _∙_, subst}
 use mathlib.Core.List.{List}
 use mathlib.Core.Logic.{_⊎_, inl, inr, ⊎-elim}
-use Prim.Native.Nat.{ℕ, _+_, _*_, _<_, _≤_}
+use Prim.Native.Nat.{ℕ, _+_, _*_, _<_}
 use native.Mathlib.Omega.{arith}
 use lib.ListN.{length, getD}
 use Rattle.rows.specs.Words.{rowAt}
-use Rattle.tilco.specs.Inference.{Node, signal, notOf, gate, look, Program, mark}
+use Rattle.tilco.specs.Inference.{Program, mark}
 use Rattle.tilco.specs.Table.{Stands, Inside}
 use Rattle.tilco.proofs.Derives.{stays-inside}
-use Rattle.marking.specs.Codes.{Fine, Codes, Coded}
+use Rattle.marking.specs.Codes.{Codes, Coded}
 use Rattle.marking.specs.Settled.{Rests}
 use Rattle.work_list.specs.Items.{per, Touched, Done}
+use Rattle.work_list.proofs.ByKind.{rests-below}
 use Rattle.visiting.specs.Visits.{Late}
 use Rattle.visiting.proofs.Visiting.{late-none}
 use Rattle.closing.specs.Rounds.{DoneBut, Stretch, Only, Either, Works, Taken, NoItem, InWord}
@@ -24,18 +25,10 @@ pub record WorksBut (count : ℕ) (B : List ℕ) (W n q : ℕ) (T T′ D D′ : 
   pub each : (P : Program) → Codes P count B → Stretch (Done count B W n) (DoneBut (Only late) q count B W n) count n P W NoItem T T′ D D′ changed
   pub row : Late count changed late
 
--- A row rests on its own words and on words of rows before it.
-rests-below : (d : Node) (r q x p : ℕ) → Fine r d → Rests d r q x p → x ≤ r
-rests-below signal r q x p f h = absurd h
-rests-below (notOf y) r q x p f h = ⊎-elim (λ e. omega arith) (λ e. omega (arith, f)) (h .1)
-rests-below (gate u a b) r q x p f h = ⊎-elim (λ e. omega arith) (⊎-elim (λ e. omega (arith, f .0)) (λ e. omega (arith, f .1))) (h .1)
-rests-below (look k c) r q x p f h = ⊎-elim (λ e. omega (arith, f .0, e .0)) (λ e. omega (arith, e .0)) h
-
 module _ (count : ℕ) (B : List ℕ) (coded : Coded count B) where
-  -- So nothing rests on a row `count`.
+  -- A row rests on its own words and on words of rows before it, so nothing rests on a row `count`.
   rests-none : (r p q : ℕ) → r < count → Rests (rowAt B r) r p count q → ⊥
-  rests-none r p q l h =
-      omega (arith, rests-below (rowAt B r) r p count q (subst (Fine r) (coded .codes .nodes r) (coded .codes .fine r)) h)
+  rests-none r p q l h = omega (arith, rests-below count B r p count q coded h)
 
   -- It is noted where nothing is done.
   pub touched-none : (n q late : ℕ) (D : List ℕ) → late ≡ count → Touched count B n late q D D

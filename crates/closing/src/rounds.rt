@@ -288,7 +288,7 @@ pub fn close(
     requires { ⌜ Inside window (Stands n (now marks)) ⌝ }
     ensures { λ _. ⌜ ClosesAll count (now (rows .entry)) window n (now (marks .entry)) (now (marks .exit)) ⌝ }
 {
-    let mut heads = [1u16; 1024];
+    let mut heads = [0u16; 1024];
     let mut nexts = [1u16; 2048];
     link_rows(rows, count, &mut heads, &mut nexts);
     start(rows, count, n, &heads, &nexts, todo, marks);

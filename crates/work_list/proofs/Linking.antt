@@ -3,11 +3,11 @@
 use mathlib.Core.Path.{_≡_, refl, sym, _∙_, subst}
 use mathlib.Core.List.{List}
 use mathlib.Core.Logic.{_⊎_, inl, inr, ⊎-elim}
-use Prim.Native.Nat.{ℕ, suc, _+_, _*_, _/_, _≤_, _<_}
+use Prim.Native.Nat.{ℕ, zero, suc, _+_, _*_, _/_, _≤_, _<_}
 use native.Mathlib.Decide.{ℕ-discrete}
 use native.Mathlib.Numerals.{add-one}
 use native.Mathlib.Omega.{arith}
-use lib.ListN.{length, getD, set, length-set}
+use lib.ListN.{length, getD, set, replicate, length-set}
 use lib.Seq.{getD-set-same, getD-set-other}
 use Rattle.ticks.proofs.Bits.{lt-or-ge}
 use Rattle.rows.specs.Words.{rowAt}
@@ -142,12 +142,11 @@ module _ (count : ℕ) (B : List ℕ) (r : ℕ) (H N : List ℕ) (l : r < count)
 
 -- ---- the lists without an edge
 
-pub clear-more : (H : List ℕ) (x : ℕ) → x < length H → ((y : ℕ) → y < x → getD H y 0 ≡ 0) → (y : ℕ) → y < x + 1 → getD (set H x 0) y 0 ≡ 0
-clear-more H x h p y l = go (ℕ-discrete y x)
-  where
-    go : Dec (y ≡ x) → getD (set H x 0) y 0 ≡ 0
-    go (yes e) = subst (λ (k : ℕ). getD (set H x 0) k 0 ≡ 0) (sym e) (getD-set-same H x 0 0 h)
-    go (no f) = getD-set-other H x y 0 0 f ∙ p y (omega (arith, f))
+-- Noughts at the start of every list: no row has one.
+pub no-lists : (m x : ℕ) → getD {A = ℕ} (replicate m 0) x 0 ≡ 0
+no-lists zero x = refl
+no-lists (suc m) zero = refl
+no-lists (suc m) (suc x) = no-lists m x
 
 pub linked-none : (count : ℕ) (B H N : List ℕ) → count ≤ length H → 2 * count ≤ length N → ((x : ℕ) → x < count → getD H x 0 ≡ 0) → LinkedTo count B H N 0
 linked-none count B H N h k f = record { starts = h; edges = k; falls = λ x l. ends (f x l); reach = λ x y l m c. absurd (omega arith) }

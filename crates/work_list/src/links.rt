@@ -44,25 +44,12 @@ fn link_row(rows: &[u64], count: usize, r: usize, heads: &mut [u16], nexts: &mut
     }
 }
 
-// No row has a list yet.
-fn clear_heads(count: usize, heads: &mut [u16])
-    requires { ⌜ count ≤ length (now heads) ⌝ }
-    ensures { λ _. ⌜ ((x : ℕ) → x < count → getD (now (heads .exit)) x 0 ≡ 0) ⌝ }
-{
-    let mut x: usize = 0;
-    while x < count {
-        heads[x] = 0;
-        x += 1;
-    }
-}
-
-// Makes the lists of every row's parents.
+// Makes the lists of every row's parents, where no row has a list yet.
 pub fn link_rows(rows: &[u64], count: usize, heads: &mut [u16], nexts: &mut [u16])
     requires { ⌜ Coded count (now rows) × (count ≤ 1024) ⌝ }
-    requires { ⌜ (count ≤ length (now heads)) × (2 * count ≤ length (now nexts)) ⌝ }
+    requires { ⌜ (count ≤ length (now heads)) × (2 * count ≤ length (now nexts)) × ((x : ℕ) → x < count → getD (now heads) x 0 ≡ 0) ⌝ }
     ensures { λ _. ⌜ Linked count (now (rows .entry)) (now (heads .exit)) (now (nexts .exit)) ⌝ }
 {
-    clear_heads(count, heads);
     let mut r: usize = 0;
     while r < count {
         link_row(rows, count, r, heads, nexts);

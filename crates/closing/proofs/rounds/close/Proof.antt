@@ -1,6 +1,7 @@
 -- `close` meets its contract. Assumes nothing.
 use borrow.Author.Needs.{needs}
 use native.Mathlib.Omega.{arith}
+use Rattle.work_list.proofs.Linking.{no-lists}
 use Rattle.work_list.proofs.Noting.{roomy-as}
 use Rattle.closing.proofs.rounds.close.Statement.{statement}
 use Rattle.closing.proofs.rounds.close.Tie as tie
@@ -12,7 +13,9 @@ slice-aggregate-link-rows-2 : tie.Need-slice-aggregate-link-rows-2
 slice-aggregate-link-rows-2 c = search needs
 
 link-rows-requires : tie.Need-link-rows-requires
-link-rows-requires c κs = search needs
+link-rows-requires c κs =
+    let o = c .before .before .before .before .before .pre in
+    ((o .0, o .1 .0 .most), (omega (arith, o .1 .0 .most), omega (arith, o .1 .0 .most), λ x l. no-lists 1024 x))
 
 slice-aggregate-start : tie.Need-slice-aggregate-start
 slice-aggregate-start c = search needs

@@ -14,20 +14,13 @@ Inv-loop rows count heads₀ nexts₀ r₀ heads nexts r = (r ≤ count) × (len
 abbrev μ-loop : tie.MeasureT-loop
 μ-loop rows count heads₀ nexts₀ r₀ heads nexts r = count - r
 
-clear-heads-requires : tie.Need-clear-heads-requires Inv-loop μ-loop
-clear-heads-requires c κs =
-    let o = c .before .before .before .before .pre in
-    o .1 .0
-
 loop-holds : tie.Need-loop-holds Inv-loop μ-loop
-loop-holds c =
-    let o = c .before .before .before .before .before .before .before .pre in
-    (omega arith, refl, refl, linked-none _ _ _ _ (omega arith) (o .1 .1) (c .before .before .clear-heads .ensures))
+loop-holds c = let o = c .before .before .before .pre in (omega arith, refl, refl, linked-none _ _ _ _ (o .1 .0) (o .1 .1) (o .1 .2))
 
 link-row-requires : tie.Need-link-row-requires Inv-loop μ-loop
 link-row-requires c κs =
     let l = c .before .before .before .loop in
-    let o = c .before .before .before .before .before .before .before .before .before .before .before .pre in
+    let o = c .before .before .before .before .before .before .before .pre in
     ((o .0 .0, omega arith, o .0 .1), l .inv .3)
 
 add-r : tie.Need-add-r Inv-loop μ-loop
@@ -48,7 +41,7 @@ same-length-2 c = c .before .loop .inv .2
 returns : tie.Need-returns Inv-loop μ-loop
 returns c =
     let l = c .before .loop in
-    let a = c .before .before .before .before .before .before .before .before .before .args in
+    let a = c .before .before .before .before .before .args in
     subst (LinkedTo (a .count) (a .rows .now) (l .heads) (l .nexts)) (omega arith) (l .inv .3)
 
 pub link-rows-spec : {M : Type 1} → statement M
@@ -57,7 +50,6 @@ link-rows-spec =
     (tie.spec
     Inv-loop
     μ-loop
-    clear-heads-requires
     loop-holds
     link-row-requires
     add-r
