@@ -13,9 +13,9 @@ use Rattle.tilco.specs.Table.{words, Stands, Inside}
 use Rattle.tilco.proofs.Derives.{cut, monotone}
 use Rattle.table.specs.Puts.{Gains}
 use Rattle.table.proofs.Marks.{gains-none, gains-then}
-use Rattle.marking.specs.Gains.{HasRow, Ticks, Here, Bits, Joins}
+use Rattle.table_words.specs.Gains.{HasRow, Ticks, Here, Bits, Joins}
 use Rattle.closing.specs.Closes.{Settles, RowTrue, TopMarks, ClosesAll, SettlesAll}
-use Rattle.marking.proofs.Gaining.{joins-as}
+use Rattle.table_words.proofs.Gaining.{joins-as}
 
 -- ---- one row
 module _ (n W r : ℕ) where

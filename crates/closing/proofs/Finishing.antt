@@ -15,7 +15,7 @@ use Rattle.tilco.specs.Table.{words, Stands, Inside}
 use Rattle.tilco.proofs.Closing.{SettledAt, finished}
 use Rattle.tilco.proofs.Derives.{cut, stays-inside}
 use Rattle.marking.specs.Codes.{Codes, Coded}
-use Rattle.marking.specs.Gains.{room}
+use Rattle.table_words.specs.Gains.{room}
 use Rattle.closing.specs.Closes.{ClosesAll}
 use Rattle.work_list.specs.Items.{ToDo, Done}
 use Rattle.closing.specs.Rounds.{Works, AnyItem}

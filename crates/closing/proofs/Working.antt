@@ -16,7 +16,7 @@ use Rattle.tilco.specs.Inference.{Program, mark, start}
 use Rattle.tilco.specs.Table.{Stands, Inside}
 use Rattle.tilco.proofs.Derives.{cut, stays-inside}
 use Rattle.marking.specs.Codes.{Coded}
-use Rattle.marking.specs.Gains.{room}
+use Rattle.table_words.specs.Gains.{room}
 use Rattle.work_list.specs.Items.{per, ToDo}
 use Rattle.closing.specs.Rounds.{Stretch, Works, Taken, NoItem, InWord, InColumn, turn}
 

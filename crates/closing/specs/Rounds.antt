@@ -10,7 +10,7 @@ use Rattle.rows.specs.Words.{rowAt}
 use Rattle.tilco.specs.Inference.{Program, Mark, Derives}
 use Rattle.tilco.specs.Table.{Stands}
 use Rattle.marking.specs.Codes.{Codes}
-use Rattle.marking.specs.Gains.{room}
+use Rattle.table_words.specs.Gains.{room}
 use Rattle.marking.specs.Settled.{SettledIn, Rests}
 use Rattle.work_list.specs.Items.{ToDo, Done}
 use Rattle.visiting.specs.Visits.{Late}

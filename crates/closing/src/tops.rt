@@ -1,7 +1,7 @@
 // The tops marked, and the table closed after them. Assumes of the table what closing it assumes, and that each top is a row.
 use crate::rounds::close;
-use marking::words::add_word;
-use marking::words::window_word;
+use table_words::add_word;
+use table_words::window_word;
 use work_list::links::index;
 ghost use mathlib.Core.Path.{_≡_};
 ghost use Prim.Native.Nat.{ℕ, _<_, _≤_};
@@ -9,7 +9,7 @@ ghost use lib.ListN.{length, getD};
 ghost use Rattle.tilco.specs.Table.{words, Stands, Inside};
 ghost use Rattle.marking.specs.Codes.{Coded};
 ghost use Rattle.table.specs.Puts.{Gains};
-ghost use Rattle.marking.specs.Gains.{HasRow};
+ghost use Rattle.table_words.specs.Gains.{HasRow};
 ghost use Rattle.marking.specs.Moves.{Sized};
 ghost use Rattle.closing.specs.Closes.{RowTrue, TopMarks, SettlesAll};
 ghost use Rattle.work_list.specs.Items.{Roomy};

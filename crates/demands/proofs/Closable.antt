@@ -24,8 +24,8 @@ use Rattle.tilco.proofs.Derives.{stays-inside}
 use Rattle.tilco.proofs.Order.{Ordered, row-count, children-before, top-is-row}
 use Rattle.table.proofs.Marks.{word-inside, puts-word}
 use Rattle.table.specs.Puts.{Puts}
-use Rattle.marking.specs.Gains.{room}
-use Rattle.marking.proofs.Gaining.{joins-some}
+use Rattle.table_words.specs.Gains.{room}
+use Rattle.table_words.proofs.Gaining.{joins-some}
 use Rattle.demands.proofs.Deciding.{stands-at}
 use Rattle.demands.proofs.Missing.{Missing, closed-or-missing}
 

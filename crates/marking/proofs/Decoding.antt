@@ -11,7 +11,7 @@ use Rattle.tilco.specs.Inference.{Program, node}
 use Rattle.tilco.specs.Table.{words}
 use Rattle.rows.specs.Words.{unpacked}
 use Rattle.marking.specs.Codes.{Fine, Codes, Coded}
-use Rattle.marking.specs.Gains.{HasRow}
+use Rattle.table_words.specs.Gains.{HasRow}
 use Rattle.marking.specs.Moves.{Sized}
 
 -- A word of a row lies in the window.

@@ -1,6 +1,4 @@
 -- The laws, one idea a file, in the order in which they build on each other.
-pub mod OneWord
-pub mod Gaining
 pub mod Moving
 pub mod Settling
 pub mod RowRules

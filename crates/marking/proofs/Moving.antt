@@ -9,7 +9,7 @@ use native.Mathlib.Omega.{arith}
 use Rattle.tilco.specs.Inference.{Program, Mark, mark, Marks, Derives, start, _or_}
 use Rattle.tilco.specs.Table.{Stands, Inside}
 use Rattle.tilco.proofs.Derives.{cut, monotone, stays-inside}
-use Rattle.marking.specs.Gains.{room, Joins}
+use Rattle.table_words.specs.Gains.{room, Joins}
 use Rattle.marking.specs.Moves.{Moves}
 
 some-or-none : (k : ℕ) → (0 < k) ⊎ (k ≡ 0)

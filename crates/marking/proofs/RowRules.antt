@@ -10,11 +10,11 @@ use lib.Bits.{bitAnd, bitOr}
 use Rattle.ticks.proofs.Bits.{lt-or-ge}
 use Rattle.tilco.specs.Inference.{notOf, gate, look, Program, Mark, mark, Marks, Shifted, down-left, down-right, up-left, up-right, look-down, look-up, not-down, not-up, up-both, rest-right, rest-left, Derives, start, one, two, _or_}
 use Rattle.tilco.specs.Table.{Stands}
-use Rattle.marking.specs.Gains.{Ticks, Here, Sides, Reads, Bits, Joins, Apart}
+use Rattle.table_words.specs.Gains.{Ticks, Here, Sides, Reads, Bits, Joins, Apart}
 use Rattle.marking.specs.Settled.{SettledIn, LookIn}
 use Rattle.marking.specs.Moves.{Moves, Wrote, GateWrote, LinkWrote, PartWrote, LookWrote, Mutual, ByNode, ByLink}
-use Rattle.marking.proofs.OneWord.{Seen, InWindow, both-ticks, either-ticks, raised, lowered}
-use Rattle.marking.proofs.Gaining.{sides-as}
+use Rattle.table_words.proofs.OneWord.{Seen, InWindow, both-ticks, either-ticks, raised, lowered}
+use Rattle.table_words.proofs.Gaining.{sides-as}
 use Rattle.marking.proofs.Moving.{idle, weaker, then, keeps-inside, joins-move}
 use Rattle.marking.proofs.Settling.{ran, turned, Whole, Part, gate-in, by-value, not-in, link-in}
 

@@ -9,9 +9,9 @@ use native.Mathlib.Omega.{arith}
 use Rattle.tilco.specs.Inference.{Mark, mark, Marks}
 use Rattle.tilco.specs.Table.{Stands}
 use Rattle.tilco.proofs.Closing.{GateSettled}
-use Rattle.marking.specs.Gains.{Sides, Joins, Apart}
-use Rattle.marking.proofs.OneWord.{Seen, InWindow}
-use Rattle.marking.proofs.Gaining.{not-apart}
+use Rattle.table_words.specs.Gains.{Sides, Joins, Apart}
+use Rattle.table_words.proofs.OneWord.{Seen, InWindow}
+use Rattle.table_words.proofs.Gaining.{not-apart}
 
 -- The marks S′ are those of S, and row r's in word q: of value u at the ticks U, of the other value at the ticks N.
 pub record Ran (q r : ℕ) (u : Bool) (U N : ℕ → Type 0) (S S′ : Marks) : Type 0 where

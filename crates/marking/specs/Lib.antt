@@ -1,5 +1,4 @@
 -- The definitions that the contracts cite, lowest layer first.
 pub mod Codes
-pub mod Gains
 pub mod Settled
 pub mod Moves

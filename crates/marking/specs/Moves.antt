@@ -9,7 +9,7 @@ use Prim.Native.Nat.{ℕ, _+_, _*_, _/_, _≤_, _<_}
 use lib.ListN.{length}
 use Rattle.tilco.specs.Inference.{Node, Program, node, Mark, mark, Marks, Shifted, One, Derives, _or_}
 use Rattle.tilco.specs.Table.{words, Stands, Inside}
-use Rattle.marking.specs.Gains.{Apart, room}
+use Rattle.table_words.specs.Gains.{Apart, room}
 use Rattle.marking.specs.Settled.{LinkIn}
 
 -- Nothing is lost, all that is new follows and is among the marks A; if nothing changed the table is the same, else its words have less

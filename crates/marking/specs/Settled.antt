@@ -8,7 +8,7 @@ use Prim.Native.Nat.{ℕ, _+_, _/_, _<_}
 use Rattle.tilco.specs.Inference.{Node, signal, notOf, gate, look, mark, Marks, Shifted}
 use Rattle.tilco.specs.Table.{Stands}
 use Rattle.tilco.proofs.Closing.{GateSettled}
-use Rattle.marking.specs.Gains.{Apart}
+use Rattle.table_words.specs.Gains.{Apart}
 
 -- The rules of row r, by its node, add nothing to the ticks of word q; a look's ticks are its child's.
 abbrev pub SettledIn : ℕ → ℕ → Marks → ℕ → Node → Type 0

@@ -2,4 +2,3 @@
 // in a row. A function that writes tells of each word that it may write, 0 if the word is as it was.
 // Assumes that the table has the rows that are named.
 pub mod steps;
-pub mod words;

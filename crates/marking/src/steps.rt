@@ -1,13 +1,13 @@
 // The rules of one row at the ticks of one word, once through: they add nothing to it then. Each function tells which words changed.
 // Assumes that the table has the row and its children, and that these stand before the row.
-use crate::words::add_words;
-use crate::words::window_word;
-use crate::words::words_at;
+use table_words::add_words;
+use table_words::window_word;
+use table_words::words_at;
 ghost use mathlib.Core.Path.{_≡_};
 ghost use Prim.Native.Nat.{ℕ, _+_, _*_, _/_, _<_, _≤_};
 ghost use Rattle.tilco.specs.Inference.{notOf, gate, look, _or_};
 ghost use Rattle.tilco.specs.Table.{words};
-ghost use Rattle.marking.specs.Gains.{HasRow};
+ghost use Rattle.table_words.specs.Gains.{HasRow};
 ghost use Rattle.marking.specs.Settled.{SettledIn, LookIn};
 ghost use Rattle.marking.specs.Moves.{Wrote, GateWrote, PartWrote, LookWrote, ByNode, ByLink};
 

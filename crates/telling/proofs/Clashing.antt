@@ -16,9 +16,9 @@ use Rattle.ticks.proofs.Bits.{lt-or-ge, has-below, no-ticks}
 use Rattle.ticks.proofs.Counts.{first-has}
 use Rattle.tilco.specs.Inference.{Clash}
 use Rattle.tilco.specs.Table.{Stands}
-use Rattle.marking.specs.Gains.{HasRow, Ticks, Both}
+use Rattle.table_words.specs.Gains.{HasRow, Ticks, Both}
 use Rattle.telling.specs.Clashes.{ClashIn}
-use Rattle.marking.proofs.OneWord.{flow-ticks}
+use Rattle.table_words.proofs.OneWord.{flow-ticks}
 
 pub never : true ≡ false → ⊥
 never e = let z : _≡_ {A = ℕ} 0 1 = cc in omega arith

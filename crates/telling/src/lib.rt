@@ -1,6 +1,6 @@
 // What a table tells: its facts, whether a row has both marks at one tick, and whether every mark is in the window.
 // Assumes that the table has the rows.
-use marking::words::word_at;
+use table_words::word_at;
 ghost use mathlib.Core.Path.{_≡_};
 ghost use mathlib.Core.Bool.{true};
 ghost use mathlib.Core.Logic.{_↔_};

@@ -10,7 +10,7 @@ use Rattle.rows.specs.Words.{rowAt}
 use Rattle.tilco.specs.Inference.{Node, Program, node, Mark, mark, Marks, Derives}
 use Rattle.tilco.specs.Table.{Stands, Inside}
 use Rattle.marking.specs.Codes.{Codes}
-use Rattle.marking.specs.Gains.{room}
+use Rattle.table_words.specs.Gains.{room}
 use Rattle.marking.specs.Settled.{SettledIn, Rests, SameWord}
 use Rattle.work_list.specs.Items.{ToDo, Noted}
 

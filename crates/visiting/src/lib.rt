@@ -10,7 +10,7 @@ ghost use Prim.Native.Nat.{ℕ, _+_, _<_, _≤_};
 ghost use Rattle.tilco.specs.Inference.{notOf, gate, look};
 ghost use Rattle.tilco.specs.Table.{words};
 ghost use Rattle.marking.specs.Codes.{Coded};
-ghost use Rattle.marking.specs.Gains.{HasRow};
+ghost use Rattle.table_words.specs.Gains.{HasRow};
 ghost use Rattle.marking.specs.Moves.{WroteBefore, Sized};
 ghost use Rattle.work_list.specs.Links.{Linked};
 ghost use Rattle.work_list.specs.Items.{Roomy};

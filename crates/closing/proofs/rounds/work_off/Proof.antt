@@ -4,7 +4,7 @@ use mathlib.Core.Path.{_≡_, refl, _∙_}
 use Prim.Native.Nat.{_+_, min}
 use lib.ListN.{length}
 use Rattle.ticks.specs.Ticks.{Small}
-use Rattle.marking.specs.Gains.{room}
+use Rattle.table_words.specs.Gains.{room}
 use Rattle.marking.proofs.Decoding.{sized-as}
 use Rattle.closing.proofs.Finishing.{Toward, toward-start, toward-inside, toward-more, toward-less, toward-end}
 use Rattle.work_list.proofs.Noting.{roomy-as}

@@ -2,9 +2,9 @@
 use borrow.Author.Needs.{needs}
 use native.Mathlib.Omega.{arith}
 use lib.ListN.{length-set}
-use Rattle.marking.proofs.Gaining.{sides-none, sides-some}
-use Rattle.marking.proofs.words.add_words.Statement.{statement}
-use Rattle.marking.proofs.words.add_words.Tie as tie
+use Rattle.table_words.proofs.Gaining.{sides-none, sides-some}
+use Rattle.table_words.proofs.add_words.Statement.{statement}
+use Rattle.table_words.proofs.add_words.Tie as tie
 
 place-of-requires : tie.Need-place-of-requires
 place-of-requires c κs = search needs

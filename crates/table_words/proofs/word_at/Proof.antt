@@ -3,8 +3,8 @@ use borrow.Author.Needs.{needs}
 use mathlib.Core.Path.{ap}
 use Prim.Native.Nat.{ℕ}
 use lib.ListN.{getD}
-use Rattle.marking.proofs.words.word_at.Statement.{statement}
-use Rattle.marking.proofs.words.word_at.Tie as tie
+use Rattle.table_words.proofs.word_at.Statement.{statement}
+use Rattle.table_words.proofs.word_at.Tie as tie
 
 place-of-requires : tie.Need-place-of-requires
 place-of-requires c κs = search needs

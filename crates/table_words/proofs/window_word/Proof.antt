@@ -3,9 +3,9 @@ use borrow.Author.Needs.{needs}
 use native.Mathlib.Omega.{arith}
 use mathlib.Core.Path.{refl}
 use Prim.Native.Nat.{_-_, _*_}
-use Rattle.marking.proofs.OneWord.{window-all, window-last}
-use Rattle.marking.proofs.words.window_word.Statement.{statement}
-use Rattle.marking.proofs.words.window_word.Tie as tie
+use Rattle.table_words.proofs.OneWord.{window-all, window-last}
+use Rattle.table_words.proofs.window_word.Statement.{statement}
+use Rattle.table_words.proofs.window_word.Tie as tie
 
 mul-rest : tie.Need-mul-rest
 mul-rest c = search needs

@@ -1,9 +1,9 @@
 -- `words_at` meets its contract. Assumes nothing.
 use borrow.Author.Needs.{needs}
 use mathlib.Core.Bool.{not}
-use Rattle.marking.proofs.OneWord.{read-ticks}
-use Rattle.marking.proofs.words.words_at.Statement.{statement}
-use Rattle.marking.proofs.words.words_at.Tie as tie
+use Rattle.table_words.proofs.OneWord.{read-ticks}
+use Rattle.table_words.proofs.words_at.Statement.{statement}
+use Rattle.table_words.proofs.words_at.Tie as tie
 
 word-at-requires : tie.Need-word-at-requires
 word-at-requires c κs = search needs

@@ -1,9 +1,9 @@
 -- `add_word` meets its contract. Assumes nothing.
 use borrow.Author.Needs.{needs}
 use native.Mathlib.Omega.{arith}
-use Rattle.marking.proofs.Gaining.{joins-none, joins-some}
-use Rattle.marking.proofs.words.add_word.Statement.{statement}
-use Rattle.marking.proofs.words.add_word.Tie as tie
+use Rattle.table_words.proofs.Gaining.{joins-none, joins-some}
+use Rattle.table_words.proofs.add_word.Statement.{statement}
+use Rattle.table_words.proofs.add_word.Tie as tie
 
 place-of-requires : tie.Need-place-of-requires
 place-of-requires c κs = search needs

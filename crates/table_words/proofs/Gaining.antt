@@ -18,7 +18,7 @@ use Rattle.tilco.specs.Inference.{Mark, mark, Marks, _or_}
 use Rattle.tilco.specs.Table.{Stands}
 use Rattle.table.proofs.Marks.{gains-then, word-joined}
 use Rattle.table.specs.Puts.{Gains}
-use Rattle.marking.specs.Gains.{Ticks, Here, Sides, Bits, room, Joins}
+use Rattle.table_words.specs.Gains.{Ticks, Here, Sides, Bits, room, Joins}
 
 -- A word that grows leaves as much less room.
 room-set : (T : List ℕ) (i v : ℕ) → i < length T → getD T i 0 ≤ v → v < 2 ^ 64 → room (set T i v) + v ≡ room T + getD T i 0

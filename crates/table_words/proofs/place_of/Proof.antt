@@ -6,8 +6,8 @@ use Prim.Native.Nat.{ℕ, suc, _+_, _*_}
 use native.Mathlib.Nat.{suc-mul, le-refl}
 use Rattle.ticks.specs.Ticks.{block}
 use Rattle.table.proofs.Marks.{row-fits}
-use Rattle.marking.proofs.words.place_of.Statement.{statement}
-use Rattle.marking.proofs.words.place_of.Tie as tie
+use Rattle.table_words.proofs.place_of.Statement.{statement}
+use Rattle.table_words.proofs.place_of.Tie as tie
 
 -- A row's words are two blocks of n.
 two-blocks : (n row : ℕ) → 2 * (row + 1) * n ≡ 2 * row * n + n + n
