@@ -18,9 +18,9 @@ use Rattle.marking.specs.Codes.{Codes, Coded}
 use Rattle.table_words.specs.Gains.{room}
 use Rattle.closing.specs.Closes.{ClosesAll}
 use Rattle.work_list.specs.Items.{ToDo, Done}
-use Rattle.closing.specs.Rounds.{Works, AnyItem}
+use Rattle.working.specs.Stretches.{Works, AnyItem}
 use Rattle.marking.proofs.Decoding.{words-cover}
-use Rattle.closing.proofs.Local.{settled-all}
+use Rattle.working.proofs.Local.{settled-all}
 
 -- On the way from T to the closed table: what is not on the list is settled, and when `go` is 0 nothing is on it.
 pub record Nearing (n : ℕ) (P : Program) (W count : ℕ) (B T T′ D : List ℕ) (go : ℕ) : Type 0 where

@@ -1,8 +1,4 @@
 -- The laws, one idea a file, in the order in which they build on each other.
-pub mod Local
-pub mod Taking
-pub mod Working
-pub mod Leaving
 pub mod Finishing
 pub mod Crowning
 pub mod Outcomes

@@ -3,9 +3,9 @@ use native.Mathlib.Omega.{arith}
 use mathlib.Core.Logic.{⊎-elim}
 use Prim.Native.Nat.{_-_, _/_, _≤_}
 use Rattle.work_list.specs.Items.{per}
-use Rattle.closing.specs.Rounds.{Works}
+use Rattle.working.specs.Stretches.{Works}
 use Rattle.marking.proofs.Decoding.{sized-as}
-use Rattle.closing.proofs.Working.{FirstWords, works-none, works-words, works-as, works-inside, turn-below}
+use Rattle.working.proofs.Working.{FirstWords, works-none, works-words, works-as, works-inside, turn-below}
 use Rattle.work_list.proofs.Noting.{roomy-as}
 use Rattle.closing.proofs.rounds.work_column.Statement.{statement}
 use Rattle.closing.proofs.rounds.work_column.Tie as tie

@@ -2,9 +2,9 @@
 use native.Mathlib.Omega.{arith}
 use mathlib.Core.Logic.{⊎-elim}
 use Prim.Native.Nat.{_-_, _≤_}
-use Rattle.closing.specs.Rounds.{Works}
+use Rattle.working.specs.Stretches.{Works}
 use Rattle.marking.proofs.Decoding.{sized-as}
-use Rattle.closing.proofs.Working.{FirstColumns, works-none, works-columns, works-as, works-inside}
+use Rattle.working.proofs.Working.{FirstColumns, works-none, works-columns, works-as, works-inside}
 use Rattle.work_list.proofs.Noting.{roomy-as}
 use Rattle.closing.proofs.rounds.work_round.Statement.{statement}
 use Rattle.closing.proofs.rounds.work_round.Tie as tie

@@ -2,9 +2,9 @@
 use borrow.Author.Needs.{needs}
 use native.Mathlib.Omega.{arith}
 use mathlib.Core.Path.{refl}
-use Rattle.closing.proofs.Leaving.{touched-none}
-use Rattle.closing.proofs.rounds.note_late.Statement.{statement}
-use Rattle.closing.proofs.rounds.note_late.Tie as tie
+use Rattle.working.proofs.Leaving.{touched-none}
+use Rattle.working.proofs.note_late.Statement.{statement}
+use Rattle.working.proofs.note_late.Tie as tie
 
 returns : tie.Need-returns
 returns c = (touched-none _ _ (c .before .before .before .before .before .pre .0) _ _ _ _ (omega arith), λ e. refl)

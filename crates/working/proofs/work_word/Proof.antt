@@ -6,11 +6,11 @@ use lib.ListN.{getD}
 use Rattle.table_words.specs.Gains.{room}
 use Rattle.marking.proofs.Decoding.{sized-as}
 use Rattle.work_list.specs.Items.{per}
-use Rattle.closing.proofs.Working.{taken-less, changed-less}
-use Rattle.closing.proofs.Leaving.{WorksBut, but-none, but-still, but-same, but-other, but-end, but-inside}
+use Rattle.working.proofs.Working.{taken-less, changed-less}
+use Rattle.working.proofs.Leaving.{WorksBut, but-none, but-still, but-same, but-other, but-end, but-inside}
 use Rattle.work_list.proofs.Noting.{column-in, roomy-as}
-use Rattle.closing.proofs.rounds.work_word.Statement.{statement}
-use Rattle.closing.proofs.rounds.work_word.Tie as tie
+use Rattle.working.proofs.work_word.Statement.{statement}
+use Rattle.working.proofs.work_word.Tie as tie
 
 abbrev Inv-loop : tie.InvT-loop
 Inv-loop rows count i q n window heads nexts todo₀ marks₀ stride j changed₀ from₀ late₀ todo marks changed from late =

@@ -16,8 +16,8 @@ use Rattle.work_list.specs.Items.{per, Touched, Done}
 use Rattle.work_list.proofs.ByKind.{rests-below}
 use Rattle.visiting.specs.Visits.{Late}
 use Rattle.visiting.proofs.Visiting.{late-none}
-use Rattle.closing.specs.Rounds.{DoneBut, Stretch, Only, Either, Works, Taken, NoItem, InWord}
-use Rattle.closing.proofs.Working.{works-none, works-word, stretch-then, stretch-end}
+use Rattle.working.specs.Stretches.{DoneBut, Stretch, Only, Either, Works, Taken, NoItem, InWord}
+use Rattle.working.proofs.Working.{works-none, works-word, stretch-then, stretch-end}
 
 -- Visits to items of word q, after which the row `late` is left to note in that word.
 pub record WorksBut (count : ℕ) (B : List ℕ) (W n q : ℕ) (T T′ D D′ : List ℕ) (changed late : ℕ) : Type 0 where

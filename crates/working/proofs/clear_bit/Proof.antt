@@ -5,9 +5,9 @@ use lib.ListN.{getD, set}
 use Rattle.table.proofs.Marks.{one-word}
 use mathlib.Core.Path.{ap}
 use Prim.Native.Nat.{ℕ, _-_}
-use Rattle.closing.proofs.Taking.{bit-le}
-use Rattle.closing.proofs.rounds.clear_bit.Statement.{statement}
-use Rattle.closing.proofs.rounds.clear_bit.Tie as tie
+use Rattle.working.proofs.Taking.{bit-le}
+use Rattle.working.proofs.clear_bit.Statement.{statement}
+use Rattle.working.proofs.clear_bit.Tie as tie
 
 shl-bit : tie.Need-shl-bit
 shl-bit c = search needs

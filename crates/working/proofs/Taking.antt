@@ -20,8 +20,8 @@ use Rattle.marking.specs.Codes.{Codes, Coded}
 use Rattle.marking.specs.Settled.{SettledIn, Rests}
 use Rattle.work_list.specs.Items.{per, ToDo}
 use Rattle.visiting.specs.Visits.{Late, Visited, Visits}
-use Rattle.closing.specs.Rounds.{DoneBut, Stretch, Only, Either, Taken, NoItem}
-use Rattle.closing.proofs.Local.{settled-local}
+use Rattle.working.specs.Stretches.{DoneBut, Stretch, Only, Either, Taken, NoItem}
+use Rattle.working.proofs.Local.{settled-local}
 
 -- ---- a bit of a word cleared
 module _ (x k : ℕ) (has : Has x k) where

@@ -2,9 +2,9 @@
 use borrow.Author.Needs.{needs}
 use native.Mathlib.Omega.{arith}
 use Rattle.work_list.proofs.Noting.{column-in}
-use Rattle.closing.proofs.Taking.{kept-bit, taken}
-use Rattle.closing.proofs.rounds.take_item.Statement.{statement}
-use Rattle.closing.proofs.rounds.take_item.Tie as tie
+use Rattle.working.proofs.Taking.{kept-bit, taken}
+use Rattle.working.proofs.take_item.Statement.{statement}
+use Rattle.working.proofs.take_item.Tie as tie
 
 add-stride : tie.Need-add-stride
 add-stride c = search needs

@@ -2,9 +2,9 @@
 use borrow.Author.Needs.{needs}
 use native.Mathlib.Omega.{arith}
 use lib.Count.{trailing-le}
-use Rattle.closing.proofs.Working.{lowest, lowest-from}
-use Rattle.closing.proofs.rounds.next_bit.Statement.{statement}
-use Rattle.closing.proofs.rounds.next_bit.Tie as tie
+use Rattle.working.proofs.Working.{lowest, lowest-from}
+use Rattle.working.proofs.next_bit.Statement.{statement}
+use Rattle.working.proofs.next_bit.Tie as tie
 
 shr-rest : tie.Need-shr-rest
 shr-rest c = search needs

@@ -3,9 +3,9 @@ use borrow.Author.Needs.{needs}
 use native.Mathlib.Omega.{arith}
 use mathlib.Core.Path.{refl}
 use Rattle.visiting.proofs.Visiting.{late-none}
-use Rattle.closing.proofs.Taking.{visits-none}
-use Rattle.closing.proofs.rounds.visit_row.Statement.{statement}
-use Rattle.closing.proofs.rounds.visit_row.Tie as tie
+use Rattle.working.proofs.Taking.{visits-none}
+use Rattle.working.proofs.visit_row.Statement.{statement}
+use Rattle.working.proofs.visit_row.Tie as tie
 
 returns : tie.Need-returns
 returns c = (visits-none _ _ _ _ _ _ _ _ (omega arith), (late-none _ _, λ l. refl))
