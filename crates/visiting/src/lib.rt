@@ -12,7 +12,7 @@ ghost use Rattle.tilco.specs.Table.{words};
 ghost use Rattle.marking.specs.Codes.{Coded};
 ghost use Rattle.table_words.specs.Gains.{HasRow};
 ghost use Rattle.marking.specs.Moves.{WroteBefore, Sized};
-ghost use Rattle.parents.specs.Links.{Linked};
+ghost use Rattle.work_list.specs.Links.{Linked};
 ghost use Rattle.work_list.specs.Items.{Roomy};
 ghost use Rattle.visiting.specs.Visits.{Late, Visits, Notes, VisitsBy};
 

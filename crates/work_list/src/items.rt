@@ -1,13 +1,13 @@
 // The list of work: an item, a row and a word of 64 ticks, put on it, every item that rests on a word that changed, and all that it starts with.
 // The list has `stride` words for each word of ticks, one bit a row. Assumes that it has a bit for every item.
-use parents::index;
+use crate::links::index;
 use table_words::word_at;
 ghost use mathlib.Core.Path.{_≡_};
 ghost use Prim.Native.Nat.{ℕ, _+_, _*_, _/_, _<_, _≤_};
 ghost use lib.ListN.{length};
 ghost use Rattle.rows.specs.Words.{rowAt};
 ghost use Rattle.marking.specs.Codes.{Coded};
-ghost use Rattle.parents.specs.Links.{Reach, Falls, Linked};
+ghost use Rattle.work_list.specs.Links.{Reach, Falls, Linked};
 ghost use Rattle.work_list.specs.Items.{per, Roomy, Enters, OwnItem, ItemsOf, Touched, Starts, Done};
 
 // Sets row y's bit in the words of the list from place i on.

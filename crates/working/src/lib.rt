@@ -13,7 +13,7 @@ ghost use Rattle.marking.specs.Moves.{Sized};
 ghost use Rattle.work_list.specs.Items.{per, Roomy, Touched};
 ghost use Rattle.visiting.specs.Visits.{Late, Visits};
 ghost use Rattle.working.specs.Stretches.{Works, Taken, InWord};
-ghost use Rattle.parents.specs.Links.{Linked};
+ghost use Rattle.work_list.specs.Links.{Linked};
 
 // Clears bit k, which is set, of word j of the list.
 fn clear_bit(todo: &mut [u64], j: usize, k: u64)

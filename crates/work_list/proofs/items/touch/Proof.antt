@@ -3,7 +3,7 @@ use borrow.Author.Needs.{needs}
 use native.Mathlib.Omega.{arith}
 use mathlib.Core.Path.{sym, subst}
 use Prim.Native.Nat.{_*_}
-use Rattle.parents.specs.Links.{Falls}
+use Rattle.work_list.specs.Links.{Falls}
 use Rattle.work_list.proofs.Noting.{column-in, touched}
 use Rattle.work_list.proofs.items.touch.Statement.{statement}
 use Rattle.work_list.proofs.items.touch.Tie as tie

@@ -1,3 +1,0 @@
--- The laws, one idea a file.
-pub mod Children
-pub mod Linking
