@@ -31,10 +31,8 @@ fn archive() -> PathBuf {
 
 /// What the linker asks for: the archive's folder, and its name without `lib` and `.a`.
 fn folder_and_name(archive: &Path) -> (PathBuf, String) {
-    let name = archive.file_name().and_then(|name| name.to_str());
-    let Some(name) = name.and_then(|name| name.strip_prefix("lib")?.strip_suffix(".a")) else {
-        stop(&format!("{} is not named libNAME.a", archive.display()));
-    };
+    let name = archive.file_name().and_then(|name| name.to_str()?.strip_prefix("lib")?.strip_suffix(".a"));
+    let name = name.unwrap_or_else(|| stop(&format!("{} is not named libNAME.a", archive.display())));
     let file = archive.canonicalize().unwrap_or_else(|e| stop(&format!("{}: {e}", archive.display())));
     (file.parent().expect("a file is in a folder").to_path_buf(), name.to_string())
 }

@@ -122,13 +122,14 @@ fn is_rule_of_wrong_length(spot: &Spot<'_>) -> bool {
 impl fmt::Display for Explanation<'_> {
     fn fmt(&self, f: &mut fmt::Formatter<'_>) -> fmt::Result {
         let (sentence, number) = (self.sentence(), self.refusal.number());
-        let Some(spot) = &self.spot else {
-            return write!(f, "{sentence} (refusal {number})");
-        };
-        let (line, before) = spot.shown();
-        writeln!(f, "{}, line {}, column {}: {sentence} (refusal {number})", spot.text, spot.line, spot.at + 1)?;
-        writeln!(f, "    {line}")?;
-        write!(f, "    {:before$}^", "")
+        if let Some(spot) = &self.spot {
+            write!(f, "{}, line {}, column {}: ", spot.text, spot.line, spot.at + 1)?;
+        }
+        write!(f, "{sentence} (refusal {number})")?;
+        if let Some((line, before)) = self.spot.as_ref().map(Spot::shown) {
+            write!(f, "\n    {line}\n    {:before$}^", "")?;
+        }
+        Ok(())
     }
 }
 

@@ -46,20 +46,18 @@ pub fn case(seed: u64, number: u64) -> Case {
 }
 
 fn shape(sheet: &[u8]) -> Shape {
-    let made_up = Shape {
-        window: 4,
-        names: vec!["a".to_string()],
-        rows: 3,
-    };
-    let (Ok(rows), Ok(sheet)) = (check(sheet), read(sheet)) else {
-        return made_up;
-    };
     let name = |bytes: &Vec<u8>| String::from_utf8_lossy(bytes).into_owned();
-    let names = sheet.names.iter().map(name).collect();
-    Shape {
-        window: sheet.window,
-        names,
-        rows: rows as usize,
+    match (check(sheet), read(sheet)) {
+        (Ok(rows), Ok(sheet)) => Shape {
+            window: sheet.window,
+            names: sheet.names.iter().map(name).collect(),
+            rows: rows as usize,
+        },
+        _ => Shape {
+            window: 4,
+            names: vec!["a".to_string()],
+            rows: 3,
+        },
     }
 }
 

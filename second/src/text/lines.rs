@@ -28,15 +28,18 @@ impl<'a> Lines<'a> {
     /// Takes the line that starts with `key` (its `=` is part of it) and ends in LF.
     pub fn line(&mut self, key: &str) -> Result<Value<'a>, Refusal> {
         let rest = &self.text[self.next..];
-        let Some(length) = rest.iter().position(|&byte| byte == b'\n') else {
-            return refuse(self.form, self.next);
-        };
-        let Some(bytes) = rest[..length].strip_prefix(key.as_bytes()) else {
-            return refuse(self.form, self.next);
-        };
-        let place = self.next + key.len();
-        self.next += length + 1;
-        Ok(Value { bytes, place })
+        let ended = rest
+            .iter()
+            .position(|&byte| byte == b'\n')
+            .map(|length| &rest[..length]);
+        match ended.and_then(|line| line.strip_prefix(key.as_bytes())) {
+            Some(bytes) => {
+                let place = self.next + key.len();
+                self.next = place + bytes.len() + 1;
+                Ok(Value { bytes, place })
+            }
+            None => refuse(self.form, self.next),
+        }
     }
 
     /// Takes a line whose value must be written as a number; answers the number and the value's place.
@@ -77,11 +80,8 @@ fn number(bytes: &[u8]) -> Option<u64> {
 
 /// A lower-case letter, then lower-case letters or digits, 16 at most; not a reserved word.
 pub fn is_name(bytes: &[u8]) -> bool {
-    let Some((first, rest)) = bytes.split_first() else {
-        return false;
-    };
-    first.is_ascii_lowercase()
-        && rest.iter().all(|&byte| goes_on(byte))
+    matches!(bytes, [b'a'..=b'z', ..])
+        && bytes.iter().all(|&byte| goes_on(byte))
         && bytes.len() <= 16
         && bytes != b"since"
         && bytes != b"until"

@@ -29,8 +29,9 @@ fn one(lines: &mut Lines, window: usize, names: &[Vec<u8>]) -> Result<Reading, R
         return refuse(13, place);
     }
     let name = lines.line("signal=")?;
-    let Some(signal) = names.iter().position(|declared| declared == name.bytes) else {
-        return refuse(12, name.place);
+    let signal = match names.iter().position(|declared| declared == name.bytes) {
+        Some(signal) => signal,
+        None => return refuse(12, name.place),
     };
     let (value, place) = lines.number("value=")?;
     if value > 1 {

@@ -21,8 +21,9 @@ pub enum Token<'a> {
 
 /// The token at the start of `rest`, and its length in bytes.
 pub fn first(rest: &[u8]) -> (Token<'_>, usize) {
-    let Some(&byte) = rest.first() else {
-        return (Token::Stop, 0);
+    let byte = match rest.first() {
+        Some(&byte) => byte,
+        None => return (Token::Stop, 0),
     };
     match byte {
         b'a'..=b'z' => word(rest),
