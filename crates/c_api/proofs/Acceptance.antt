@@ -11,13 +11,13 @@ use Rattle.text.specs.Bytes.{pick}
 use Rattle.tilco.specs.Table.{Answer}
 use Rattle.sheet.specs.Sheet.{Contents, sheetOf, meant}
 use Rattle.sheet_opening.specs.Results.{Result, accepted, refused}
-use Rattle.reader.specs.Results.{Gain}
+use Rattle.operations.specs.Results.{Gain}
 use Rattle.sheet_opening.specs.SheetIn.{fits, sized, sheetIn, namesIn}
 use Rattle.opening.specs.Opening.{Opens}
 use Rattle.opening.specs.Opening.Opens.{both, not-the-sheet, not-the-length, not-inside}
-use Rattle.reader.specs.Operations.{counted, checked, Adds, Asks}
-use Rattle.reader.specs.Operations.Adds.{not-opened, not-read, added}
-use Rattle.reader.specs.Operations.Asks.{not-opened as not-asked, out-of-range, asked}
+use Rattle.operations.specs.Operations.{counted, checked, Adds, Asks}
+use Rattle.operations.specs.Operations.Adds.{not-opened, not-read, added}
+use Rattle.operations.specs.Operations.Asks.{not-opened as not-asked, out-of-range, asked}
 use Rattle.c_api.specs.Leaves.{Left, left, leaves, rowValues, gainValues, answerValues, CheckLeaves, AddLeaves, AskLeaves}
 use Rattle.c_api.proofs.Numbers.{Listed, Numbered, sheet-numbered, readings-numbered}
 

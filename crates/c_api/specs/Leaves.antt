@@ -6,8 +6,8 @@ use mathlib.Core.List.{List, [], _∷_}
 use Prim.Native.Nat.{ℕ}
 use Rattle.tilco.specs.Table.{Answer, Unsettled, True, False, Contradiction}
 use Rattle.sheet_opening.specs.Results.{Result, accepted, refused}
-use Rattle.reader.specs.Results.{Gain, gain}
-use Rattle.reader.specs.Operations.{checked, Adds, Asks}
+use Rattle.operations.specs.Results.{Gain, gain}
+use Rattle.operations.specs.Operations.{checked, Adds, Asks}
 
 -- The number answered, what stands at `place`, and what stands at the other places, in the order of the parameters.
 pub data Left : Type 0 where

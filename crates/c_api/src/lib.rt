@@ -1,11 +1,11 @@
 // check, add and ask for C and for languages that call C; include/mikhakun.h declares them. They assume nothing of the texts, the table and the numbers.
 // A caller lends memory of the length given behind each pointer, and no two of one call overlap.
-use reader::adding::Adding;
-use reader::adding::add;
-use reader::asking::Asking;
-use reader::asking::ask;
-use reader::checking::Checking;
-use reader::checking::check;
+use adding::Adding;
+use adding::add;
+use asking::Asking;
+use asking::ask;
+use checking::Checking;
+use checking::check;
 use table::Value;
 ghost use mathlib.Core.Path.{_≡_};
 ghost use mathlib.Core.List.{[], _∷_};

@@ -26,12 +26,12 @@ use Rattle.readings.specs.Readings.{readings}
 use Rattle.listing_signals.specs.Signals.{signalsText}
 use Rattle.listing.specs.Listing.{headText, listingText}
 use Rattle.sheet_opening.specs.Results.{Result, accepted, refused}
-use Rattle.reader.specs.Results.{gain}
+use Rattle.operations.specs.Results.{gain}
 use Rattle.sheet_opening.specs.SheetIn.{sheetIn, namesIn, blank}
 use Rattle.opening.specs.Opening.{Opens}
 use Rattle.opening.specs.Opening.Opens.{both}
-use Rattle.reader.specs.Operations.{Adds}
-use Rattle.reader.specs.Operations.Adds.{added}
+use Rattle.operations.specs.Operations.{Adds}
+use Rattle.operations.specs.Operations.Adds.{added}
 use Rattle.settling.specs.Prints.{Prints}
 use Rattle.settling.specs.Prints.Prints.{listed}
 use Rattle.settling.proofs.OneListing.{AnswersIn, prints-one}

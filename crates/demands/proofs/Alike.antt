@@ -17,7 +17,7 @@ use Rattle.sheet_head.proofs.HeadPrefix.{head-kept, head-names-kept}
 use Rattle.sheet.proofs.Shuffled.{ShuffledFrom, shuffled, shuffled-meant}
 use Rattle.sheet_opening.specs.Results.{accepted}
 use Rattle.sheet_opening.specs.SheetIn.{sheetIn, namesIn}
-use Rattle.reader.specs.Operations.{counted, checked}
+use Rattle.operations.specs.Operations.{counted, checked}
 use Rattle.sheet_opening.proofs.Sheets.{in-fits}
 use Rattle.opening.proofs.Tables.{InSheet, in-sheet}
 use Rattle.demands.specs.Shuffles.{Parted}

@@ -16,13 +16,13 @@ use Rattle.tilco.specs.Table.{words, Stands, Standing, tableWords, factsOf, Ans
 use Rattle.sheet.specs.Sheet.{Contents, meant}
 use Rattle.readings.specs.Readings.{readings}
 use Rattle.sheet_opening.specs.Results.{Result, accepted, refused}
-use Rattle.reader.specs.Results.{Gain, gain}
+use Rattle.operations.specs.Results.{Gain, gain}
 use Rattle.sheet_opening.specs.SheetIn.{sheetIn, namesIn}
 use Rattle.opening.specs.Opening.{Opens}
 use Rattle.opening.specs.Opening.Opens.{both, not-the-sheet, not-the-length, not-inside}
-use Rattle.reader.specs.Operations.{Adds, Asks}
-use Rattle.reader.specs.Operations.Adds.{not-opened, not-read, added}
-use Rattle.reader.specs.Operations.Asks.{not-opened as not-asked, out-of-range, asked}
+use Rattle.operations.specs.Operations.{Adds, Asks}
+use Rattle.operations.specs.Operations.Adds.{not-opened, not-read, added}
+use Rattle.operations.specs.Operations.Asks.{not-opened as not-asked, out-of-range, asked}
 use Rattle.demands.specs.Runs.{RunTexts}
 use Rattle.demands.specs.Runs.RunTexts.{done, call}
 use Rattle.demands.proofs.Deciding.{stands-told, inside-told, clash-told}

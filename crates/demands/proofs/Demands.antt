@@ -17,14 +17,14 @@ use Rattle.tilco.specs.Calls.{Some}
 use Rattle.sheet.specs.Sheet.{Contents, meant, sheetText}
 use Rattle.readings.specs.Readings.{readings}
 use Rattle.sheet_opening.specs.Results.{Result, accepted, refused}
-use Rattle.reader.specs.Results.{Gain, gain}
+use Rattle.operations.specs.Results.{Gain, gain}
 use Rattle.sheet_opening.specs.SheetIn.{sheetIn, namesIn, blank}
-use Rattle.reader.specs.Operations.{checked, Adds, Asks}
-use Rattle.reader.specs.Operations.Adds.{added}
+use Rattle.operations.specs.Operations.{checked, Adds, Asks}
+use Rattle.operations.specs.Operations.Adds.{added}
 use Rattle.demands.specs.Refusals.{SheetRefused, AddRefused, AskRefused}
 use Rattle.demands.specs.Runs.{FromBlank, calls, marksIn, newIn, acceptedOf}
 use Rattle.demands.specs.Shuffles.{Parted, InParts, SaidAlike}
-use Rattle.reader.proofs.Determined.{opens-sheet, adds-one, asks-one}
+use Rattle.operations.proofs.Determined.{opens-sheet, adds-one, asks-one}
 use Rattle.demands.proofs.Refusals.{check-refusals, add-refusals, ask-refusals}
 use Rattle.demands.proofs.Answered.{add-some, ask-some, run-some}
 use Rattle.demands.proofs.LastTable.{last-exactly, news-add-up, by-marks, by-texts, by-bytes}

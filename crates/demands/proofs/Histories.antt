@@ -12,11 +12,11 @@ use Rattle.tilco.specs.Table.{Standing, tableWords, Reading, Agrees, Answer, Tr
 use Rattle.tilco.proofs.Demand3.{values-hold, clash-has-no-history}
 use Rattle.sheet.specs.Sheet.{Contents, meant}
 use Rattle.sheet_opening.specs.Results.{Result, accepted}
-use Rattle.reader.specs.Results.{Gain, gain}
-use Rattle.reader.specs.Operations.{Asks}
-use Rattle.reader.specs.Operations.Asks.{asked}
+use Rattle.operations.specs.Results.{Gain, gain}
+use Rattle.operations.specs.Operations.{Asks}
+use Rattle.operations.specs.Operations.Asks.{asked}
 use Rattle.demands.specs.Runs.{FromBlank, marksIn}
-use Rattle.reader.proofs.Determined.{opens-same}
+use Rattle.operations.proofs.Determined.{opens-same}
 use Rattle.demands.proofs.Runs.{all-declared, all-within, blank-opens, clash-stays}
 use Rattle.demands.proofs.LastTable.{as-run}
 

@@ -24,15 +24,15 @@ use Rattle.sheet.specs.Sheet.{ruleTo, ruleLine, rules, Contents, contents, shee
 use Rattle.one_reading.specs.OneReading.{knownLine, reading}
 use Rattle.readings.specs.Readings.{readings}
 use Rattle.sheet_opening.specs.Results.{Result, accepted, refused}
-use Rattle.reader.specs.Results.{Gain, gain}
+use Rattle.operations.specs.Results.{Gain, gain}
 use Rattle.sheet_opening.specs.SheetIn.{sheetIn, namesIn, blank}
 use Rattle.opening.specs.Opening.{Opens}
-use Rattle.reader.specs.Operations.{counted, checked, Adds, Asks}
-use Rattle.reader.specs.Operations.Asks.{asked}
+use Rattle.operations.specs.Operations.{counted, checked, Adds, Asks}
+use Rattle.operations.specs.Operations.Asks.{asked}
 use Rattle.sheet_opening.proofs.Sheets.{in-fits}
 use Rattle.opening.proofs.Tables.{accepted-refused}
 use Rattle.demands.specs.Runs.{FromBlank, newIn}
-use Rattle.reader.proofs.Determined.{opens-same}
+use Rattle.operations.proofs.Determined.{opens-same}
 use Rattle.demands.proofs.Runs.{Step, unchanged, changed, step-of, step-opens, blank-opens}
 use Rattle.demands.proofs.LastTable.{news-add-up}
 

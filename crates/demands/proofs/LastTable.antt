@@ -11,7 +11,7 @@ use Rattle.tilco.specs.Calls.{Some}
 use Rattle.tilco.proofs.Demand3.{table-only, table-every, reports-add-up, cuts-change-nothing}
 use Rattle.sheet.specs.Sheet.{Contents, meant}
 use Rattle.sheet_opening.specs.Results.{Result}
-use Rattle.reader.specs.Results.{Gain}
+use Rattle.operations.specs.Results.{Gain}
 use Rattle.demands.specs.Runs.{FromBlank, calls, marksIn, newIn, acceptedOf}
 use Rattle.demands.proofs.Runs.{AsCalls, as-calls, window-some, blank-opens, run-none, some-told}
 use Rattle.sheet_opening.specs.SheetIn.{blank}

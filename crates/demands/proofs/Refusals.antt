@@ -22,9 +22,9 @@ use Rattle.sheet_opening.specs.Results.{Result, accepted, refused}
 use Rattle.sheet_opening.specs.SheetIn.{fits, sized, sheetIn}
 use Rattle.opening.specs.Opening.{Opens}
 use Rattle.opening.specs.Opening.Opens.{both, not-the-sheet, not-the-length, not-inside}
-use Rattle.reader.specs.Operations.{counted, checked, Adds, Asks}
-use Rattle.reader.specs.Operations.Adds.{not-opened, not-read}
-use Rattle.reader.specs.Operations.Asks.{not-opened as not-asked, out-of-range}
+use Rattle.operations.specs.Operations.{counted, checked, Adds, Asks}
+use Rattle.operations.specs.Operations.Adds.{not-opened, not-read}
+use Rattle.operations.specs.Operations.Asks.{not-opened as not-asked, out-of-range}
 use Rattle.opening.proofs.Tables.{accepted-refused}
 use Rattle.sheet_opening.proofs.Sheets.{in-refused, in-over}
 use Rattle.demands.specs.Refusals.{SheetRefused, TableRefused, TakenUp, AddRefused, AskRefused}
@@ -32,7 +32,7 @@ use Rattle.demands.specs.Refusals.SheetRefused.{one-to-eight, nine}
 use Rattle.demands.specs.Refusals.TableRefused.{of-the-sheet, fifteen, sixteen}
 use Rattle.demands.specs.Refusals.AddRefused.{up-to-sixteen, ten-to-fourteen}
 use Rattle.demands.specs.Refusals.AskRefused.{up-to-sixteen as up-to-the-table, seventeen}
-use Rattle.reader.proofs.Determined.{refused-alike}
+use Rattle.operations.proofs.Determined.{refused-alike}
 use Rattle.demands.proofs.Deciding.{inside-told}
 
 -- ---- the sheet

@@ -24,16 +24,16 @@ use Rattle.sheet.proofs.Accepted.{sheet-declared}
 use Rattle.readings.specs.Readings.{readings}
 use Rattle.readings.proofs.Bounds.{readings-of-sheet}
 use Rattle.sheet_opening.specs.Results.{Result, accepted, refused}
-use Rattle.reader.specs.Results.{Gain, gain}
+use Rattle.operations.specs.Results.{Gain, gain}
 use Rattle.sheet_opening.specs.SheetIn.{sheetIn, namesIn, blank}
 use Rattle.opening.specs.Opening.{Opens}
 use Rattle.opening.specs.Opening.Opens.{both}
-use Rattle.reader.specs.Operations.{Adds}
-use Rattle.reader.specs.Operations.Adds.{not-opened, not-read, added}
+use Rattle.operations.specs.Operations.{Adds}
+use Rattle.operations.specs.Operations.Adds.{not-opened, not-read, added}
 use Rattle.opening.proofs.Tables.{in-sheet}
 use Rattle.demands.specs.Runs.{RunTexts, callOf, calls, marksIn, newIn}
 use Rattle.demands.specs.Runs.RunTexts.{done, call}
-use Rattle.reader.proofs.Determined.{opens-same, opens-or-not}
+use Rattle.operations.proofs.Determined.{opens-same, opens-or-not}
 
 -- ---- one call
 

@@ -20,15 +20,15 @@ use Rattle.tilco.proofs.Demand3.{SameSettled, shuffle-changes-nothing}
 use Rattle.sheet.specs.Sheet.{Contents, meant}
 use Rattle.readings.specs.Readings.{readings}
 use Rattle.sheet_opening.specs.Results.{Result, accepted}
-use Rattle.reader.specs.Results.{Gain}
+use Rattle.operations.specs.Results.{Gain}
 use Rattle.sheet_opening.specs.SheetIn.{namesIn, blank}
 use Rattle.opening.specs.Opening.{Opens}
-use Rattle.reader.specs.Operations.{Asks}
-use Rattle.reader.specs.Operations.Asks.{not-opened, out-of-range, asked}
+use Rattle.operations.specs.Operations.{Asks}
+use Rattle.operations.specs.Operations.Asks.{not-opened, out-of-range, asked}
 use Rattle.demands.specs.Runs.{RunTexts}
 use Rattle.demands.specs.Runs.RunTexts.{done, call}
 use Rattle.demands.specs.Shuffles.{SaidAlike}
-use Rattle.reader.proofs.Determined.{unread-alike, opens-same, opens-or-not, told-one}
+use Rattle.operations.proofs.Determined.{unread-alike, opens-same, opens-or-not, told-one}
 use Rattle.demands.proofs.Alike.{Alike, alike-back}
 use Rattle.demands.proofs.Runs.{Step, unchanged, changed, step-of, step-opens, window-some, all-declared, marks-within, blank-opens, as-calls, run-none, some-told}
 

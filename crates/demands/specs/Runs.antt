@@ -11,9 +11,9 @@ use Rattle.tilco.specs.Calls as tilco
 use Rattle.sheet.specs.Sheet.{Contents}
 use Rattle.readings.specs.Readings.{readings}
 use Rattle.sheet_opening.specs.Results.{Result, accepted, refused}
-use Rattle.reader.specs.Results.{Gain, gain}
+use Rattle.operations.specs.Results.{Gain, gain}
 use Rattle.sheet_opening.specs.SheetIn.{sheetIn, namesIn, blank}
-use Rattle.reader.specs.Operations.{Adds}
+use Rattle.operations.specs.Operations.{Adds}
 
 -- Calls of add with these readings texts lead from the table T to the table U, and these are their answers.
 pub data RunTexts (s : List ℕ) : List ℕ → List (List ℕ) → List ℕ → List (Result Gain) → Type 0 where

@@ -12,9 +12,9 @@ use Rattle.tilco.specs.Table.{Standing, factsOf, Answer}
 use Rattle.sheet_head.specs.SheetHead.{Head, head}
 use Rattle.sheet.specs.Sheet.{Contents, meant, sheetText}
 use Rattle.sheet_opening.specs.Results.{Result}
-use Rattle.reader.specs.Results.{Gain}
+use Rattle.operations.specs.Results.{Gain}
 use Rattle.text.specs.Bytes.{InLine}
-use Rattle.reader.specs.Operations.{Asks}
+use Rattle.operations.specs.Operations.{Asks}
 
 -- h is the text of a head, to its end, and it counts the rules with these texts, each of which is within its line.
 pub record Parted (h : List ℕ) (bodies : List (List ℕ)) : Type 0 where

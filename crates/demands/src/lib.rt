@@ -1,1 +1,1 @@
-// The three demands over the contracts of the reader's public operations: definitions in specs/, theorems in proofs/, and no function.
+// The three demands over the contracts of the public operations: definitions in specs/, theorems in proofs/, and no function.

@@ -1,14 +1,14 @@
 // Runs check, add and ask on a table of cases and prints each case with its answer. Assumes nothing of the cases, which are on standard input.
 // A heading says what is run, then what it shows: `=== sheet` with the sheet for what follows; `=== table N` with the table for what follows,
 // of N words, all 0 but those of its lines `I W`; `=== check`; `=== add` with the readings; `=== ask X T`.
+use adding::Adding;
+use adding::add;
+use asking::Asking;
+use asking::ask;
+use checking::Checking;
+use checking::check;
 use libc::STDIN_FILENO;
 use names::word_end;
-use reader::adding::Adding;
-use reader::adding::add;
-use reader::asking::Asking;
-use reader::asking::ask;
-use reader::checking::Checking;
-use reader::checking::check;
 use run_cases::heading;
 use run_cases::next_line;
 use run_cases::print;

@@ -1,8 +1,8 @@
 // Runs the readers on a table of cases and prints each text with its answer. Assumes nothing of the cases, which are on standard input.
 // A text stands under a heading: `=== sheet` or `=== readings`, then what it shows. Readings are read against the sheet before them.
+use checking::Checking;
+use checking::check;
 use libc::STDIN_FILENO;
-use reader::checking::Checking;
-use reader::checking::check;
 use readings::whole::Outcome;
 use readings::whole::take_readings;
 use run_cases::heading;

@@ -12,11 +12,11 @@ use Rattle.tilco.specs.Table.{Standing, factsOf, Answer}
 use Rattle.tilco.proofs.Demand1.{asked-one}
 use Rattle.sheet.specs.Sheet.{Contents, meant}
 use Rattle.sheet_opening.specs.Results.{Result, accepted, refused}
-use Rattle.reader.specs.Results.{Gain, gain}
+use Rattle.operations.specs.Results.{Gain, gain}
 use Rattle.sheet_opening.specs.SheetIn.{sheetIn, namesIn, blank}
-use Rattle.reader.specs.Operations.{Adds}
+use Rattle.operations.specs.Operations.{Adds}
 use Rattle.opening.proofs.Tables.{accepted-one, accepted-refused}
-use Rattle.reader.proofs.Determined.{adds-one}
+use Rattle.operations.proofs.Determined.{adds-one}
 use Rattle.listing_signals.specs.Signals.{signByte, signs, signalText, signalsText, Answers}
 use Rattle.listing.specs.Listing.{headText, listingText, refusalText}
 use Rattle.settling.specs.Prints.{Prints}

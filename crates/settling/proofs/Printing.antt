@@ -21,16 +21,17 @@ use Rattle.sheet.proofs.Wholes.{sheet-head}
 use Rattle.sheet_head.proofs.ShortNames.{head-names-short}
 use Rattle.writing.specs.Writes.{Wrote}
 use Rattle.writing.specs.declared.Next.{Next}
-use Rattle.reader.specs.declared.adding.Adding.{Adding}
-use Rattle.reader.specs.declared.adding.Adding.the-variants as adding
+use Rattle.adding.specs.declared.Adding.{Adding}
+use Rattle.adding.specs.declared.Adding.the-variants as adding
 use Rattle.sheet_opening.specs.Results.{accepted, refused}
-use Rattle.reader.specs.Results.{gain, addingSays}
+use Rattle.operations.specs.Results.{gain}
+use Rattle.adding.specs.Results.{addingSays}
 use Rattle.sheet_opening.specs.SheetIn.{sheetIn, namesIn, blank}
 use Rattle.sheet_opening.specs.Ready.{Ready}
-use Rattle.reader.specs.Operations.{Adds}
-use Rattle.reader.specs.Operations.Adds.{added}
+use Rattle.operations.specs.Operations.{Adds}
+use Rattle.operations.specs.Operations.Adds.{added}
 use Rattle.opening.proofs.Tables.{accepted-one, InSheet, in-sheet, one-word}
-use Rattle.reader.proofs.Outcomes.{fitting}
+use Rattle.operations.proofs.Opened.{fitting}
 use Rattle.listing_signals.specs.Signals.{Listable, Answers}
 use Rattle.listing.specs.Listing.{listingText, refusalText}
 use Rattle.settling.specs.Prints.{Prints, Printed, lengthOf, PrintedWhole, Begun}

@@ -13,9 +13,9 @@ use Rattle.writing.specs.Writes.{Wrote}
 use Rattle.writing.specs.declared.Next.{Next}
 use Rattle.writing.specs.declared.Next.the-variants.{Place, Full}
 use Rattle.sheet_opening.specs.Results.{accepted, refused}
-use Rattle.reader.specs.Results.{gain}
+use Rattle.operations.specs.Results.{gain}
 use Rattle.sheet_opening.specs.SheetIn.{sheetIn, namesIn, blank}
-use Rattle.reader.specs.Operations.{Adds}
+use Rattle.operations.specs.Operations.{Adds}
 use Rattle.listing_signals.specs.Signals.{Answers}
 use Rattle.listing.specs.Listing.{listingText, refusalText}
 

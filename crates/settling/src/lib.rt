@@ -1,8 +1,8 @@
 // One add to an empty table, and its listing. Assumes nothing.
+use adding::Adding;
+use adding::add;
 use listing::whole::write_listing;
 use listing::whole::write_refusal;
-use reader::adding::Adding;
-use reader::adding::add;
 use sheet_opening::Opening;
 use sheet_opening::open_sheet;
 use table::words_of;

@@ -2,8 +2,9 @@
 use mathlib.Core.Path.{refl, ap, subst}
 use denote.Ref.{now}
 use Rattle.sheet_opening.specs.Results.{accepted, refused}
-use Rattle.reader.specs.Results.{gain, addingSays}
-use Rattle.reader.specs.Operations.{Adds}
+use Rattle.operations.specs.Results.{gain}
+use Rattle.adding.specs.Results.{addingSays}
+use Rattle.operations.specs.Operations.{Adds}
 use Rattle.c_api.specs.Leaves.{left}
 use Rattle.c_api.proofs.Written.{gain-written}
 use borrow.Author.Needs.{needs}

@@ -3,8 +3,8 @@ use mathlib.Core.Path.{refl, ap, subst}
 use denote.Ref.{now}
 use Rattle.table.specs.Values.{valueSays}
 use Rattle.sheet_opening.specs.Results.{accepted, refused}
-use Rattle.reader.specs.Results.{askingSays}
-use Rattle.reader.specs.Operations.{Asks}
+use Rattle.asking.specs.Results.{askingSays}
+use Rattle.operations.specs.Operations.{Asks}
 use Rattle.c_api.specs.Leaves.{left}
 use borrow.Author.Needs.{needs}
 use Rattle.c_api.proofs.mikhakun_ask.Statement.{statement}

@@ -3,7 +3,7 @@ use native.Mathlib.Omega.{arith}
 use mathlib.Core.Path.{refl}
 use lib.ListN.{length-take}
 use Rattle.opening.proofs.Tables.{when-ready}
-use Rattle.reader.proofs.Outcomes.{no-rows}
+use Rattle.operations.proofs.Opened.{no-rows}
 use Rattle.closing_runs.proofs.Preparing.{prepared}
 use borrow.Author.Needs.{needs}
 use Rattle.closing_runs.proofs.run_texts.Statement.{statement}

@@ -3,7 +3,7 @@ use native.Mathlib.Omega.{arith}
 use mathlib.Core.Path.{refl}
 use lib.ListN.{length-take}
 use Rattle.opening.proofs.Tables.{when-ready, when-refused}
-use Rattle.reader.proofs.Outcomes.{no-rows}
+use Rattle.operations.proofs.Opened.{no-rows}
 use Rattle.settling.proofs.Printing.{take-empty, take-empty-length, words-most, begun, prints-no-sheet}
 use borrow.Author.Needs.{needs}
 use Rattle.settling.proofs.settle_into.Statement.{statement}

@@ -3,7 +3,7 @@ use native.Mathlib.Omega.{arith}
 use mathlib.Core.Path.{refl, sym}
 use lib.ListN.{length-take}
 use Rattle.opening.proofs.Tables.{when-hand, one-word}
-use Rattle.reader.proofs.Outcomes.{no-rows, some-window, signals-few, signals-fit}
+use Rattle.operations.proofs.Opened.{no-rows, some-window, signals-few, signals-fit}
 use borrow.Author.Needs.{needs}
 use Rattle.bench_runs.proofs.taking.take.Statement.{statement}
 use Rattle.bench_runs.proofs.taking.take.Tie as tie

@@ -1,0 +1,1 @@
+// What check, add and ask answer and leave in the lent table: definitions in specs/, theorems in proofs/, and no function.

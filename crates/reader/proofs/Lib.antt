@@ -1,3 +1,0 @@
--- The laws, one idea a file, in the order in which they build on each other.
-pub mod Outcomes
-pub mod Determined
