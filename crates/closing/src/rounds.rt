@@ -1,7 +1,7 @@
 // Closes a table: items of the list are visited, word of ticks by word of ticks, until a round over all of them changes nothing.
 // Assumes that the words are a program's rows, that the table has them, and that no mark is outside the window.
-use work_list::items::start;
-use work_list::links::link_rows;
+use parents::link_rows;
+use work_list::start;
 use working::work_word;
 ghost use mathlib.Core.Path.{_≡_};
 ghost use Prim.Native.Nat.{_+_, _-_, _/_, _<_};
@@ -11,7 +11,7 @@ ghost use Rattle.marking.specs.Moves.{Sized};
 ghost use Rattle.closing.specs.Closes.{ClosesAll};
 ghost use Rattle.work_list.specs.Items.{Roomy, Done};
 ghost use Rattle.working.specs.Stretches.{Works, InColumn, AnyItem, turn};
-ghost use Rattle.work_list.specs.Links.{Linked};
+ghost use Rattle.parents.specs.Links.{Linked};
 
 // The i-th of m words from below or, if not `up`, from above.
 fn turned(up: bool, m: usize, i: usize) -> usize

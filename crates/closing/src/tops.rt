@@ -1,8 +1,8 @@
 // The tops marked, and the table closed after them. Assumes of the table what closing it assumes, and that each top is a row.
 use crate::rounds::close;
+use parents::index;
 use table_words::add_word;
 use table_words::window_word;
-use work_list::links::index;
 ghost use mathlib.Core.Path.{_≡_};
 ghost use Prim.Native.Nat.{ℕ, _<_, _≤_};
 ghost use lib.ListN.{length, getD};

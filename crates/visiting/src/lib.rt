@@ -4,7 +4,7 @@
 use marking::steps::gate_step;
 use marking::steps::look_step;
 use marking::steps::not_step;
-use work_list::items::touch;
+use work_list::touch;
 ghost use mathlib.Core.Path.{_≡_};
 ghost use Prim.Native.Nat.{ℕ, _+_, _<_, _≤_};
 ghost use Rattle.tilco.specs.Inference.{notOf, gate, look};
@@ -12,7 +12,7 @@ ghost use Rattle.tilco.specs.Table.{words};
 ghost use Rattle.marking.specs.Codes.{Coded};
 ghost use Rattle.table_words.specs.Gains.{HasRow};
 ghost use Rattle.marking.specs.Moves.{WroteBefore, Sized};
-ghost use Rattle.work_list.specs.Links.{Linked};
+ghost use Rattle.parents.specs.Links.{Linked};
 ghost use Rattle.work_list.specs.Items.{Roomy};
 ghost use Rattle.visiting.specs.Visits.{Late, Visits, Notes, VisitsBy};
 

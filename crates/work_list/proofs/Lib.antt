@@ -1,5 +1,4 @@
 -- The laws, one idea a file, in the order in which they build on each other.
-pub mod Linking
 pub mod ByKind
 pub mod Noting
 pub mod Starting

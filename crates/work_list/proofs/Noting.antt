@@ -16,8 +16,8 @@ use Rattle.ticks.proofs.Shifts.{one-has}
 use Rattle.table.proofs.Marks.{one-word}
 use Rattle.rows.specs.Words.{rowAt}
 use Rattle.work_list.specs.Items.{per, Bit, Roomy, Enters, OwnItem, ItemsOf, Touched}
-use Rattle.work_list.specs.Links.{Reach, Falls, Linked}
-use Rattle.work_list.proofs.Linking.{reach-next, reach-end, falls-next}
+use Rattle.parents.specs.Links.{Reach, Falls, Linked}
+use Rattle.parents.proofs.Linking.{reach-next, reach-end, falls-next}
 use Rattle.work_list.proofs.ByKind.{rests-split}
 
 -- A list of the same length has as much room.

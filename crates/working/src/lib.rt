@@ -2,7 +2,7 @@
 // Assumes that the words are a program's rows, that the table has them, and that no mark is outside the window.
 use visiting::Outcome;
 use visiting::visit;
-use work_list::items::touch;
+use work_list::touch;
 ghost use mathlib.Core.Path.{_≡_};
 ghost use Prim.Native.Nat.{_+_, _-_, _*_, _/_, _^_, _<_, _≤_};
 ghost use lib.ListN.{length, getD, set};
@@ -13,7 +13,7 @@ ghost use Rattle.marking.specs.Moves.{Sized};
 ghost use Rattle.work_list.specs.Items.{per, Roomy, Touched};
 ghost use Rattle.visiting.specs.Visits.{Late, Visits};
 ghost use Rattle.working.specs.Stretches.{Works, Taken, InWord};
-ghost use Rattle.work_list.specs.Links.{Linked};
+ghost use Rattle.parents.specs.Links.{Linked};
 
 // Clears bit k, which is set, of word j of the list.
 fn clear_bit(todo: &mut [u64], j: usize, k: u64)

@@ -1,7 +1,7 @@
 -- `close` meets its contract. Assumes nothing.
 use borrow.Author.Needs.{needs}
 use native.Mathlib.Omega.{arith}
-use Rattle.work_list.proofs.Linking.{no-lists}
+use Rattle.parents.proofs.Linking.{no-lists}
 use Rattle.work_list.proofs.Noting.{roomy-as}
 use Rattle.closing.proofs.rounds.close.Statement.{statement}
 use Rattle.closing.proofs.rounds.close.Tie as tie

@@ -2,8 +2,8 @@
 use native.Mathlib.Omega.{arith}
 use borrow.Author.Needs.{needs}
 use Rattle.work_list.proofs.Noting.{Walking, walk-start, walk-more, walk-edge, walk-end}
-use Rattle.work_list.proofs.items.enter_parents.Statement.{statement}
-use Rattle.work_list.proofs.items.enter_parents.Tie as tie
+use Rattle.work_list.proofs.enter_parents.Statement.{statement}
+use Rattle.work_list.proofs.enter_parents.Tie as tie
 
 abbrev Inv-loop : tie.InvT-loop
 Inv-loop count head nexts todo₀ i h₀ todo h = Walking nexts count head h i todo₀ todo

@@ -7,8 +7,8 @@ use lib.Bits.{bitOr}
 use Rattle.work_list.specs.Items.{Starts}
 use Rattle.work_list.proofs.Starting.{starts-none, starts-touched, starts-bare, starts-row, starts-as, row-in}
 use Rattle.work_list.proofs.Noting.{roomy-as}
-use Rattle.work_list.proofs.items.start_column.Statement.{statement}
-use Rattle.work_list.proofs.items.start_column.Tie as tie
+use Rattle.work_list.proofs.start_column.Statement.{statement}
+use Rattle.work_list.proofs.start_column.Tie as tie
 
 abbrev Inv-loop : tie.InvT-loop
 Inv-loop rows count n q heads nexts todo₀ marks x₀ todo x = (x ≤ count) × Starts count rows n (λ y p. (y < x) × (p ≡ q)) marks todo₀ todo

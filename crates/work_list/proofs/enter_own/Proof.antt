@@ -3,8 +3,8 @@ use borrow.Author.Needs.{needs}
 use native.Mathlib.Omega.{arith}
 use Rattle.work_list.proofs.Noting.{column-in, words-few, enters-none, enters-own, enters-two}
 use Rattle.work_list.proofs.ByKind.{offset-below, row-own-none, row-own-look, row-own-here}
-use Rattle.work_list.proofs.items.enter_own.Statement.{statement}
-use Rattle.work_list.proofs.items.enter_own.Tie as tie
+use Rattle.work_list.proofs.enter_own.Statement.{statement}
+use Rattle.work_list.proofs.enter_own.Tie as tie
 
 mul-w : tie.Need-mul-w
 mul-w c = search needs

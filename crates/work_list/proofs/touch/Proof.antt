@@ -3,10 +3,10 @@ use borrow.Author.Needs.{needs}
 use native.Mathlib.Omega.{arith}
 use mathlib.Core.Path.{sym, subst}
 use Prim.Native.Nat.{_*_}
-use Rattle.work_list.specs.Links.{Falls}
+use Rattle.parents.specs.Links.{Falls}
 use Rattle.work_list.proofs.Noting.{column-in, touched}
-use Rattle.work_list.proofs.items.touch.Statement.{statement}
-use Rattle.work_list.proofs.items.touch.Tie as tie
+use Rattle.work_list.proofs.touch.Statement.{statement}
+use Rattle.work_list.proofs.touch.Tie as tie
 
 enter-own-requires : tie.Need-enter-own-requires
 enter-own-requires c κs = search needs

@@ -4,8 +4,8 @@ use Prim.Native.Nat.{_-_, _≤_, _<_}
 use Rattle.work_list.specs.Items.{Starts}
 use Rattle.work_list.proofs.Noting.{roomy-as}
 use Rattle.work_list.proofs.Starting.{starts-none, starts-column, starts-as, starts-done}
-use Rattle.work_list.proofs.items.start.Statement.{statement}
-use Rattle.work_list.proofs.items.start.Tie as tie
+use Rattle.work_list.proofs.start.Statement.{statement}
+use Rattle.work_list.proofs.start.Tie as tie
 
 abbrev Inv-loop : tie.InvT-loop
 Inv-loop rows count n heads nexts todo₀ marks q₀ todo q = (q ≤ n) × Starts count rows n (λ x p. (x < count) × (p < q)) marks todo₀ todo

@@ -4,8 +4,8 @@ use native.Mathlib.Omega.{arith}
 use mathlib.Core.Path.{ap, _∙_}
 use Prim.Native.Nat.{ℕ, _-_, _*_}
 use Rattle.work_list.proofs.Noting.{column-in, enters-as}
-use Rattle.work_list.proofs.items.enter_before.Statement.{statement}
-use Rattle.work_list.proofs.items.enter_before.Tie as tie
+use Rattle.work_list.proofs.enter_before.Statement.{statement}
+use Rattle.work_list.proofs.enter_before.Tie as tie
 
 returns : tie.Need-returns
 returns c = search needs

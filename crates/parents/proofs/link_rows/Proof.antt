@@ -3,10 +3,10 @@ use native.Mathlib.Omega.{arith}
 use mathlib.Core.Path.{_≡_, refl, subst}
 use Prim.Native.Nat.{_-_, _≤_}
 use lib.ListN.{length}
-use Rattle.work_list.specs.Links.{LinkedTo}
-use Rattle.work_list.proofs.Linking.{linked-none}
-use Rattle.work_list.proofs.links.link_rows.Statement.{statement}
-use Rattle.work_list.proofs.links.link_rows.Tie as tie
+use Rattle.parents.specs.Links.{LinkedTo}
+use Rattle.parents.proofs.Linking.{linked-none}
+use Rattle.parents.proofs.link_rows.Statement.{statement}
+use Rattle.parents.proofs.link_rows.Tie as tie
 
 abbrev Inv-loop : tie.InvT-loop
 Inv-loop rows count heads₀ nexts₀ r₀ heads nexts r = (r ≤ count) × (length heads ≡ length heads₀) × (length nexts ≡ length nexts₀) × LinkedTo count rows heads nexts r

@@ -11,7 +11,7 @@ use lib.ListN.{length, getD, set, replicate, length-set}
 use lib.Seq.{getD-set-same, getD-set-other}
 use Rattle.ticks.proofs.Bits.{lt-or-ge}
 use Rattle.rows.specs.Words.{rowAt}
-use Rattle.work_list.specs.Links.{Child, Reach, here, later, Falls, ends, goes, LinkedTo}
+use Rattle.parents.specs.Links.{Child, Reach, here, later, Falls, ends, goes, LinkedTo}
 
 -- ---- along a list
 

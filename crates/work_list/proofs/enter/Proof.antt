@@ -1,8 +1,8 @@
 -- `enter` meets its contract. Assumes nothing.
 use borrow.Author.Needs.{needs}
 use Rattle.work_list.proofs.Noting.{enters-one}
-use Rattle.work_list.proofs.items.enter.Statement.{statement}
-use Rattle.work_list.proofs.items.enter.Tie as tie
+use Rattle.work_list.proofs.enter.Statement.{statement}
+use Rattle.work_list.proofs.enter.Tie as tie
 
 add-j : tie.Need-add-j
 add-j c = search needs

@@ -1,10 +1,10 @@
 -- `link_row` meets its contract. Assumes nothing.
 use borrow.Author.Needs.{needs}
 use native.Mathlib.Omega.{arith}
-use Rattle.work_list.proofs.Linking.{link-none, link-one, link-two}
-use Rattle.work_list.proofs.ByKind.{left-below, right-below, row-no-child, row-one-child, row-two-children}
-use Rattle.work_list.proofs.links.link_row.Statement.{statement}
-use Rattle.work_list.proofs.links.link_row.Tie as tie
+use Rattle.parents.proofs.Linking.{link-none, link-one, link-two}
+use Rattle.parents.proofs.Children.{left-below, right-below, row-no-child, row-one-child, row-two-children}
+use Rattle.parents.proofs.link_row.Statement.{statement}
+use Rattle.parents.proofs.link_row.Tie as tie
 
 mul-w : tie.Need-mul-w
 mul-w c = search needs

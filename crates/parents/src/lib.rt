@@ -5,7 +5,7 @@ ghost use mathlib.Core.Path.{_≡_};
 ghost use Prim.Native.Nat.{ℕ, _+_, _*_, _<_, _≤_};
 ghost use lib.ListN.{length, getD, set};
 ghost use Rattle.marking.specs.Codes.{Coded};
-ghost use Rattle.work_list.specs.Links.{LinkedTo, Linked};
+ghost use Rattle.parents.specs.Links.{LinkedTo, Linked};
 
 // A stored number as a place.
 pub fn index(number: u16) -> usize

@@ -1,0 +1,3 @@
+-- The laws, one idea a file.
+pub mod Children
+pub mod Linking
