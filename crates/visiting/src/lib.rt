@@ -1,9 +1,9 @@
 // A visit to an item of work: the rules of a row at a word of ticks, and every item that rests on a word that they changed put on the list.
 // What a look changed in its child's word is left to the caller, who notes once what several looks at one child changed.
 // Assumes that the words are a program's rows, that the lists of parents are theirs, and that the table and the list of work have them.
-use marking::steps::gate_step;
-use marking::steps::look_step;
-use marking::steps::not_step;
+use gate_steps::gate_step;
+use gate_steps::not_step;
+use look_steps::look_step;
 use work_list::touch;
 ghost use mathlib.Core.Path.{_≡_};
 ghost use Prim.Native.Nat.{ℕ, _+_, _<_, _≤_};

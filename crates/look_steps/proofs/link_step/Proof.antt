@@ -1,9 +1,9 @@
 -- `link_step` meets its contract. Assumes nothing.
 use borrow.Author.Needs.{needs}
 use native.Mathlib.Omega.{arith}
 use Rattle.marking.proofs.RowRules.{link-steps}
-use Rattle.marking.proofs.steps.link_step.Statement.{statement}
-use Rattle.marking.proofs.steps.link_step.Tie as tie
+use Rattle.look_steps.proofs.link_step.Statement.{statement}
+use Rattle.look_steps.proofs.link_step.Tie as tie
 
 words-at-requires : tie.Need-words-at-requires
 words-at-requires c κs = search needs

@@ -2,10 +2,10 @@
 use borrow.Author.Needs.{needs}
 use native.Mathlib.Omega.{arith}
 use Prim.Native.Nat.{_+_, _-_, _/_}
 use Rattle.marking.proofs.RowRules.{after-steps, no-steps}
 use Rattle.marking.proofs.Decoding.{word-in-window, words-cover}
-use Rattle.marking.proofs.steps.look_after.Statement.{statement}
-use Rattle.marking.proofs.steps.look_after.Tie as tie
+use Rattle.look_steps.proofs.look_after.Statement.{statement}
+use Rattle.look_steps.proofs.look_after.Tie as tie
 
 add-next : tie.Need-add-next
 add-next c = search needs

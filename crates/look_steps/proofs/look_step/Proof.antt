@@ -1,9 +1,9 @@
 -- `look_step` meets its contract. Assumes nothing.
 use borrow.Author.Needs.{needs}
 use native.Mathlib.Omega.{arith}
 use Rattle.marking.proofs.RowRules.{look-steps}
-use Rattle.marking.proofs.steps.look_step.Statement.{statement}
-use Rattle.marking.proofs.steps.look_step.Tie as tie
+use Rattle.look_steps.proofs.look_step.Statement.{statement}
+use Rattle.look_steps.proofs.look_step.Tie as tie
 
 look-before-requires : tie.Need-look-before-requires
 look-before-requires c κs = search needs

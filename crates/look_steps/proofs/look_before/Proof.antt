@@ -2,10 +2,10 @@
 use borrow.Author.Needs.{needs}
 use native.Mathlib.Omega.{arith}
 use Prim.Native.Nat.{_-_, _/_}
 use Rattle.marking.proofs.RowRules.{before-steps, no-steps}
 use Rattle.marking.proofs.Decoding.{word-in-window}
-use Rattle.marking.proofs.steps.look_before.Statement.{statement}
-use Rattle.marking.proofs.steps.look_before.Tie as tie
+use Rattle.look_steps.proofs.look_before.Statement.{statement}
+use Rattle.look_steps.proofs.look_before.Tie as tie
 
 returns : tie.Need-returns
 returns c =

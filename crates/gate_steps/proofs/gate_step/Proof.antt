@@ -1,9 +1,9 @@
 -- `gate_step` meets its contract. Assumes nothing.
 use borrow.Author.Needs.{needs}
 use native.Mathlib.Omega.{arith}
 use Rattle.marking.proofs.RowRules.{gate-ticks, gate-steps}
-use Rattle.marking.proofs.steps.gate_step.Statement.{statement}
-use Rattle.marking.proofs.steps.gate_step.Tie as tie
+use Rattle.gate_steps.proofs.gate_step.Statement.{statement}
+use Rattle.gate_steps.proofs.gate_step.Tie as tie
 
 words-at-requires : tie.Need-words-at-requires
 words-at-requires c κs = search needs
