@@ -1,4 +1,5 @@
-// What the programs share whose instructions are counted: a file's bytes, a number in an argument, and a table emptied. Assumes nothing.
+// What the programs share whose instructions are counted: a file's bytes, what the arguments ask for, and a table emptied. Assumes nothing.
+use names::word_is;
 use text::numbers::Number;
 use text::numbers::number_at;
 ghost use Rattle.io.specs.Counts.{Counts};
@@ -17,12 +18,26 @@ pub fn read_text(path: &[u8], buffer: &mut [u8]) -> usize
 }
 
 // The number that a text starts with, or 0.
-pub fn number_of(text: &[u8]) -> usize {
+fn number_of(text: &[u8]) -> usize {
     let d = number_at(text, 0);
     match d {
         Number::Value(x, _) => x,
         Number::Missing => 0,
     }
+}
+
+// How often the first argument asks for a run.
+pub fn times_asked() -> usize {
+    let mut word = [0u8; 8];
+    let n = os::arg(1, &mut word);
+    number_of(&word[..n])
+}
+
+// Does the second argument ask for this?
+pub fn is_asked(name: &[u8]) -> bool {
+    let mut word = [0u8; 8];
+    let n = os::arg(2, &mut word);
+    word_is(&word[..n], 0, name)
 }
 
 // Empties the table.

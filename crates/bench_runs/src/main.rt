@@ -10,11 +10,11 @@ use adding::add;
 use answers::Answer;
 use answers::print_answer;
 use bench_parts::clear;
-use bench_parts::number_of;
+use bench_parts::is_asked;
 use bench_parts::read_text;
+use bench_parts::times_asked;
 use checking::Checking;
 use checking::check;
-use names::word_is;
 use reading::read_sheet;
 use taking::take;
 ghost use Prim.Native.Nat.{_≤_};
@@ -84,28 +84,24 @@ fn words_for(s: &[u8]) -> usize
     if n <= 1024 { 2 * n } else { 0 }
 }
 
-// The run that a word names; an add if it names none.
-fn run_named(word: &[u8]) -> Run {
-    if word_is(word, 0, b"read") {
+// The run that is asked for; an add if none is.
+fn run_asked() -> Run {
+    if is_asked(b"read") {
         return Run::Read;
     }
-    if word_is(word, 0, b"check") {
+    if is_asked(b"check") {
         return Run::Check;
     }
-    if word_is(word, 0, b"take") {
+    if is_asked(b"take") {
         return Run::Take;
     }
     Run::Add
 }
 
-// Does what the arguments ask for with the two texts.
+// Does what is asked for with the two texts.
 fn run_texts(s: &[u8], readings: &[u8]) {
-    let mut first = [0u8; 8];
-    let mut second = [0u8; 8];
-    let a = os::arg(1, &mut first);
-    let b = os::arg(2, &mut second);
-    let times = number_of(&first[..a]);
-    let run = run_named(&second[..b]);
+    let times = times_asked();
+    let run = run_asked();
     let words = words_for(s);
     let mut table = [0u64; 2048];
     let answer = run_times(run, s, readings, &mut table[..words], times);

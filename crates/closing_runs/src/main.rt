@@ -2,10 +2,10 @@
 // sheet.txt and readings.txt: the table has 64 words for each value of the sheet's rows, and each reading stands there every 64 ticks. The first argument says
 // how often it is laid out and closed; with `lay` as the second it is laid out only. Prints the marks before, how many tops there are, and the marks after.
 use bench_parts::clear;
-use bench_parts::number_of;
+use bench_parts::is_asked;
 use bench_parts::read_text;
+use bench_parts::times_asked;
 use closing::tops::settle;
-use names::word_is;
 use readings::whole::Outcome;
 use readings::whole::take_readings;
 use run_cases::print_number;
@@ -114,7 +114,7 @@ fn print_marks(before: usize, tops: usize, after: usize) {
     print_number(b"after=", after as u64, b"\n");
 }
 
-// Does what the arguments ask for, with a table and a list.
+// Does what is asked for, with a table and a list.
 fn run_lent(
     s: &[u8],
     places: &[u64],
@@ -154,7 +154,7 @@ fn run_lent(
     }
 }
 
-// Does what the arguments ask for with an opened sheet.
+// Does what is asked for with an opened sheet.
 fn run_sheet(
     s: &[u8],
     places: &[u64],
@@ -166,12 +166,8 @@ fn run_sheet(
 )
     requires { ⌜ Prepared (now places) (now rows) (now tops) count k ⌝ }
 {
-    let mut first = [0u8; 8];
-    let mut second = [0u8; 8];
-    let a = os::arg(1, &mut first);
-    let b = os::arg(2, &mut second);
-    let times = number_of(&first[..a]);
-    let lays = word_is(&second[..b], 0, b"lay");
+    let times = times_asked();
+    let lays = is_asked(b"lay");
     let words = 128 * count;
     let mut todo = [0u64; 1024];
     let mut table = [0u64; 131072];
