@@ -1,5 +1,5 @@
-# For the scripts that link the static library, sourced by them from the repository's folder: brings it up to date, and says how x86-64 programs
-# are built and run on this machine. Sets `library`, `cc` (the compiler) and `run` (what runs them, nothing on x86-64).
+# For the scripts that build or link code for x86-64, sourced by them from the repository's folder: how such programs are built and run on this machine.
+# Sets `cc` (the C compiler) and `run` (what runs them, nothing on x86-64).
 
 stop() {
   echo "$1" >&2
@@ -7,14 +7,8 @@ stop() {
   exit 1
 }
 
-library=target/staticlib/libc_api.a
-if [ ! -f "$library" ] || [ -n "$(find crates crates.txt -newer "$library" | head -n 1)" ]; then
-  command -v rt >/dev/null || stop "the Rattle kit is needed to build the static library, and its program rt is not on the path"
-  said=$(rt staticlib c_api 2>&1) || stop "$said"
-fi
-
-# Installs Debian's packages, of x86-64 too, unless the first argument is there.
-install() {
+# from_debian FILE PACKAGE..: installs packages, those of x86-64 too, unless the file is there.
+from_debian() {
   [ ! -e "$1" ] || return 0
   said=$({ dpkg --add-architecture amd64 && apt-get update && apt-get install -y --no-install-recommends "${@:2}"; } 2>&1) || stop "$said"
 }
@@ -24,10 +18,18 @@ run=()
 if [ "$(uname -m)" != x86_64 ]; then
   cc=x86_64-linux-gnu-gcc
   run=(qemu-x86_64)
-  install "/usr/bin/$cc" gcc-x86-64-linux-gnu libc6-dev-amd64-cross
-  install "/usr/bin/${run[0]}" qemu-user
-  install /lib64/ld-linux-x86-64.so.2 libc6:amd64
+  from_debian "/usr/bin/$cc" gcc-x86-64-linux-gnu libc6-dev-amd64-cross
+  from_debian "/usr/bin/${run[0]}" qemu-user
+  from_debian /lib64/ld-linux-x86-64.so.2 libc6:amd64
 fi
+
+# Brings the static library up to date: sets `library`.
+library_for_x86_64() {
+  library=target/staticlib/libc_api.a
+  [ ! -f "$library" ] || [ -n "$(find crates crates.txt -newer "$library" | head -n 1)" ] || return 0
+  command -v rt >/dev/null || stop "the Rattle kit is needed to build the static library, and its program rt is not on the path"
+  said=$(rt staticlib c_api 2>&1) || stop "$said"
+}
 
 # Says how Rust is built for x86-64: sets `cargo` and `target`. On another processor a Rust without the std for x86-64 gives way to Debian's.
 rust_for_x86_64() {
@@ -37,7 +39,7 @@ rust_for_x86_64() {
     export CARGO_TARGET_X86_64_UNKNOWN_LINUX_GNU_LINKER=$cc
     export CARGO_TARGET_X86_64_UNKNOWN_LINUX_GNU_RUNNER=${run[*]}
     if [ ! -d "$(rustc --print sysroot 2>/dev/null)/lib/rustlib/$target/lib" ]; then
-      install "/usr/lib/rustlib/$target/lib" cargo rustc libstd-rust-dev:amd64
+      from_debian "/usr/lib/rustlib/$target/lib" cargo rustc libstd-rust-dev:amd64
       cargo=/usr/bin/cargo
       export RUSTC=/usr/bin/rustc RUSTDOC=/usr/bin/rustdoc
     fi

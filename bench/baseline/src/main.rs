@@ -9,8 +9,14 @@ mod sheet;
 mod text;
 
 use operations::{add, check, take, Added};
-use std::hint::black_box;
 use text::Refusal;
+
+/// Hides a value from the compiler, as std::hint::black_box does in younger versions of Rust than Debian's.
+fn black_box<T>(mut value: T) -> T {
+    // SAFETY: the assembly has no instruction; it says only that the value may be read and written there.
+    unsafe { std::arch::asm!("/* {0} */", in(reg) &mut value, options(nostack, preserves_flags)) };
+    value
+}
 
 /// One sign a tick, or `x` at each if there is a clash.
 fn marks(table: &[u64], signal: usize, window: usize, clash: bool) -> String {

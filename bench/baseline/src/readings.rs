@@ -19,8 +19,9 @@ pub fn read(text: &[u8], names: &[&[u8]], window: usize) -> Result<Vec<Mark>, Re
         if !is_name(name) {
             return refuse(12, start);
         }
-        let Some(signal) = names.iter().position(|&n| n == name) else {
-            return refuse(12, start);
+        let signal = match names.iter().position(|&n| n == name) {
+            Some(signal) => signal,
+            None => return refuse(12, start),
         };
         let (value, next) = number_line(text, next, b"value=", (0, 1), 11, 14)?;
         marks.push(Mark {
