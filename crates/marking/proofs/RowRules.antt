@@ -4,19 +4,19 @@ use mathlib.Core.Path.{_≡_, refl, sym, subst₂}
 use mathlib.Core.Bool.{Bool, true, false, not}
 use mathlib.Core.List.{List}
 use mathlib.Core.Logic.{_⊎_, inl, inr, ⊎-elim}
-use Prim.Native.Nat.{ℕ, _+_, _-_, _*_, _/_, _%_, _^_, _<_}
+use Prim.Native.Nat.{ℕ, _+_, _/_, _<_}
 use native.Mathlib.Omega.{arith}
 use lib.Bits.{bitAnd, bitOr}
 use Rattle.ticks.proofs.Bits.{lt-or-ge}
 use Rattle.tilco.specs.Inference.{notOf, gate, look, Program, Mark, mark, Marks, Shifted, down-left, down-right, up-left, up-right, look-down, look-up, not-down, not-up, up-both, rest-right, rest-left, Derives, start, one, two, _or_}
 use Rattle.tilco.specs.Table.{Stands}
-use Rattle.table_words.specs.Gains.{Ticks, Here, Sides, Reads, Bits, Joins, Apart}
-use Rattle.marking.specs.Settled.{SettledIn, LookIn}
-use Rattle.marking.specs.Moves.{Moves, Wrote, GateWrote, LinkWrote, PartWrote, LookWrote, Mutual, ByNode, ByLink}
-use Rattle.table_words.proofs.OneWord.{Seen, InWindow, both-ticks, either-ticks, raised, lowered}
+use Rattle.table_words.specs.Gains.{Ticks, Here, Sides, Reads, Bits, Joins}
+use Rattle.marking.specs.Settled.{SettledIn, LookIn, FromChild, FromLook}
+use Rattle.marking.specs.Moves.{Moves, Wrote, GateWrote, PartWrote, LookWrote, Gives, ByNode}
+use Rattle.table_words.proofs.OneWord.{both-ticks, either-ticks}
 use Rattle.table_words.proofs.Gaining.{sides-as}
 use Rattle.marking.proofs.Moving.{idle, weaker, then, keeps-inside, joins-move}
-use Rattle.marking.proofs.Settling.{ran, turned, Whole, Part, gate-in, by-value, not-in, link-in}
+use Rattle.marking.proofs.Settling.{ran, turned, Whole, Part, gate-in, by-value, not-in, look-in}
 
 -- A row's children are other rows.
 above : {r a : ℕ} → a < r → r ≡ a → ⊥
@@ -124,95 +124,53 @@ module _ (n q : ℕ) (T₀ T₁ T₂ : List ℕ) (r c x y : ℕ) (l : c < r) {r�
       let g = ran n T₁ T₂ q c true (Is r false) (Is r true) y child-joins in
       (then n P W m k, λ t v o. by-value (Opposite t) (not-in (above l) f g t o) (not-in (above l) (turned f) (turned g) t o) v)
 
--- ---- two rows that answer each other: hi in word q has, k bits further up, what lo has in word p
-module _ (n p q k W lo hi : ℕ) (T₀ T₁ T₂ : List ℕ) (x y : ℕ) (d : lo ≡ hi → ⊥) where
-  -- what hi gains of value v, and what lo gains
+-- ---- a look: row r has at a tick what row c has at the offset o from it, written with 64 added
+-- Its rules between its word p and its child's word q, which the row's ticks of word p look at.
+module _ (n q e p r c o W : ℕ) (T₀ T₁ T₂ : List ℕ) (x y : ℕ) (l : c < r) (at : e ≡ p + o / 64) where
   abbrev Up : Bool → ℕ → Type 0
-  Up v = InWindow W (Seen p (Apart p q k) (λ t. Stands n T₀ (mark lo t v)))
+  Up = FromChild W (Stands n T₀) o c q
 
   abbrev Down : Bool → ℕ → Type 0
-  Down v = InWindow W (Seen q (λ s t. Apart p q k t s) (λ s. Stands n T₀ (mark hi s v)))
+  Down = FromLook W (Stands n T₀) o r p
 
   abbrev Same : ℕ → ℕ → Bool → Type 0
-  Same t s v = (Stands n T₂ (mark lo t v) → Stands n T₂ (mark hi s v)) × (Stands n T₂ (mark hi s v) → Stands n T₂ (mark lo t v))
+  Same t s v = (Stands n T₂ (mark r t v) → Stands n T₂ (mark c s v)) × (Stands n T₂ (mark c s v) → Stands n T₂ (mark r t v))
 
-  links : Joins n (Sides hi true q (Up true) (Up false)) T₀ T₁ y → Joins n (Sides lo true p (Down true) (Down false)) T₁ T₂ x
-      → ByLink lo p hi q k W n T₀ T₂ x y
-  links i j P rule inside =
-      let m = sides-move n P W q T₀ hi true (Up true) (Up false) (λ m h. h) i (rises true) (rises false) in
-      let g = sides-move n P W p T₀ lo true (Down true) (Down false) (m .grows) j (falls true) (falls false) in
-      let f = ran n T₀ T₁ q hi true (Up true) (Up false) y i in
-      let h = ran n T₁ T₂ p lo true (Down true) (Down false) x j in (
+  joined-part : Joins n (Sides r true p (Up true) (Up false)) T₀ T₁ y → Joins n (Sides c true q (Down true) (Down false)) T₁ T₂ x
+      → ByNode (look o c) r (PartWrote r o c q e x y) (λ S. LookIn q e W S r o c) W n T₀ T₂ (x + y)
+  joined-part i j P d inside =
+      let m = sides-move n P W p T₀ r true (Up true) (Up false) (λ m h. h) i (rises true) (rises false) in
+      let g = sides-move n P W q T₀ c true (Down true) (Down false) (m .grows) j (falls true) (falls false) in
+      let f = ran n T₀ T₁ p r true (Up true) (Up false) y i in
+      let h = ran n T₁ T₂ q c true (Down true) (Down false) x j in (
         weaker n P W (x + y) (omega arith) wrote (then n P W m g),
-        λ t s v a b c o z. by-value (Same t s) (link-in k W d f h t s a b c o z) (link-in k W d (turned f) (turned h) t s a b c o z) v,
+        λ t s v a b z k w. let u : t / 64 ≡ p = omega arith in
+            by-value (Same t s) (look-in o W (above l) f h t s a b z u k) (look-in o W (above l) (turned f) (turned h) t s a b z u k) v,
       )
     where
-      rises : (v : Bool) (s : ℕ) → Up v s → Derives P W (Stands n T₀) (mark hi s v)
-      rises v s h = one (rule (h .1 .0) s v (h .1 .2) (inside lo (h .1 .0) v (h .1 .3)) (h .0) .0) (start (h .1 .3))
+      rises : (v : Bool) (t : ℕ) → Up v t → Derives P W (Stands n T₀) (mark r t v)
+      rises v t h = one (look-up {t = t} {s = h .1 .0} d (h .1 .2) (h .0) (inside c (h .1 .0) v (h .1 .3))) (start (h .1 .3))
 
-      falls : (v : Bool) (t : ℕ) → Down v t → Derives P W (Stands n T₀) (mark lo t v)
-      falls v t h = one (rule t (h .1 .0) v (h .1 .2) (h .0) (inside hi (h .1 .0) v (h .1 .3)) .1) (start (h .1 .3))
+      falls : (v : Bool) (s : ℕ) → Down v s → Derives P W (Stands n T₀) (mark c s v)
+      falls v s h = one (look-down {t = h .1 .0} {s = s} d (h .1 .2) (inside r (h .1 .0) v (h .1 .3)) (h .0)) (start (h .1 .3))
 
-      -- what is new has a tick that answers it
-      up-told : (v w : Bool) (s z : ℕ) → Here hi v q (Up v) (mark z s w) → 0 < y → LinkWrote lo p hi q k x y (mark z s w)
-      up-told v w s z h l = inr (h .0, h .2, (h .3 .1 .0, h .3 .1 .1, h .3 .1 .2), l)
+      own-told : (v w : Bool) (t z : ℕ) → Here r v p (Up v) (mark z t w) → 0 < y → PartWrote r o c q e x y (mark z t w)
+      own-told v w t z h a = inr (h .0, omega (arith, h .2), a)
 
-      down-told : (v w : Bool) (t z : ℕ) → Here lo v p (Down v) (mark z t w) → 0 < x → LinkWrote lo p hi q k x y (mark z t w)
-      down-told v w t z h l = inl (h .0, h .2, (h .3 .1 .0, h .3 .1 .1, h .3 .1 .2), l)
+      child-told : (v w : Bool) (t z : ℕ) → Here c v q (Down v) (mark z t w) → 0 < x → PartWrote r o c q e x y (mark z t w)
+      child-told v w t z h a = inl (h .0, h .2, (λ s g. omega (arith, h .3 .1 .1, h .3 .1 .2, g)), a)
 
-      wrote : (m : Mark)
-          → (_or_ (λ m. Sides hi true q (Up true) (Up false) m × (0 < y)) (λ m. Sides lo true p (Down true) (Down false) m × (0 < x))) m → LinkWrote lo p hi q k x y m
+      wrote : (m : Mark) → (_or_ (λ m. Sides r true p (Up true) (Up false) m × (0 < y)) (λ m. Sides c true q (Down true) (Down false) m × (0 < x))) m → PartWrote r o c q e x y m
       wrote (mark z t v) =
-          ⊎-elim (λ h. ⊎-elim (λ g. up-told true v t z g (h .1)) (λ g. up-told false v t z g (h .1)) (h .0))
-          (λ h. ⊎-elim (λ g. down-told true v t z g (h .1)) (λ g. down-told false v t z g (h .1)) (h .0))
+          ⊎-elim (λ h. ⊎-elim (λ g. own-told true v t z g (h .1)) (λ g. own-told false v t z g (h .1)) (h .0))
+          (λ h. ⊎-elim (λ g. child-told true v t z g (h .1)) (λ g. child-told false v t z g (h .1)) (h .0))
 
-  -- The same, as the code makes the words, of those that it read and of the window's ticks in both words.
-  pub link-steps : (ups downs : ℕ) {a₁ a₀ b₁ b₀ : ℕ} → Reads n T₀ p lo true a₁ a₀ → Reads n T₀ q hi true b₁ b₀ → b₁ < 2 ^ 64 → b₀ < 2 ^ 64
-      → Ticks q ups (λ t. t < W) → Ticks p downs (λ t. t < W)
-      → Joins n (Sides hi true q (Bits (bitAnd ups ((a₁ * 2 ^ k) % 2 ^ 64))) (Bits (bitAnd ups ((a₀ * 2 ^ k) % 2 ^ 64)))) T₀ T₁ y
-      → Joins n (Sides lo true p (Bits (bitAnd downs (b₁ / 2 ^ k))) (Bits (bitAnd downs (b₀ / 2 ^ k)))) T₁ T₂ x
-      → ByLink lo p hi q k W n T₀ T₂ x y
-  link-steps ups downs {a₁} {a₀} {b₁} {b₀} a b fits fits₀ o u i j =
-      links (sides-as hi true q (bitAnd ups ((a₁ * 2 ^ k) % 2 ^ 64)) (bitAnd ups ((a₀ * 2 ^ k) % 2 ^ 64)) (Up true) (Up false) (up-ticks true a₁ (a .this)) (up-ticks false a₀ (a .other)) i)
-      (sides-as lo true p (bitAnd downs (b₁ / 2 ^ k)) (bitAnd downs (b₀ / 2 ^ k)) (Down true) (Down false) (down-ticks true b₁ fits (b .this)) (down-ticks false b₀ fits₀ (b .other)) j)
-    where
-      up-ticks : (v : Bool) (w : ℕ) → Ticks p w (λ t. Stands n T₀ (mark lo t v)) → Ticks q (bitAnd ups ((w * 2 ^ k) % 2 ^ 64)) (Up v)
-      up-ticks v w f =
-          both-ticks q ups ((w * 2 ^ k) % 2 ^ 64) (λ t. t < W) (Seen p (Apart p q k) (λ t. Stands n T₀ (mark lo t v))) o (raised p q k w (λ t. Stands n T₀ (mark lo t v)) f)
-
-      down-ticks : (v : Bool) (w : ℕ) → w < 2 ^ 64 → Ticks q w (λ s. Stands n T₀ (mark hi s v)) → Ticks p (bitAnd downs (w / 2 ^ k)) (Down v)
-      down-ticks v w l f =
-          both-ticks p downs (w / 2 ^ k) (λ t. t < W) (Seen q (λ s t. Apart p q k t s) (λ s. Stands n T₀ (mark hi s v))) u (lowered p q k w (λ s. Stands n T₀ (mark hi s v)) l f)
-
--- ---- a look: row r has at a tick what row c has at the offset o from it, written with 64 added
-module _ (n q : ℕ) (T T′ : List ℕ) (r c o W p x y : ℕ) where
-  -- The row's word p looks at the lower ticks of the child's word q.
-  pub before-steps : q ≡ p + o / 64 → ByLink c q r p (64 - o % 64) W n T T′ x y
-      → ByNode (look o c) r (PartWrote r o c q q x y) (λ S. LookIn q q W S r o c) W n T T′ (x + y)
-  before-steps l f P e inside =
-      let m = f P rule inside in
-      (weaker n P W (x + y) refl wrote (m .0), λ t s v d a b g h. let k = m .1 s t v (omega arith) b a g (omega arith) in (k .1, k .0))
-    where
-      rule : Mutual P W c q r p (64 - o % 64)
-      rule t s v d a b = (look-up {t = s} {s = t} e (omega arith) b a, look-down {t = s} {s = t} e (omega arith) b a)
-
-      wrote : (m : Mark) → LinkWrote c q r p (64 - o % 64) x y m → PartWrote r o c q q x y m
-      wrote (mark z t v) =
-          ⊎-elim (λ h. inl (h .0, h .1, (λ s d. omega (arith, h .2 .1, h .2 .2)), h .3)) (λ h. inr (h .0, omega (arith, h .1), h .3))
-
-  -- The row's word p looks at the upper ticks of the child's word q.
-  pub after-steps : q + 1 ≡ p + o / 64 → ByLink r p c q (o % 64) W n T T′ y x
-      → ByNode (look o c) r (PartWrote r o c q (q + 1) x y) (λ S. LookIn q (q + 1) W S r o c) W n T T′ (y + x)
-  after-steps l f P e inside =
-      let m = f P rule inside in
-      (weaker n P W (y + x) refl wrote (m .0), λ t s v d a b g h. m .1 t s v (omega arith) a b (omega arith) g)
-    where
-      rule : Mutual P W r p c q (o % 64)
-      rule t s v d a b = (look-down {t = t} {s = s} e (omega arith) a b, look-up {t = t} {s = s} e (omega arith) a b)
-
-      wrote : (m : Mark) → LinkWrote r p c q (o % 64) y x m → PartWrote r o c q (q + 1) x y m
-      wrote (mark z t v) =
-          ⊎-elim (λ h. inr (h .0, omega (arith, h .1), h .3)) (λ h. inl (h .0, h .1, (λ s d. omega (arith, h .2 .1, h .2 .2)), h .3))
+  -- As the code joins the words that it made.
+  pub part-steps : {a a₀ b b₀ : ℕ} → Gives W (Stands n T₀) r o c p q a a₀ b b₀ → Joins n (Sides r true p (Bits a) (Bits a₀)) T₀ T₁ y
+      → Joins n (Sides c true q (Bits b) (Bits b₀)) T₁ T₂ x → ByNode (look o c) r (PartWrote r o c q e x y) (λ S. LookIn q e W S r o c) W n T₀ T₂ (x + y)
+  part-steps {a} {a₀} {b} {b₀} g i j =
+      joined-part (sides-as r true p a a₀ (Up true) (Up false) (g .to-look) (g .to-look-other) i)
+      (sides-as c true q b b₀ (Down true) (Down false) (g .to-child) (g .to-child-other) j)
 
 -- No tick of the child's word q is looked at from the word e - o / 64.
 pub no-steps : (n q : ℕ) (T : List ℕ) (r c o W e : ℕ) → ((t s : ℕ) → Shifted t o s → t < W → s / 64 ≡ q → e ≡ t / 64 + o / 64 → ⊥)
@@ -222,7 +180,7 @@ no-steps n q T r c o W e f P g inside = (idle n P W (PartWrote r o c q e 0 0) T,
 -- A look's rules: what the row's later word looks at is apart from what the earlier one looks at.
 pub look-steps : (n q : ℕ) (T₀ T₁ T₂ : List ℕ) (r c o W x y x′ y′ : ℕ) → c < r
     → ByNode (look o c) r (PartWrote r o c q q x y) (λ S. LookIn q q W S r o c) W n T₀ T₁ (x + y)
-    → ByNode (look o c) r (PartWrote r o c q (q + 1) x′ y′) (λ S. LookIn q (q + 1) W S r o c) W n T₁ T₂ (y′ + x′)
+    → ByNode (look o c) r (PartWrote r o c q (q + 1) x′ y′) (λ S. LookIn q (q + 1) W S r o c) W n T₁ T₂ (x′ + y′)
     → ByNode (look o c) r (LookWrote r o c q (x + x′) y y′) (λ S. SettledIn q W S r (look o c)) W n T₀ T₂ (x + x′ + y + y′)
 look-steps n q T₀ T₁ T₂ r c o W x y x′ y′ l f g P e inside =
     let m = f P e inside in

@@ -6,12 +6,12 @@ use mathlib.Core.List.{List}
 use mathlib.Core.Logic.{_⊎_, inl, inr, ⊎-elim}
 use Prim.Native.Nat.{ℕ, _/_, _<_}
 use native.Mathlib.Omega.{arith}
-use Rattle.tilco.specs.Inference.{Mark, mark, Marks}
+use Rattle.tilco.specs.Inference.{Mark, mark, Marks, Shifted}
 use Rattle.tilco.specs.Table.{Stands}
 use Rattle.tilco.proofs.Closing.{GateSettled}
-use Rattle.table_words.specs.Gains.{Sides, Joins, Apart}
-use Rattle.table_words.proofs.OneWord.{Seen, InWindow}
+use Rattle.table_words.specs.Gains.{Sides, Joins}
 use Rattle.table_words.proofs.Gaining.{not-apart}
+use Rattle.marking.specs.Settled.{FromChild, FromLook}
 
 -- The marks S′ are those of S, and row r's in word q: of value u at the ticks U, of the other value at the ticks N.
 pub record Ran (q r : ℕ) (u : Bool) (U N : ℕ → Type 0) (S S′ : Marks) : Type 0 where
@@ -104,17 +104,16 @@ not-in {q} {r} {c} {v} {S₀} {S₁} {S₂} d i j t e = (
     later : (m : Mark) → S₀ m → S₂ m
     later m h = j .grown m (i .grown m h)
 
--- Two rows that answer each other, for one value: b, further up, gains what a has, and a what b has.
-pub link-in : (k W : ℕ) {p q a b : ℕ} {v : Bool} {M N : ℕ → Type 0} {S₀ S₁ S₂ : Marks} → (a ≡ b → ⊥)
-    → Ran q b v (InWindow W (Seen p (Apart p q k) (λ t. S₀ (mark a t v)))) M S₀ S₁
-    → Ran p a v (InWindow W (Seen q (λ s t. Apart p q k t s) (λ s. S₀ (mark b s v)))) N S₁ S₂
-    → (t s : ℕ) → Apart p q k t s → t < W → s < W → t / 64 ≡ p → s / 64 ≡ q → (S₂ (mark a t v) → S₂ (mark b s v)) × (S₂ (mark b s v) → S₂ (mark a t v))
-link-in k W {p} {q} {a} {b} {v} {S₀ = S₀} {S₁} {S₂} d i j t s e l m f g = (
-  λ h. ⊎-elim (λ x. j .grown (mark b s v) (i .given s g (m, (t, f, e, kept i a t d x))))
-      (λ x. later b s (omega (arith, x .1 .1 .2, e)) (x .1 .1 .3)) (j .back a t h),
-  λ h. ⊎-elim (λ x. j .given t f (l, (s, g, e, x)))
-      (λ x. later a t (omega (arith, x .1 .1 .2, e)) (x .1 .1 .3)) (i .back b s (kept j b s (λ z. d (sym z)) h)),
+-- A look's rules, for one value: the row gains what its child has, and the child what the row has.
+pub look-in : (k W : ℕ) {p q r c : ℕ} {v : Bool} {M N : ℕ → Type 0} {S₀ S₁ S₂ : Marks} → (r ≡ c → ⊥)
+    → Ran p r v (FromChild W S₀ k c q v) M S₀ S₁ → Ran q c v (FromLook W S₀ k r p v) N S₁ S₂
+    → (t s : ℕ) → Shifted t k s → t < W → s < W → t / 64 ≡ p → s / 64 ≡ q → (S₂ (mark r t v) → S₂ (mark c s v)) × (S₂ (mark c s v) → S₂ (mark r t v))
+look-in k W {p} {q} {r} {c} {v} {S₀ = S₀} {S₁} {S₂} d i j t s e l m f g = (
+  λ h. ⊎-elim (λ x. j .given s g (m, (t, f, e, x)))
+      (λ x. later c s (omega (arith, x .1 .1 .2, e)) (x .1 .1 .3)) (i .back r t (kept j r t d h)),
+  λ h. ⊎-elim (λ x. j .grown (mark r t v) (i .given t f (l, (s, g, e, kept i c s (λ z. d (sym z)) x))))
+      (λ x. later r t (omega (arith, x .1 .1 .2, e)) (x .1 .1 .3)) (j .back c s h),
 )
   where
-    later : (c t : ℕ) {z : ℕ} → z ≡ t → S₀ (mark c z v) → S₂ (mark c t v)
-    later c t o h = j .grown (mark c t v) (i .grown (mark c t v) (subst (λ (y : ℕ). S₀ (mark c y v)) o h))
+    later : (z t : ℕ) {y : ℕ} → y ≡ t → S₀ (mark z y v) → S₂ (mark z t v)
+    later z t o h = j .grown (mark z t v) (i .grown (mark z t v) (subst (λ (y : ℕ). S₀ (mark z y v)) o h))

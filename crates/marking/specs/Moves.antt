@@ -2,15 +2,15 @@
 -- n is how many words a row has for each value, q a word of a row, W the window, T the table before and T′ after. A number that tells
 -- of a change is 0 if there is none.
 use mathlib.Core.Path.{_≡_}
-use mathlib.Core.Bool.{Bool}
+use mathlib.Core.Bool.{Bool, true, false}
 use mathlib.Core.List.{List}
 use mathlib.Core.Logic.{_⊎_}
 use Prim.Native.Nat.{ℕ, _+_, _*_, _/_, _≤_, _<_}
 use lib.ListN.{length}
-use Rattle.tilco.specs.Inference.{Node, Program, node, Mark, mark, Marks, Shifted, One, Derives, _or_}
+use Rattle.tilco.specs.Inference.{Node, Program, node, Mark, mark, Marks, Shifted, Derives, _or_}
 use Rattle.tilco.specs.Table.{words, Stands, Inside}
-use Rattle.table_words.specs.Gains.{Apart, room}
-use Rattle.marking.specs.Settled.{LinkIn}
+use Rattle.table_words.specs.Gains.{Ticks, room}
+use Rattle.marking.specs.Settled.{FromChild, FromLook}
 
 -- Nothing is lost, all that is new follows and is among the marks A; if nothing changed the table is the same, else its words have less
 -- room to grow.
@@ -34,12 +34,6 @@ WroteBefore x h e told (mark y t v) = (y ≡ x) × (e ≡ t / 64 + h) × (0 < to
 abbrev pub GateWrote : ℕ → ℕ → ℕ → ℕ → ℕ → ℕ → ℕ → Marks
 GateWrote r a b q row left right = _or_ (Wrote r q row) (_or_ (Wrote a q left) (Wrote b q right))
 
--- The marks in row a's word p and in row b's word q, k bits further up, that answer each other, as far as these words are told to have changed.
-abbrev pub LinkWrote : ℕ → ℕ → ℕ → ℕ → ℕ → ℕ → ℕ → Marks
-LinkWrote a p b q k x y (mark z t v) =
-    ((z ≡ a) × (t / 64 ≡ p) × ((s : ℕ) × (s / 64 ≡ q) × Apart p q k t s) × (0 < x))
-    ⊎ ((z ≡ b) × (t / 64 ≡ q) × ((s : ℕ) × (s / 64 ≡ p) × Apart p q k s t) × (0 < y))
-
 -- Of a look of row r at row c with the offset k: the marks in c's word q at ticks that r's word e - k / 64 looks at, and in that word.
 abbrev pub PartWrote : ℕ → ℕ → ℕ → ℕ → ℕ → ℕ → ℕ → Marks
 PartWrote r k c q e child own (mark z t v) =
@@ -49,18 +43,17 @@ PartWrote r k c q e child own (mark z t v) =
 abbrev pub LookWrote : ℕ → ℕ → ℕ → ℕ → ℕ → ℕ → ℕ → Marks
 LookWrote r k c q child before after = _or_ (Wrote c q child) (_or_ (WroteBefore r (k / 64) q before) (WroteBefore r (k / 64) (q + 1) after))
 
+-- The words that the rules of row r, which looks at row c with the offset k, make of the marks S: for word p of r and for word q of c, of
+-- true and of false.
+pub record Gives (W : ℕ) (S : Marks) (r k c p q own own-other child child-other : ℕ) : Type 0 where
+  pub to-look : Ticks p own (FromChild W S k c q true)
+  pub to-look-other : Ticks p own-other (FromChild W S k c q false)
+  pub to-child : Ticks q child (FromLook W S k r p true)
+  pub to-child-other : Ticks q child-other (FromLook W S k r p false)
+
 -- What a function does for every program in which row r is the node d: only the marks A are new, and C holds of the marks then.
 abbrev pub ByNode : Node → ℕ → Marks → (Marks → Type 0) → ℕ → ℕ → List ℕ → List ℕ → ℕ → Type 0
 ByNode d r A C W n T T′ changed = (P : Program) → node P r ≡ d → Inside W (Stands n T) → Moves n P W A T T′ changed × C (Stands n T′)
-
--- In a program, row a in word p and row b in word q, k bits further up, give each other their values at the window's ticks.
-abbrev pub Mutual : Program → ℕ → ℕ → ℕ → ℕ → ℕ → ℕ → Type 0
-Mutual P W a p b q k = (t s : ℕ) (v : Bool) → Apart p q k t s → t < W → s < W → One P W (mark a t v) (mark b s v) × One P W (mark b s v) (mark a t v)
-
--- What a function does for every program in which they do so: they have the same values then.
-abbrev pub ByLink : ℕ → ℕ → ℕ → ℕ → ℕ → ℕ → ℕ → List ℕ → List ℕ → ℕ → ℕ → Type 0
-ByLink a p b q k W n T T′ x y =
-    (P : Program) → Mutual P W a p b q k → Inside W (Stands n T) → Moves n P W (LinkWrote a p b q k x y) T T′ (x + y) × LinkIn p q k W (Stands n T′) a b
 
 -- The table has n words for each value of `count` rows, and they cover the window.
 pub record Sized (n count W : ℕ) (T : List ℕ) : Type 0 where

@@ -8,7 +8,6 @@ use Prim.Native.Nat.{ℕ, _+_, _/_, _<_}
 use Rattle.tilco.specs.Inference.{Node, signal, notOf, gate, look, mark, Marks, Shifted}
 use Rattle.tilco.specs.Table.{Stands}
 use Rattle.tilco.proofs.Closing.{GateSettled}
-use Rattle.table_words.specs.Gains.{Apart}
 
 -- The rules of row r, by its node, add nothing to the ticks of word q; a look's ticks are its child's.
 abbrev pub SettledIn : ℕ → ℕ → Marks → ℕ → Node → Type 0
@@ -35,7 +34,10 @@ abbrev pub LookIn : ℕ → ℕ → ℕ → Marks → ℕ → ℕ → ℕ → Ty
 LookIn q e W S r k c =
     (t s : ℕ) (v : Bool) → Shifted t k s → t < W → s < W → s / 64 ≡ q → e ≡ t / 64 + k / 64 → (S (mark r t v) → S (mark c s v)) × (S (mark c s v) → S (mark r t v))
 
--- Row a in word p and row b in word q, k bits further up, have the same values.
-abbrev pub LinkIn : ℕ → ℕ → ℕ → ℕ → Marks → ℕ → ℕ → Type 0
-LinkIn p q k W S a b =
-    (t s : ℕ) (v : Bool) → Apart p q k t s → t < W → s < W → t / 64 ≡ p → s / 64 ≡ q → (S (mark a t v) → S (mark b s v)) × (S (mark b s v) → S (mark a t v))
+-- The ticks t at which a look has the value v by word q of its child's row c; k is its offset.
+abbrev pub FromChild : ℕ → Marks → ℕ → ℕ → ℕ → Bool → ℕ → Type 0
+FromChild W S k c q v t = (t < W) × ((s : ℕ) × (s / 64 ≡ q) × Shifted t k s × S (mark c s v))
+
+-- The ticks s at which its child has the value v by word p of the look's row r.
+abbrev pub FromLook : ℕ → Marks → ℕ → ℕ → ℕ → Bool → ℕ → Type 0
+FromLook W S k r p v s = (s < W) × ((t : ℕ) × (t / 64 ≡ p) × Shifted t k s × S (mark r t v))

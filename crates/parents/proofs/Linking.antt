@@ -11,7 +11,7 @@ use lib.ListN.{length, getD, set, replicate, length-set}
 use lib.Seq.{getD-set-same, getD-set-other}
 use Rattle.ticks.proofs.Bits.{lt-or-ge}
 use Rattle.rows.specs.Words.{rowAt}
-use Rattle.parents.specs.Links.{Child, Reach, here, later, Falls, ends, goes, LinkedTo}
+use Rattle.parents.specs.Links.{Child, Reach, here, later, Falls, ends, goes, LinkedTo, Ended, Linked}
 
 -- ---- along a list
 
@@ -150,3 +150,7 @@ no-lists (suc m) (suc x) = no-lists m x
 
 pub linked-none : (count : ℕ) (B H N : List ℕ) → count ≤ length H → 2 * count ≤ length N → ((x : ℕ) → x < count → getD H x 0 ≡ 0) → LinkedTo count B H N 0
 linked-none count B H N h k f = record { starts = h; edges = k; falls = λ x l. ends (f x l); reach = λ x y l m c. absurd (omega arith) }
+
+-- Lists that have every edge end.
+pub ended : {count : ℕ} {B H N : List ℕ} → Linked count B H N → Ended count H N
+ended k = (k .starts, k .edges, k .falls)

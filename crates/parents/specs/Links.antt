@@ -32,6 +32,10 @@ pub record LinkedTo (count : ℕ) (B H N : List ℕ) (m : ℕ) : Type 0 where
   pub falls : (x : ℕ) → x < count → Falls N (2 * m) (getD H x 0)
   pub reach : (x y : ℕ) → x < count → y < m → Child (rowAt B y) x → Reach N (getD H x 0) y
 
+-- There is a list for each row, and it ends.
+abbrev pub Ended : ℕ → List ℕ → List ℕ → Type 0
+Ended count H N = (count ≤ length H) × (2 * count ≤ length N) × ((x : ℕ) → x < count → Falls N (2 * count) (getD H x 0))
+
 -- Every row is in the list of each of its children.
 abbrev pub Linked : ℕ → List ℕ → List ℕ → List ℕ → Type 0
 Linked count B H N = LinkedTo count B H N count

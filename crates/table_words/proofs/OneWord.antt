@@ -3,7 +3,7 @@
 use mathlib.Core.Path.{_≡_, refl, sym, ap, _∙_, subst}
 use mathlib.Core.Bool.{Bool}
 use mathlib.Core.List.{List}
-use mathlib.Core.Logic.{_⊎_, inl, inr, ⊎-elim}
+use mathlib.Core.Logic.{_⊎_, inl, inr, ⊎-elim, _↔_}
 use Prim.Native.Nat.{ℕ, _+_, _-_, _*_, _/_, _%_, _^_, _≤_, _<_}
 use native.Mathlib.Omega.{arith}
 use lib.Bits.{bitAnd, bitOr}
@@ -46,6 +46,12 @@ either-ticks q v w U R f g b h = (
   λ e. ⊎-elim (λ x. inl (f b h .0 x)) (λ x. inr (g b h .0 x)) (or-out v w b e),
   ⊎-elim (λ x. or-left v w b (f b h .1 x)) (λ x. or-right v w b (g b h .1 x)),
 )
+
+-- The ticks of a word, said otherwise.
+pub ticks-as : (q v : ℕ) (U R : ℕ → Type 0) → ((t : ℕ) → t / 64 ≡ q → U t ↔ R t) → Ticks q v U → Ticks q v R
+ticks-as q v U R f g b h =
+    let e : (q * 64 + b) / 64 ≡ q = omega arith in
+    (λ i. f (q * 64 + b) e .0 (g b h .0 i), λ i. g b h .1 (f (q * 64 + b) e .1 i))
 
 -- Ticks s for which one of the ticks U of word p is in the relation R to s.
 abbrev pub Seen : ℕ → (ℕ → ℕ → Type 0) → (ℕ → Type 0) → ℕ → Type 0

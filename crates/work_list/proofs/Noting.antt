@@ -15,7 +15,7 @@ use Rattle.ticks.proofs.Bits.{or-left, or-right}
 use Rattle.ticks.proofs.Shifts.{one-has}
 use Rattle.table.proofs.Marks.{one-word}
 use Rattle.rows.specs.Words.{rowAt}
-use Rattle.work_list.specs.Items.{per, Bit, Roomy, Enters, OwnItem, ItemsOf, Touched}
+use Rattle.work_list.specs.Items.{per, Bit, Roomy, Enters, OwnItem, ItemsOf, ParentsAt, Touched}
 use Rattle.parents.specs.Links.{Reach, Falls, Linked}
 use Rattle.parents.proofs.Linking.{reach-next, reach-end, falls-next}
 use Rattle.work_list.proofs.ByKind.{rests-split}
@@ -135,15 +135,15 @@ module _ (N : List ℕ) (count head i : ℕ) (D : List ℕ) where
   }
 
 -- ---- all that rest on word p of row x: its own items and those of its parents
-pub touched : (count : ℕ) (B H N : List ℕ) (n x p head : ℕ) (D D′ D″ : List ℕ) → x < count → head ≡ getD H x 0 → Linked count B H N
+pub touched : (count : ℕ) (B H N : List ℕ) (n x p : ℕ) (D D′ D″ : List ℕ) → x < count → Linked count B H N
     → Enters (ItemsOf (per count) x (λ q. (q < n) × OwnItem (rowAt B x) p q)) D D′
-    → Enters (λ i y. (i ≡ p * per count) × Reach N head y) D′ D″
+    → Enters (ParentsAt (per count) H N x p) D′ D″
     → Touched count B n x p D D″
-touched count B H N n x p head D D′ D″ l is k a b = record {
+touched count B H N n x p D D′ D″ l k a b = record {
   size = b .size ∙ a .size;
   kept = λ r q g h i. b .kept (q * per count + r / 64) (r % 64) (a .kept (q * per count + r / 64) (r % 64) i);
   noted = λ r q g h s. ⊎-elim
-      (λ e. subst (λ (v : ℕ). Bit D″ (v * per count) r) (e .1) (b .each (p * per count) r (refl, subst (λ (h : ℕ). Reach N h r) (sym is) (k .reach x r l g (e .0)))))
+      (λ e. subst (λ (v : ℕ). Bit D″ (v * per count) r) (e .1) (b .each (p * per count) r (refl, k .reach x r l g (e .0))))
       (λ e. b .kept (q * per count + r / 64) (r % 64) (a .each (q * per count) r (sym (e .0), (q, (h, subst (λ (v : ℕ). OwnItem (rowAt B v) p q) (sym (e .0)) (e .1)), refl))))
       (rests-split (rowAt B r) r q x p s);
 }

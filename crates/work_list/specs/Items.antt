@@ -11,6 +11,7 @@ use Rattle.rows.specs.Words.{rowAt}
 use Rattle.tilco.specs.Inference.{Node, signal, notOf, gate, look, mark}
 use Rattle.tilco.specs.Table.{Stands}
 use Rattle.marking.specs.Settled.{SettledIn, Rests}
+use Rattle.parents.specs.Links.{Reach}
 
 -- The words that a word of ticks has in the list: one bit a row.
 abbrev pub per : ℕ → ℕ
@@ -23,6 +24,13 @@ Bit D i y = Has (getD D (i + y / 64) 0) (y % 64)
 -- Item (r, q) is to do.
 abbrev pub ToDo : ℕ → List ℕ → ℕ → ℕ → Type 0
 ToDo count D r q = Bit D (q * per count) r
+
+-- No item, and one.
+abbrev pub NoItem : ℕ → ℕ → Type 0
+NoItem r q = ⊥
+
+abbrev pub OneItem : ℕ → ℕ → ℕ → ℕ → Type 0
+OneItem r q s p = (s ≡ r) × (p ≡ q)
 
 -- The list has a bit for every item of at most 1,024 rows.
 pub record Roomy (count n : ℕ) (D : List ℕ) : Type 0 where
@@ -45,6 +53,10 @@ OwnItem (look k c) p q = (q ≡ p + k / 64) ⊎ (q + 1 ≡ p + k / 64)
 -- Row x's items at the words Q, where each word of ticks has `stride` words in the list.
 abbrev pub ItemsOf : ℕ → ℕ → (ℕ → Type 0) → ℕ → ℕ → Type 0
 ItemsOf stride x Q i y = (y ≡ x) × ((q : ℕ) × Q q × (i ≡ q * stride))
+
+-- The items at word p of the rows in row x's list of parents.
+abbrev pub ParentsAt : ℕ → List ℕ → List ℕ → ℕ → ℕ → ℕ → ℕ → Type 0
+ParentsAt stride H N x p i y = (i ≡ p * stride) × Reach N (getD H x 0) y
 
 -- Every item that rests on word p of row x is to do.
 abbrev pub Noted : ℕ → List ℕ → ℕ → List ℕ → ℕ → ℕ → Type 0

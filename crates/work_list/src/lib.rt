@@ -7,8 +7,8 @@ ghost use Prim.Native.Nat.{ℕ, _+_, _*_, _/_, _<_, _≤_};
 ghost use lib.ListN.{length};
 ghost use Rattle.rows.specs.Words.{rowAt};
 ghost use Rattle.marking.specs.Codes.{Coded};
-ghost use Rattle.parents.specs.Links.{Reach, Falls, Linked};
-ghost use Rattle.work_list.specs.Items.{per, Roomy, Enters, OwnItem, ItemsOf, Touched, Starts, Done};
+ghost use Rattle.parents.specs.Links.{Reach, Falls, Ended, Linked};
+ghost use Rattle.work_list.specs.Items.{per, Roomy, Enters, OwnItem, ItemsOf, ParentsAt, Touched, Starts, Done};
 
 // Sets row y's bit in the words of the list from place i on.
 fn enter(todo: &mut [u64], i: usize, y: usize)
@@ -34,7 +34,7 @@ fn enter_parents(count: usize, head: usize, nexts: &[u16], todo: &mut [u64], i: 
 }
 
 // Row x's item at the word before word p of the window, if there is one.
-fn enter_before(todo: &mut [u64], stride: usize, n: usize, p: usize, x: usize)
+pub fn enter_before(todo: &mut [u64], stride: usize, n: usize, p: usize, x: usize)
     requires { ⌜ stride * n ≤ length (now todo) ⌝ }
     requires { ⌜ x / 64 < stride ⌝ }
     ensures { λ _. ⌜ Enters (ItemsOf stride x (λ q. (q < n) × (q + 1 ≡ p))) (now (todo .entry)) (now (todo .exit)) ⌝ }
@@ -70,6 +70,26 @@ fn enter_own(rows: &[u64], count: usize, n: usize, q: usize, x: usize, todo: &mu
     enter(todo, q * stride, x);
 }
 
+// Puts the items at word q of row x's parents on the list.
+pub fn touch_parents(
+    count: usize,
+    n: usize,
+    q: usize,
+    x: usize,
+    heads: &[u16],
+    nexts: &[u16],
+    todo: &mut [u64],
+)
+    requires { ⌜ (x < count) × (q < n) ⌝ }
+    requires { ⌜ Ended count (now heads) (now nexts) ⌝ }
+    requires { ⌜ Roomy count n (now todo) ⌝ }
+    ensures { λ _. ⌜ Enters (ParentsAt (per count) (now (heads .entry)) (now (nexts .entry)) x q) (now (todo .entry)) (now (todo .exit)) ⌝ }
+{
+    let stride = (count + 63) / 64;
+    let head = index(heads[x]);
+    enter_parents(count, head, nexts, todo, q * stride);
+}
+
 // Row x's word q changed: puts every item that rests on it on the list.
 pub fn touch(
     rows: &[u64],
@@ -88,9 +108,7 @@ pub fn touch(
     ensures { λ _. ⌜ Touched count (now (rows .entry)) n x q (now (todo .entry)) (now (todo .exit)) ⌝ }
 {
     enter_own(rows, count, n, q, x, todo);
-    let stride = (count + 63) / 64;
-    let head = index(heads[x]);
-    enter_parents(count, head, nexts, todo, q * stride);
+    touch_parents(count, n, q, x, heads, nexts, todo);
 }
 
 // Puts every item on the list that rests on a mark in word q of a row.

@@ -12,11 +12,11 @@ use Rattle.tilco.specs.Table.{Stands, Inside}
 use Rattle.tilco.proofs.Derives.{stays-inside}
 use Rattle.marking.specs.Codes.{Codes, Coded}
 use Rattle.marking.specs.Settled.{Rests}
-use Rattle.work_list.specs.Items.{per, Touched, Done}
+use Rattle.work_list.specs.Items.{per, Touched, Done, NoItem}
 use Rattle.work_list.proofs.ByKind.{rests-below}
-use Rattle.visiting.specs.Visits.{Late}
-use Rattle.visiting.proofs.Visiting.{late-none}
-use Rattle.working.specs.Stretches.{DoneBut, Stretch, Only, Either, Works, Taken, NoItem, InWord}
+use Rattle.noting.specs.Visits.{Late}
+use Rattle.noting.proofs.Heeding.{late-none}
+use Rattle.working.specs.Stretches.{DoneBut, Stretch, Only, Either, Works, Taken, InWord}
 use Rattle.working.proofs.Working.{works-none, works-word, stretch-then, stretch-end}
 
 -- Visits to items of word q, after which the row `late` is left to note in that word.

@@ -18,9 +18,9 @@ use Rattle.tilco.specs.Inference.{signal, Program, node, start}
 use Rattle.tilco.specs.Table.{Stands, Inside}
 use Rattle.marking.specs.Codes.{Codes, Coded}
 use Rattle.marking.specs.Settled.{SettledIn, Rests}
-use Rattle.work_list.specs.Items.{per, ToDo}
-use Rattle.visiting.specs.Visits.{Late, Visited, Visits}
-use Rattle.working.specs.Stretches.{DoneBut, Stretch, Only, Either, Taken, NoItem}
+use Rattle.work_list.specs.Items.{per, ToDo, NoItem, OneItem}
+use Rattle.noting.specs.Visits.{Late, Visited, Visits}
+use Rattle.working.specs.Stretches.{DoneBut, Stretch, Only, Either, Taken}
 use Rattle.working.proofs.Local.{settled-local}
 
 -- ---- a bit of a word cleared
@@ -101,7 +101,7 @@ visits-none count B r q W n T D h P c inside = record {
   still = λ e. (refl, refl);
   moved = λ l. absurd (omega arith);
   settled = let e : node P r ≡ signal = List·getD-eq-default (P .rows) signal (omega (arith, c .rows-are)) in subst (SettledIn q W (Stands n T) r) (sym e) tt;
-  heeds = record { size = refl; kept = λ x p a b i. i; noted = λ x p a b f y s g o t v e i. i };
+  heeds = record { size = refl; kept = λ x p a b i. i; noted = λ x p a b f z y s g o t v e i. i };
 }
 
 -- The item is on the list after the visit too.
@@ -131,10 +131,10 @@ module _ (count : ℕ) (B : List ℕ) (W n i k q : ℕ) (T T′ D D₁ D′ : Li
     abbrev Free : ℕ → ℕ → Type 0
     Free r p = (x : ℕ) → Either before late x → Rests (rowAt B r) r p x q → ⊥
 
-    still-settled : (r p : ℕ) → r < count → p < n → (ToDo count D₁ r p → ⊥) → Free r p → SettledIn p W (Stands n T′) r (rowAt B r)
-    still-settled r p h b f o =
+    still-settled : (r p : ℕ) → r < count → p < n → (ToDo count D₁ r p → ⊥) → (OneItem (64 * i + k) q r p → ⊥) → Free r p → SettledIn p W (Stands n T′) r (rowAt B r)
+    still-settled r p h b f z o =
         settled-local n W T T′ (v .grows) r p (rowAt B r)
-        (λ x s g. v .heeds .noted r p h b f x s g (λ d e. o x (inr d) (subst (λ (w : ℕ). Rests (rowAt B r) r p x w) e g)))
+        (λ x s g. v .heeds .noted r p h b f z x s g (λ d e. o x (inr d) (subst (λ (w : ℕ). Rests (rowAt B r) r p x w) e g)))
         (done r p h b (λ t. f (v .heeds .kept r p h b t)) (λ x d. o x (inl d)))
 
     done-after : DoneBut (Either before late) q count B W n T′ D′
@@ -147,8 +147,8 @@ module _ (count : ℕ) (B : List ℕ) (W n i k q : ℕ) (T T′ D D₁ D′ : Li
         go (yes e) (yes g) =
             let s : SettledIn q W (Stands n T′) (64 * i + k) (rowAt B (64 * i + k)) = subst (SettledIn q W (Stands n T′) (64 * i + k)) (c .nodes (64 * i + k)) (v .settled) in
             subst (λ (x : ℕ). SettledIn p W (Stands n T′) x (rowAt B x)) (sym e) (subst (λ (y : ℕ). SettledIn y W (Stands n T′) (64 * i + k) (rowAt B (64 * i + k))) (sym g) s)
-        go (yes e) (no g) = still-settled r p h b (gone (λ a z. g z)) o
-        go (no e) g = still-settled r p h b (gone (λ a z. e a)) o
+        go (yes e) (no g) = still-settled r p h b (gone (λ a z. g z)) (λ z. g (z .1)) o
+        go (no e) g = still-settled r p h b (gone (λ a z. e a)) (λ z. e (z .0)) o
 
   pub taken : length D₁ ≡ length D → Coded count B → Inside W (Stands n T) → Visits count B (64 * i + k) q W n T T′ D D₁ changed late → Late count changed late
       → Taken count B W n q (q * per count + i) T T′ D D′ changed late

@@ -17,8 +17,8 @@ use Rattle.tilco.specs.Table.{Stands, Inside}
 use Rattle.tilco.proofs.Derives.{cut, stays-inside}
 use Rattle.marking.specs.Codes.{Coded}
 use Rattle.table_words.specs.Gains.{room}
-use Rattle.work_list.specs.Items.{per, ToDo}
-use Rattle.working.specs.Stretches.{Stretch, Works, Taken, NoItem, InWord, InColumn, turn}
+use Rattle.work_list.specs.Items.{per, ToDo, NoItem}
+use Rattle.working.specs.Stretches.{Stretch, Works, Taken, InWord, InColumn, turn}
 
 some-or-none : (k : ℕ) → (0 < k) ⊎ (k ≡ 0)
 some-or-none zero = inr refl

@@ -12,8 +12,8 @@ use Rattle.tilco.specs.Table.{Stands}
 use Rattle.marking.specs.Codes.{Codes}
 use Rattle.table_words.specs.Gains.{room}
 use Rattle.marking.specs.Settled.{SettledIn, Rests}
-use Rattle.work_list.specs.Items.{ToDo, Done}
-use Rattle.visiting.specs.Visits.{Late}
+use Rattle.work_list.specs.Items.{ToDo, NoItem, Done}
+use Rattle.noting.specs.Visits.{Late}
 
 -- Every item that is not on the list, and rests on word q of no row among L, is settled.
 abbrev pub DoneBut : (ℕ → Type 0) → ℕ → ℕ → List ℕ → ℕ → ℕ → List ℕ → List ℕ → Type 0
@@ -40,10 +40,7 @@ pub record Works (count : ℕ) (B : List ℕ) (W n : ℕ) (Z : ℕ → ℕ → T
   pub long : length D′ ≡ length D
   pub each : (P : Program) → Codes P count B → Worked count B n P W Z T T′ D D′ changed
 
--- No item, and every item.
-abbrev pub NoItem : ℕ → ℕ → Type 0
-NoItem r q = ⊥
-
+-- Every item.
 abbrev pub AnyItem : ℕ → ℕ → Type 0
 AnyItem r q = Unit {0}
 

@@ -1,6 +1,6 @@
 // The items of one word of the list: each is visited and taken off, until none is left there. A row has `n` words for each value, 64 ticks in each.
 // Assumes that the words are a program's rows, that the table has them, and that no mark is outside the window.
-use visiting::Outcome;
+use noting::Outcome;
 use visiting::visit;
 use work_list::touch;
 ghost use mathlib.Core.Path.{_≡_};
@@ -11,7 +11,7 @@ ghost use Rattle.tilco.specs.Table.{Stands, Inside};
 ghost use Rattle.marking.specs.Codes.{Coded};
 ghost use Rattle.marking.specs.Moves.{Sized};
 ghost use Rattle.work_list.specs.Items.{per, Roomy, Touched};
-ghost use Rattle.visiting.specs.Visits.{Late, Visits};
+ghost use Rattle.noting.specs.Visits.{Late, Visits};
 ghost use Rattle.working.specs.Stretches.{Works, Taken, InWord};
 ghost use Rattle.parents.specs.Links.{Linked};
 

@@ -3,7 +3,8 @@ use borrow.Author.Needs.{needs}
 use native.Mathlib.Omega.{arith}
 use mathlib.Core.Logic.{inl, inr}
 use Rattle.marking.proofs.Decoding.{gate-asks, look-asks, not-asks}
-use Rattle.visiting.proofs.Visiting.{visits-as, visits-not, visits-signal, late-none}
+use Rattle.noting.proofs.Heeding.{late-none}
+use Rattle.visiting.proofs.Visiting.{visits-as, visits-not, visits-signal}
 use Rattle.visiting.proofs.visit.Statement.{statement}
 use Rattle.visiting.proofs.visit.Tie as tie
 

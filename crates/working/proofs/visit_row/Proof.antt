@@ -2,7 +2,7 @@
 use borrow.Author.Needs.{needs}
 use native.Mathlib.Omega.{arith}
 use mathlib.Core.Path.{refl}
-use Rattle.visiting.proofs.Visiting.{late-none}
+use Rattle.noting.proofs.Heeding.{late-none}
 use Rattle.working.proofs.Taking.{visits-none}
 use Rattle.working.proofs.visit_row.Statement.{statement}
 use Rattle.working.proofs.visit_row.Tie as tie

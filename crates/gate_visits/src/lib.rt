@@ -1,0 +1,149 @@
+// A visit to a row that is an And, an Or or a Not: its rules at the ticks of one word, once through (they add nothing to it then), and every item
+// that rests on a word that they changed put on the list. A row has `n` words for each value, 64 ticks in each; `q` is the number of a word in a row.
+// Assumes that the words are a program's rows, that the lists of parents are theirs, and that the table and the list of work have them.
+use noting::Outcome;
+use noting::mark_child;
+use noting::mark_own;
+use table_words::words_at;
+ghost use Prim.Native.Nat.{ℕ, _<_};
+ghost use Rattle.tilco.specs.Inference.{notOf, gate};
+ghost use Rattle.table_words.specs.Gains.{HasRow};
+ghost use Rattle.marking.specs.Codes.{Coded};
+ghost use Rattle.parents.specs.Links.{Linked};
+ghost use Rattle.work_list.specs.Items.{Roomy};
+ghost use Rattle.noting.specs.Visits.{Late, VisitsBy};
+
+// A visit to a row that is an And (u is true) or an Or of the rows a and b.
+pub fn visit_gate(
+    rows: &[u64],
+    count: usize,
+    row: usize,
+    q: usize,
+    n: usize,
+    a: usize,
+    b: usize,
+    u: bool,
+    heads: &[u16],
+    nexts: &[u16],
+    todo: &mut [u64],
+    marks: &mut [u64],
+) -> Outcome
+    requires { ⌜ Coded count (now rows) ⌝ }
+    requires { ⌜ row < count ⌝ }
+    requires { ⌜ (q < n) × HasRow n (now marks) row × HasRow n (now marks) a × HasRow n (now marks) b × (a < row) × (b < row) ⌝ }
+    requires { ⌜ Linked count (now rows) (now heads) (now nexts) ⌝ }
+    requires { ⌜ Roomy count n (now todo) ⌝ }
+    ensures { λ v. ⌜ ((W : ℕ) → VisitsBy (gate u a b) count (now (rows .entry)) row q W n (now (marks .entry)) (now (marks .exit)) (now (todo .entry)) (now (todo .exit)) (v .changed) (v .late)) ⌝ }
+    ensures { λ v. ⌜ Late count (v .changed) (v .late) ⌝ }
+{
+    let r = words_at(marks, n, q, row, u);
+    let x = words_at(marks, n, q, a, u);
+    let y = words_at(marks, n, q, b, u);
+    // the value u: what each child has then; the other value: what the row has then
+    let left = x.this | r.this;
+    let right = y.this | r.this;
+    let part = r.other | x.other | y.other;
+    let c1 = mark_own(
+        count,
+        n,
+        q,
+        row,
+        u,
+        left & right,
+        part,
+        heads,
+        nexts,
+        todo,
+        marks,
+    );
+    let c2 = mark_child(
+        rows,
+        count,
+        n,
+        q,
+        a,
+        u,
+        left,
+        part & right,
+        heads,
+        nexts,
+        todo,
+        marks,
+    );
+    let c3 = mark_child(
+        rows,
+        count,
+        n,
+        q,
+        b,
+        u,
+        right,
+        part & left,
+        heads,
+        nexts,
+        todo,
+        marks,
+    );
+    let changed = c1 + c2 + c3;
+    Outcome {
+        changed,
+        late: count,
+    }
+}
+
+// A visit to a row that is the opposite of the row x, its only child.
+pub fn visit_not(
+    rows: &[u64],
+    count: usize,
+    row: usize,
+    q: usize,
+    n: usize,
+    x: usize,
+    heads: &[u16],
+    nexts: &[u16],
+    todo: &mut [u64],
+    marks: &mut [u64],
+) -> Outcome
+    requires { ⌜ Coded count (now rows) ⌝ }
+    requires { ⌜ row < count ⌝ }
+    requires { ⌜ (q < n) × HasRow n (now marks) row × HasRow n (now marks) x × (x < row) ⌝ }
+    requires { ⌜ Linked count (now rows) (now heads) (now nexts) ⌝ }
+    requires { ⌜ Roomy count n (now todo) ⌝ }
+    ensures { λ v. ⌜ ((W : ℕ) → VisitsBy (notOf x) count (now (rows .entry)) row q W n (now (marks .entry)) (now (marks .exit)) (now (todo .entry)) (now (todo .exit)) (v .changed) (v .late)) ⌝ }
+    ensures { λ v. ⌜ Late count (v .changed) (v .late) ⌝ }
+{
+    let r = words_at(marks, n, q, row, true);
+    let y = words_at(marks, n, q, x, true);
+    let own = mark_own(
+        count,
+        n,
+        q,
+        row,
+        true,
+        y.other,
+        y.this,
+        heads,
+        nexts,
+        todo,
+        marks,
+    );
+    let child = mark_child(
+        rows,
+        count,
+        n,
+        q,
+        x,
+        true,
+        r.other,
+        r.this,
+        heads,
+        nexts,
+        todo,
+        marks,
+    );
+    let changed = own + child;
+    Outcome {
+        changed,
+        late: count,
+    }
+}
