@@ -1,13 +1,14 @@
 -- A row of the program by its word: its node, and what the table has for its rules.
 -- Assumes nothing.
-use mathlib.Core.Path.{_≡_, ap, _∙_, subst}
+use mathlib.Core.Path.{_≡_, refl, sym, ap, _∙_, subst}
 use mathlib.Core.List.{List}
 use mathlib.Core.Logic.{_⊎_, ⊎-elim}
-use Prim.Native.Nat.{ℕ, suc, _+_, _-_, _*_, _/_, _%_, _≤_, _<_}
+use Prim.Native.Nat.{ℕ, zero, suc, _+_, _-_, _*_, _/_, _%_, _≤_, _<_}
 use native.Mathlib.Nat.{mul-le-mul-right}
 use native.Mathlib.Omega.{arith}
-use lib.ListN.{length, getD}
-use Rattle.tilco.specs.Inference.{Program, node}
+use lib.ListN.{length, getD, List·getD-eq-default}
+use Rattle.ticks.proofs.Bits.{lt-or-ge}
+use Rattle.tilco.specs.Inference.{Node, signal, notOf, gate, look, Program, node}
 use Rattle.tilco.specs.Table.{words}
 use Rattle.rows.specs.Words.{unpacked}
 use Rattle.marking.specs.Codes.{Fine, Codes, Coded}
@@ -34,6 +35,20 @@ has-row n count W T x s l =
 pub sized-as : {n count W : ℕ} {T T′ : List ℕ} → length T′ ≡ length T → Sized n count W T → Sized n count W T′
 sized-as e s = record { some = s .some; most = s .most; words-are = s .words-are; long = omega (arith, e, s .long) }
 
+-- A row with a rule is no signal's.
+abbrev Ruled : Node → Type 0
+Ruled signal = ⊥
+Ruled (notOf x) = Unit {0}
+Ruled (gate u a b) = Unit {0}
+Ruled (look k c) = Unit {0}
+
+signal-kind : (k a b : ℕ) → unpacked k a b ≡ signal → k ≡ 0
+signal-kind zero a b e = refl
+signal-kind (suc zero) a b e = absurd (subst Ruled e tt)
+signal-kind (suc (suc zero)) a b e = absurd (subst Ruled e tt)
+signal-kind (suc (suc (suc zero))) a b e = absurd (subst Ruled e tt)
+signal-kind (suc (suc (suc (suc k)))) a b e = absurd (subst Ruled e tt)
+
 module _ (count : ℕ) (B : List ℕ) (r : ℕ) where
   -- the kind and the two numbers of the row's word
   abbrev pub kind : ℕ
@@ -52,6 +67,13 @@ module _ (count : ℕ) (B : List ℕ) (r : ℕ) where
   -- The row's node by the kind in its word.
   pub node-as : (k : ℕ) → kind ≡ k → (P : Program) → Codes P count B → node P r ≡ unpacked k left right
   node-as k e P c = c .nodes r ∙ ap (λ (z : ℕ). unpacked z left right) e
+
+  -- Past the program's rows there are signals.
+  pub row-in : Coded count B → (kind ≡ 0 → ⊥) → r < count
+  row-in c f = ⊎-elim (λ l. l) (λ l. absurd (f (signal-kind kind left right (sym (c .codes .nodes r) ∙ past-rows l)))) (lt-or-ge r count)
+    where
+      past-rows : count ≤ r → node (c .program) r ≡ signal
+      past-rows l = List·getD-eq-default (c .program .rows) signal (omega (arith, c .codes .rows-are))
 
   fine-as : (k : ℕ) → kind ≡ k → Coded count B → Fine r (unpacked k left right)
   fine-as k e c = subst (Fine r) (node-as k e (c .program) (c .codes)) (c .codes .fine r)

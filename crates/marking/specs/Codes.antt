@@ -2,7 +2,7 @@
 -- Assumes nothing. A buffer's index is the row's number.
 use mathlib.Core.Path.{_≡_}
 use mathlib.Core.List.{List, List·Memᴰ}
-use Prim.Native.Nat.{ℕ, _≤_, _<_}
+use Prim.Native.Nat.{ℕ, _+_, _*_, _/_, _≤_, _<_}
 use lib.ListN.{length, getD}
 use Rattle.rows.specs.Words.{rowAt}
 use Rattle.tilco.specs.Inference.{Node, signal, notOf, gate, look, Program, node}
@@ -14,9 +14,9 @@ Fine r (notOf x) = x < r
 Fine r (gate u a b) = (a < r) × (b < r)
 Fine r (look k c) = (c < r) × (1 ≤ k) × (k ≤ 127)
 
--- The words in B say the nodes of P's `count` rows, and past them signals.
+-- The words in B say the nodes of P's `count` rows, and past them signals; there are as many as the bits of whole words for these rows.
 pub record Codes (P : Program) (count : ℕ) (B : List ℕ) : Type 0 where
-  pub long : count ≤ length B
+  pub long : (count + 63) / 64 * 64 ≤ length B
   pub rows-are : length (P .rows) ≡ count
   pub nodes : (r : ℕ) → node P r ≡ rowAt B r
   pub fine : (r : ℕ) → Fine r (node P r)

@@ -2,7 +2,7 @@
 -- n is how many words a row has for each value, q a word of a row, W the window, T the table before and T′ after. A number that tells
 -- of a change is 0 if there is none.
 use mathlib.Core.Path.{_≡_}
-use mathlib.Core.Bool.{Bool, true, false}
+use mathlib.Core.Bool.{true, false}
 use mathlib.Core.List.{List}
 use mathlib.Core.Logic.{_⊎_}
 use Prim.Native.Nat.{ℕ, _+_, _*_, _/_, _≤_, _<_}

@@ -172,7 +172,7 @@ module _ {s T : List ℕ} {w n m p : ℕ} (o : Begun s T w n m p) where
               names-are = refl;
               rows = c .0;
               codes = record {
-                long = omega (arith, g .room, g .long);
+                long = omega (arith, g .room, g .long, a .lent .long);
                 rows-are = sym (c .0);
                 nodes = λ i. sym (sheet-row (meant held) (sheet-declared s reads) (a .rows) B 0 (a .tops) ts t count (a .lent .blank) d (omega (arith, a .lent .long)) i);
                 fine = λ i. fine-row (signalRows (meant held)) i (node (program (meant held)) i) (children-before (meant held) (sheet-declared s reads) i) (looks-within (meant held) near near-steps (sheet-fits s reads) i);

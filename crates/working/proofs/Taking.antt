@@ -1,6 +1,6 @@
 -- An item visited and taken off the list: what is not on the list stays settled, and nothing else is taken off.
 -- Assumes nothing.
-use mathlib.Core.Path.{_≡_, refl, sym, ap, _∙_, subst}
+use mathlib.Core.Path.{_≡_, sym, ap, _∙_, subst}
 use mathlib.Core.List.{List}
 use mathlib.Core.Logic.{inl, inr, ⊎-elim}
 use Prim.Native.Nat.{ℕ, suc, _+_, _-_, _*_, _/_, _%_, _^_, _≤_, _<_}
@@ -8,13 +8,13 @@ use native.Mathlib.Decide.{ℕ-discrete}
 use native.Mathlib.Nat.{le-refl, mod-eq-sub-mod, div-eq-sub-div}
 use native.Mathlib.Omega.{arith}
 use lib.Arith.{digits-div, digits-mod}
-use lib.ListN.{length, getD, set, length-set, List·getD-eq-default}
+use lib.ListN.{length, getD, set, length-set}
 use lib.Pow.{pow-pos}
 use lib.Seq.{getD-set-same, getD-set-other}
 use Rattle.ticks.specs.Ticks.{bit, Has}
 use Rattle.ticks.proofs.Bits.{lt-or-ge, bit-shr, bit-past, bit-low}
 use Rattle.rows.specs.Words.{rowAt}
-use Rattle.tilco.specs.Inference.{signal, Program, node, start}
+use Rattle.tilco.specs.Inference.{Program}
 use Rattle.tilco.specs.Table.{Stands, Inside}
 use Rattle.marking.specs.Codes.{Codes, Coded}
 use Rattle.marking.specs.Settled.{SettledIn, Rests}
@@ -92,21 +92,9 @@ module _ (count : ℕ) (D : List ℕ) (i k q : ℕ) (l : i < per count) (m : k <
 
 -- ---- a visit
 
--- A visit where there is no row does nothing.
-pub visits-none : (count : ℕ) (B : List ℕ) (r q W n : ℕ) (T D : List ℕ) → count ≤ r → Visits count B r q W n T T D D 0 count
-visits-none count B r q W n T D h P c inside = record {
-  size = refl;
-  grows = λ m i. i;
-  sound = λ m i. start i;
-  still = λ e. (refl, refl);
-  moved = λ l. absurd (omega arith);
-  settled = let e : node P r ≡ signal = List·getD-eq-default (P .rows) signal (omega (arith, c .rows-are)) in subst (SettledIn q W (Stands n T) r) (sym e) tt;
-  heeds = record { size = refl; kept = λ x p a b i. i; noted = λ x p a b f z y s g o t v e i. i };
-}
-
 -- The item is on the list after the visit too.
 pub kept-bit : (count : ℕ) (B : List ℕ) (W n i k q : ℕ) (T T′ D D₁ : List ℕ) (changed late : ℕ) → q < n → i < per count → k < 64 → Coded count B → Inside W (Stands n T)
-    → Visits count B (64 * i + k) q W n T T′ D D₁ changed late → (count ≤ 64 * i + k → D₁ ≡ D) → Has (getD D (q * per count + i) 0) k → Has (getD D₁ (q * per count + i) 0) k
+    → Visits count B (64 * i + k) q W n T T′ D D₁ changed late → (count ≤ 64 * i + k → changed ≡ 0) → Has (getD D (q * per count + i) 0) k → Has (getD D₁ (q * per count + i) 0) k
 kept-bit count B W n i k q T T′ D D₁ changed late l h b c w f past has = ⊎-elim row none (lt-or-ge (64 * i + k) count)
   where
     word : (64 * i + k) / 64 ≡ i
@@ -120,7 +108,7 @@ kept-bit count B W n i k q T T′ D D₁ changed late l h b c w f past has = ⊎
         rw (word, tick) at (f (c .program) (c .codes) w .heeds .kept (64 * i + k) q g l (rw (word, tick) has))
 
     none : count ≤ 64 * i + k → Has (getD D₁ (q * per count + i) 0) k
-    none g = subst (λ (X : List ℕ). Has (getD X (q * per count + i) 0) k) (sym (past g)) has
+    none g = subst (λ (X : List ℕ). Has (getD X (q * per count + i) 0) k) (sym (f (c .program) (c .codes) w .still (past g) .1)) has
 
 module _ (count : ℕ) (B : List ℕ) (W n i k q : ℕ) (T T′ D D₁ D′ : List ℕ) (changed late : ℕ) (l : i < per count) (m : k < 64)
     (inside : q * per count + i < length D₁) (has : Has (getD D₁ (q * per count + i) 0) k)

@@ -11,7 +11,6 @@ ghost use Rattle.tilco.specs.Table.{Stands, Inside};
 ghost use Rattle.marking.specs.Codes.{Coded};
 ghost use Rattle.marking.specs.Moves.{Sized};
 ghost use Rattle.work_list.specs.Items.{per, Roomy, Touched};
-ghost use Rattle.noting.specs.Visits.{Late, Visits};
 ghost use Rattle.working.specs.Stretches.{Works, Taken, InWord};
 ghost use Rattle.parents.specs.Links.{Linked};
 
@@ -22,37 +21,6 @@ fn clear_bit(todo: &mut [u64], j: usize, k: u64)
 {
     let bit: u64 = 1 << k;
     todo[j] = todo[j] - bit;
-}
-
-// Visits an item, if its row is one of the program.
-fn visit_row(
-    rows: &[u64],
-    count: usize,
-    row: usize,
-    q: usize,
-    n: usize,
-    window: usize,
-    heads: &[u16],
-    nexts: &[u16],
-    todo: &mut [u64],
-    marks: &mut [u64],
-) -> Outcome
-    requires { ⌜ Coded count (now rows) ⌝ }
-    requires { ⌜ q < n ⌝ }
-    requires { ⌜ Linked count (now rows) (now heads) (now nexts) ⌝ }
-    requires { ⌜ Roomy count n (now todo) ⌝ }
-    requires { ⌜ Sized n count window (now marks) ⌝ }
-    ensures { λ v. ⌜ Visits count (now (rows .entry)) row q window n (now (marks .entry)) (now (marks .exit)) (now (todo .entry)) (now (todo .exit)) (v .changed) (v .late) ⌝ }
-    ensures { λ v. ⌜ Late count (v .changed) (v .late) ⌝ }
-    ensures { λ _. ⌜ (count ≤ row → now (todo .exit) ≡ now (todo .entry)) ⌝ }
-{
-    if count <= row {
-        return Outcome {
-            changed: 0,
-            late: count,
-        };
-    }
-    visit(rows, count, row, q, n, window, heads, nexts, todo, marks)
 }
 
 // Visits the item of word q that bit k of its i-th word in the list stands for, and takes it off the list after that.
@@ -80,7 +48,7 @@ fn take_item(
     let stride = (count + 63) / 64;
     let j = q * stride + i;
     let row = 64 * i + (k as usize);
-    let v = visit_row(rows, count, row, q, n, window, heads, nexts, todo, marks);
+    let v = visit(rows, count, row, q, n, window, heads, nexts, todo, marks);
     clear_bit(todo, j, k);
     v
 }

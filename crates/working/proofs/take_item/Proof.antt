@@ -27,16 +27,16 @@ mul-row c = search needs
 add-row : tie.Need-add-row
 add-row c = search needs
 
-visit-row-requires : tie.Need-visit-row-requires
-visit-row-requires c κs =
+visit-requires : tie.Need-visit-requires
+visit-requires c κs =
     let o = c .before .before .before .before .before .before .before .pre in
-    (o .0, (o .1 .0 .0, (o .1 .1 .0, (o .1 .1 .1 .0, o .1 .1 .1 .1 .0))))
+    (o .0, ((omega (arith, o .0 .codes .long, o .1 .0 .1, o .1 .0 .2), o .1 .0 .0), (o .1 .1 .0, (o .1 .1 .1 .0, o .1 .1 .1 .1 .0))))
 
 clear-bit-requires : tie.Need-clear-bit-requires
 clear-bit-requires c κs =
     let o = c .before .before .before .before .before .before .before .before .before .before .before .before .before .pre in
     let a = c .before .before .before .before .before .before .before .before .before .before .before .before .before .args in
-    let v = c .before .before .before .before .before .visit-row .ensures in (
+    let v = c .before .before .before .before .before .visit .ensures in (
       omega (arith, column-in _ (a .n) (a .q) _ (o .1 .0 .0) (o .1 .1 .1 .0 .long)),
       o .1 .0 .2,
       kept-bit _ _ _ _ _ _ _ _ _ _ _ _ _ (o .1 .0 .0) (o .1 .0 .1) (o .1 .0 .2) (o .0) (o .1 .1 .1 .1 .1) (v .0) (v .1 .1) (o .1 .0 .3),
@@ -52,7 +52,7 @@ returns : tie.Need-returns
 returns c =
     let o = c .before .before .before .before .before .before .before .before .before .before .before .before .before .before .before .before .pre in
     let a = c .before .before .before .before .before .before .before .before .before .before .before .before .before .before .before .before .args in
-    let v = c .before .before .before .before .before .before .before .before .visit-row .ensures in
+    let v = c .before .before .before .before .before .before .before .before .visit .ensures in
     taken _ _ _ _ _ _ _ _ _ _ _ _ _ _ (o .1 .0 .1) (o .1 .0 .2) (omega (arith, column-in _ (a .n) (a .q) _ (o .1 .0 .0) (o .1 .1 .1 .0 .long)))
     (kept-bit _ _ _ _ _ _ _ _ _ _ _ _ _ (o .1 .0 .0) (o .1 .0 .1) (o .1 .0 .2) (o .0) (o .1 .1 .1 .1 .1) (v .0) (v .1 .1) (o .1 .0 .3))
     (c .before .before .clear-bit .ensures) (omega arith) (o .0) (o .1 .1 .1 .1 .1) (v .0) (v .1 .0)
@@ -66,7 +66,7 @@ take-item-spec =
     add-j
     mul-row
     add-row
-    visit-row-requires
+    visit-requires
     clear-bit-requires
     same-length
     same-length-2
