@@ -4,15 +4,26 @@ use table_words::Words;
 use table_words::window_word;
 use table_words::words_at;
 ghost use mathlib.Core.Path.{_≡_};
-ghost use Prim.Native.Nat.{_+_, _-_, _/_, _%_, _<_, _≤_};
+ghost use Prim.Native.Nat.{_+_, _-_, _*_, _/_, _%_, _<_, _≤_};
 ghost use Rattle.tilco.specs.Table.{words, Stands};
-ghost use Rattle.table_words.specs.Gains.{HasRow};
+ghost use Rattle.table_words.specs.Gains.{HasRow, Ticks};
 ghost use Rattle.marking.specs.Moves.{Gives};
 
 // The ticks of true, and the other ones of false, for a word of a look's row and for one of its child's row.
 pub struct Given {
     pub own: Words,
     pub child: Words,
+}
+
+// The window's ticks in word p; `here` are those in word q, which in a short window is the same.
+fn window_beside(window: usize, p: usize, q: usize, here: u64) -> u64
+    requires { ⌜ (p * 64 < window) × Ticks q here (λ t. t < window) ⌝ }
+    ensures { λ w. ⌜ Ticks p w (λ t. t < window) ⌝ }
+{
+    if p == q {
+        return here;
+    }
+    window_word(window, p)
 }
 
 // For the row's word q - offset / 64: it looks at the lower ticks of the child's word q.
@@ -32,8 +43,8 @@ pub fn given_before(
     let up = 64 - offset % 64;
     let r = words_at(marks, n, p, row, true);
     let x = words_at(marks, n, q, c, true);
-    let above = window_word(window, p);
     let below = window_word(window, q);
+    let above = window_beside(window, p, q, below);
     let own = above & (x.this << up);
     let own_other = above & (x.other << up);
     let child = below & (r.this >> up);
@@ -68,7 +79,7 @@ pub fn given_after(
     let r = words_at(marks, n, p, row, true);
     let x = words_at(marks, n, q, c, true);
     let above = window_word(window, q);
-    let below = window_word(window, p);
+    let below = window_beside(window, p, q, above);
     let own = below & (x.this >> up);
     let own_other = below & (x.other >> up);
     let child = above & (r.this << up);

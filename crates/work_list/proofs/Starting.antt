@@ -11,6 +11,7 @@ use lib.Bits.{bitOr}
 use lib.ListN.{getD}
 use Rattle.ticks.specs.Ticks.{Has, block}
 use Rattle.ticks.proofs.Bits.{lt-or-ge, or-left, or-right, no-ticks}
+use Rattle.table_words.proofs.Places.{two-blocks}
 use Rattle.rows.specs.Words.{rowAt}
 use Rattle.tilco.specs.Inference.{Node, signal, notOf, gate, look, mark, Shifted}
 use Rattle.tilco.specs.Table.{Stands}
@@ -27,9 +28,12 @@ Bare n T x p = (t : ℕ) (v : Bool) → t / 64 ≡ p → Stands n T (mark x t v)
 pub seen-from : (t k s q : ℕ) → Shifted t k s → s / 64 ≡ q → (q ≡ t / 64 + k / 64) ⊎ (q + 1 ≡ t / 64 + k / 64)
 seen-from t k s q d e = ⊎-elim (λ l. inr (omega arith)) (λ l. inl (omega arith)) (lt-or-ge (t % 64 + k % 64) 64)
 
--- A table with `count` rows has each of them.
-pub row-in : (n count x L : ℕ) → x < count → 2 * count * n ≤ L → 2 * (x + 1) * n ≤ L
-row-in n count x L l h = let b : 2 * (x + 1) * n ≤ 2 * count * n = mul-le-mul-right n (omega arith) in omega arith
+-- Both words q of a row of the table stand in it, and what follows them is not far past it.
+pub place-in : (n count x q place L : ℕ) → x < count → q < n → 2 * count * n ≤ L → place ≡ 2 * x * n + q → (place + n < L) × (2 * n ≤ L)
+place-in n count x q place L l h m e =
+    let b : 2 * (x + 1) * n ≤ 2 * count * n = mul-le-mul-right n (omega arith) in
+    let t = two-blocks n x in
+    (omega arith, omega arith)
 
 -- Where every word that an item rests on is bare, it is settled.
 bare-settled : (n W : ℕ) (T : List ℕ) (r q : ℕ) (d : Node) → ((x p : ℕ) → Rests d r q x p → Bare n T x p) → SettledIn q W (Stands n T) r d

@@ -1,7 +1,6 @@
 // The list of work: an item, a row and a word of 64 ticks, put on it, every item that rests on a word that changed, and all that it starts with.
 // The list has `stride` words for each word of ticks, one bit a row. Assumes that it has a bit for every item.
 use parents::index;
-use table_words::word_at;
 ghost use mathlib.Core.Path.{_≡_};
 ghost use Prim.Native.Nat.{ℕ, _+_, _*_, _/_, _<_, _≤_};
 ghost use lib.ListN.{length};
@@ -129,12 +128,14 @@ fn start_column(
     ensures { λ _. ⌜ Starts count (now (rows .entry)) n (λ x p. (x < count) × (p ≡ q)) (now (marks .entry)) (now (todo .entry)) (now (todo .exit)) ⌝ }
 {
     let mut x: usize = 0;
+    let mut place = q;
     while x < count {
-        let yes = word_at(marks, n, q, x, true);
-        let no = word_at(marks, n, q, x, false);
+        let yes = marks[place];
+        let no = marks[place + n];
         if yes | no != 0 {
             touch(rows, count, n, q, x, heads, nexts, todo);
         }
+        place += 2 * n;
         x += 1;
     }
 }

@@ -24,10 +24,10 @@ window-word-requires c κs =
     let o = c .before .before .before .pre in
     word-in-window _ _ _ (o .5) (o .0)
 
-window-word-requires-2 : tie.Need-window-word-requires-2
-window-word-requires-2 c κs =
+window-beside-requires : tie.Need-window-beside-requires
+window-beside-requires c κs =
     let o = c .before .before .before .before .pre in
-    word-in-window _ _ _ (o .5) (omega arith)
+    (word-in-window _ _ _ (o .5) (omega arith), c .window-word .ensures)
 
 shr-own : tie.Need-shr-own
 shr-own c = search needs
@@ -44,7 +44,7 @@ shl-child-other c = search needs
 returns : tie.Need-returns
 returns c =
     let a = c .before .before .before .before .before .before .before .before .before .args in
-    after-gives _ _ _ _ _ _ (a .q + 1 - a .offset / 64) _ _ _ (c .before .before .before .before .before .before .before .words-at .ensures) (c .before .before .before .before .before .before .words-at2 .ensures) (c .before .before .before .before .window-word2 .ensures) (c .before .before .before .before .before .window-word .ensures) (omega arith) (omega arith) (omega arith)
+    after-gives _ _ _ _ _ _ (a .q + 1 - a .offset / 64) _ _ _ (c .before .before .before .before .before .before .before .words-at .ensures) (c .before .before .before .before .before .before .words-at2 .ensures) (c .before .before .before .before .window-beside .ensures) (c .before .before .before .before .before .window-word .ensures) (omega arith) (omega arith) (omega arith)
 
 pub given-after-spec : {M : Type 1} → statement M
 given-after-spec =
@@ -55,7 +55,7 @@ given-after-spec =
     words-at-requires
     words-at-requires-2
     window-word-requires
-    window-word-requires-2
+    window-beside-requires
     shr-own
     shr-own-other
     shl-child

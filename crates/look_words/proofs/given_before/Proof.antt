@@ -22,12 +22,12 @@ words-at-requires-2 c κs = search needs
 window-word-requires : tie.Need-window-word-requires
 window-word-requires c κs =
     let o = c .before .before .before .pre in
-    word-in-window _ _ _ (o .5) (omega arith)
-
-window-word-requires-2 : tie.Need-window-word-requires-2
-window-word-requires-2 c κs =
-    let o = c .before .before .before .before .pre in
     word-in-window _ _ _ (o .5) (o .0)
+
+window-beside-requires : tie.Need-window-beside-requires
+window-beside-requires c κs =
+    let o = c .before .before .before .before .pre in
+    (word-in-window _ _ _ (o .5) (omega arith), c .window-word .ensures)
 
 shl-own : tie.Need-shl-own
 shl-own c = search needs
@@ -44,7 +44,7 @@ shr-child-other c = search needs
 returns : tie.Need-returns
 returns c =
     let a = c .before .before .before .before .before .before .before .before .before .args in
-    before-gives _ _ _ _ _ _ (a .q - a .offset / 64) _ _ _ (c .before .before .before .before .before .before .before .words-at .ensures) (c .before .before .before .before .before .before .words-at2 .ensures) (c .before .before .before .before .before .window-word .ensures) (c .before .before .before .before .window-word2 .ensures) (omega arith) (omega arith) (omega arith)
+    before-gives _ _ _ _ _ _ (a .q - a .offset / 64) _ _ _ (c .before .before .before .before .before .before .before .words-at .ensures) (c .before .before .before .before .before .before .words-at2 .ensures) (c .before .before .before .before .window-beside .ensures) (c .before .before .before .before .before .window-word .ensures) (omega arith) (omega arith) (omega arith)
 
 pub given-before-spec : {M : Type 1} → statement M
 given-before-spec =
@@ -55,7 +55,7 @@ given-before-spec =
     words-at-requires
     words-at-requires-2
     window-word-requires
-    window-word-requires-2
+    window-beside-requires
     shl-own
     shl-own-other
     shr-child
