@@ -7,7 +7,7 @@ use Prim.Native.Nat.{ℕ, _+_, _*_, _/_, _%_, _<_}
 use native.Mathlib.Omega.{arith}
 use Rattle.ticks.proofs.Bits.{lt-or-ge}
 use Rattle.rows.specs.Words.{rowAt}
-use Rattle.tilco.specs.Inference.{Node, notOf, gate, look, mark, Marks, _or_}
+use Rattle.tilco.specs.Inference.{Node, look, mark, Marks, _or_}
 use Rattle.tilco.specs.Table.{Stands}
 use Rattle.marking.specs.Settled.{SettledIn, Rests}
 use Rattle.marking.specs.Moves.{Wrote, WroteBefore, LookWrote, ByNode}
@@ -130,12 +130,9 @@ module _ (count : ℕ) (B : List ℕ) (n : ℕ) where
       → ByNode d r A (λ S. SettledIn q W S r d) W n T T′ x → (rowAt B r ≡ d → Notes (OneItem r q) count B n A D D′ y) → x ≡ y → VisitsBy d count B r q W n T T′ D D′ x count
   visits-noted d r q W A T T′ D D′ x y f k e = visits-by d r q W A A T T′ D D′ x y count f k (λ z. omega arith) (λ z t v a. inr a)
 
--- A gate's item and a not-row's rest on one word of the row itself.
-pub gate-rests : (B : List ℕ) (r p : ℕ) {u : Bool} {a b : ℕ} → rowAt B r ≡ gate u a b → (w : ℕ) → Rests (rowAt B r) r w r p → w ≡ p
-gate-rests B r p e w s = sym (subst (λ (d : Node). Rests d r w r p) e s .0)
-
-pub not-rests : (B : List ℕ) (r p : ℕ) {y : ℕ} → rowAt B r ≡ notOf y → (w : ℕ) → Rests (rowAt B r) r w r p → w ≡ p
-not-rests B r p e w s = sym (subst (λ (d : Node). Rests d r w r p) e s .0)
+-- A row whose items rest, by its node, on the same word of the row itself: a gate or a not-row.
+pub rests-here : (B : List ℕ) (r p : ℕ) {d : Node} → rowAt B r ≡ d → ((w : ℕ) → Rests d r w r p → p ≡ w) → (w : ℕ) → Rests (rowAt B r) r w r p → w ≡ p
+rests-here B r p e f w s = sym (f w (subst (λ (d : Node). Rests d r w r p) e s))
 
 -- ---- the row that is left to note
 

@@ -5,7 +5,7 @@ use mathlib.Core.Path.{_∙_}
 use Rattle.marking.proofs.RowRules.{gate-ticks, gate-steps}
 use Rattle.parents.proofs.Linking.{ended}
 use Rattle.work_list.proofs.Noting.{roomy-as}
-use Rattle.noting.proofs.Heeding.{notes-but, notes-then, notes-parents, gate-rests, visits-noted, late-none}
+use Rattle.noting.proofs.Heeding.{notes-but, notes-then, notes-parents, rests-here, visits-noted, late-none}
 use Rattle.gate_visits.proofs.visit_gate.Statement.{statement}
 use Rattle.gate_visits.proofs.visit_gate.Tie as tie
 
@@ -57,7 +57,7 @@ returns c =
     let right = c .before .before .before .before .mark-child2 .ensures in
     let w = gate-ticks (c .before .before .before .before .before .before .before .before .before .before .before .before .before .before .before .before .before .before .before .before .before .before .before .before .before .before .before .before .before .before .before .before .words-at .ensures) (c .before .before .before .before .before .before .before .before .before .before .before .before .before .before .before .before .before .before .before .before .before .before .before .before .before .before .before .before .before .before .words-at2 .ensures) (c .before .before .before .before .before .before .before .before .before .before .before .before .before .before .before .before .before .before .before .before .before .before .before .before .before .before .before .before .words-at3 .ensures) in (
       λ W. visits-noted _ _ _ _ _ _ W _ _ _ _ _ _ _ (gate-steps _ _ _ _ _ _ _ _ _ _ _ _ _ (o .1 .1 .0 .4) (o .1 .1 .0 .5) _ _ _ (w .0) (w .1) (w .2) (own .0) (left .0) (right .0) W)
-          (λ e. notes-then _ _ _ (notes-parents _ _ _ _ _ (o .1 .1 .1 .0) _ _ _ _ (o .1 .0) (gate-rests (a .rows .now) (a .row) _ e) (own .1)) (notes-then _ _ _ (notes-but _ _ _ (left .1)) (notes-but _ _ _ (right .1))))
+          (λ e. notes-then _ _ _ (notes-parents _ _ _ _ _ (o .1 .1 .1 .0) _ _ _ _ (o .1 .0) (rests-here (a .rows .now) (a .row) _ e (λ w s. s .0)) (own .1)) (notes-then _ _ _ (notes-but _ _ _ (left .1)) (notes-but _ _ _ (right .1))))
           (omega arith),
       late-none _ _,
     )

@@ -5,7 +5,7 @@ use mathlib.Core.Path.{refl}
 use Rattle.marking.proofs.RowRules.{not-steps}
 use Rattle.parents.proofs.Linking.{ended}
 use Rattle.work_list.proofs.Noting.{roomy-as}
-use Rattle.noting.proofs.Heeding.{notes-but, notes-then, notes-parents, not-rests, visits-noted, late-none}
+use Rattle.noting.proofs.Heeding.{notes-but, notes-then, notes-parents, rests-here, visits-noted, late-none}
 use Rattle.gate_visits.proofs.visit_not.Statement.{statement}
 use Rattle.gate_visits.proofs.visit_not.Tie as tie
 
@@ -42,7 +42,7 @@ returns c =
     let own = c .before .before .before .before .before .before .before .before .before .before .before .mark-own .ensures in
     let child = c .before .before .before .before .mark-child .ensures in (
       λ W. visits-noted _ _ _ _ _ _ W _ _ _ _ _ _ _ (not-steps _ _ _ _ _ _ _ _ _ (o .1 .1 .0 .3) (c .before .before .before .before .before .before .before .before .before .before .before .before .before .before .before .before .words-at .ensures) (c .before .before .before .before .before .before .before .before .before .before .before .before .before .before .words-at2 .ensures) (own .0) (child .0) W)
-          (λ e. notes-then _ _ _ (notes-parents _ _ _ _ _ (o .1 .1 .1 .0) _ _ _ _ (o .1 .0) (not-rests (a .rows .now) (a .row) _ e) (own .1)) (notes-but _ _ _ (child .1))) refl,
+          (λ e. notes-then _ _ _ (notes-parents _ _ _ _ _ (o .1 .1 .1 .0) _ _ _ _ (o .1 .0) (rests-here (a .rows .now) (a .row) _ e (λ w s. s .0)) (own .1)) (notes-but _ _ _ (child .1))) refl,
       late-none _ _,
     )
 
