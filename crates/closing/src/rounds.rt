@@ -1,16 +1,20 @@
-// Closes a table: items of the list are visited, word of ticks by word of ticks, until a round over all of them changes nothing.
+// Closes a table: items of the list are visited, word of ticks by word of ticks, until none is left.
 // Assumes that the words are a program's rows, that the table has them, and that no mark is outside the window.
 use parents::link_rows;
 use work_list::start;
 use working::work_word;
 ghost use mathlib.Core.Path.{_≡_};
-ghost use Prim.Native.Nat.{_+_, _-_, _/_, _<_};
+ghost use mathlib.Core.Bool.{false};
+ghost use mathlib.Core.Logic.{_↔_};
+ghost use Prim.Native.Nat.{ℕ, _+_, _-_, _/_, _≤_, _<_};
+ghost use lib.ListN.{length, getD};
 ghost use Rattle.tilco.specs.Table.{Stands, Inside};
 ghost use Rattle.marking.specs.Codes.{Coded};
 ghost use Rattle.marking.specs.Moves.{Sized};
 ghost use Rattle.closing.specs.Closes.{ClosesAll};
+ghost use Rattle.closing.specs.Rounds.{InColumn, InColumns, turn};
 ghost use Rattle.work_list.specs.Items.{Roomy, Done};
-ghost use Rattle.working.specs.Stretches.{Works, InColumn, AnyItem, turn};
+ghost use Rattle.working.specs.Stretches.{Works};
 ghost use Rattle.parents.specs.Links.{Linked};
 
 // The i-th of m words from below or, if not `up`, from above.
@@ -36,27 +40,22 @@ fn work_column(
     nexts: &[u16],
     todo: &mut [u64],
     marks: &mut [u64],
-) -> u64
+)
     requires { ⌜ Coded count (now rows) ⌝ }
     requires { ⌜ q < n ⌝ }
     requires { ⌜ Linked count (now rows) (now heads) (now nexts) ⌝ }
     requires { ⌜ Roomy count n (now todo) ⌝ }
     requires { ⌜ Sized n count window (now marks) ⌝ }
     requires { ⌜ Inside window (Stands n (now marks)) ⌝ }
-    ensures { λ changed. ⌜ Works count (now (rows .entry)) window n (InColumn q) (now (marks .entry)) (now (marks .exit)) (now (todo .entry)) (now (todo .exit)) changed ⌝ }
+    ensures { λ _. ⌜ Works count (now (rows .entry)) window n (InColumn count q) (now (marks .entry)) (now (marks .exit)) (now (todo .entry)) (now (todo .exit)) ⌝ }
 {
     let stride = (count + 63) / 64;
-    let mut changed: u64 = 0;
     let mut i: usize = 0;
     while i < stride {
         let j = turned(up, stride, i);
-        let c = work_word(rows, count, j, q, n, window, heads, nexts, todo, marks);
-        if c != 0 {
-            changed = 1;
-        }
+        work_word(rows, count, j, q, n, window, heads, nexts, todo, marks);
         i += 1;
     }
-    changed
 }
 
 // Visits the items of every word; `up` is as in `work_column`.
@@ -70,28 +69,38 @@ fn work_round(
     nexts: &[u16],
     todo: &mut [u64],
     marks: &mut [u64],
-) -> u64
+)
     requires { ⌜ Coded count (now rows) ⌝ }
     requires { ⌜ Linked count (now rows) (now heads) (now nexts) ⌝ }
     requires { ⌜ Roomy count n (now todo) ⌝ }
     requires { ⌜ Sized n count window (now marks) ⌝ }
     requires { ⌜ Inside window (Stands n (now marks)) ⌝ }
-    ensures { λ changed. ⌜ Works count (now (rows .entry)) window n AnyItem (now (marks .entry)) (now (marks .exit)) (now (todo .entry)) (now (todo .exit)) changed ⌝ }
+    ensures { λ _. ⌜ Works count (now (rows .entry)) window n (InColumns count n) (now (marks .entry)) (now (marks .exit)) (now (todo .entry)) (now (todo .exit)) ⌝ }
 {
-    let mut changed: u64 = 0;
     let mut q: usize = 0;
     while q < n {
-        let c = work_column(up, rows, count, q, n, window, heads, nexts, todo, marks);
-        if c != 0 {
-            changed = 1;
-        }
+        work_column(up, rows, count, q, n, window, heads, nexts, todo, marks);
         q += 1;
     }
-    changed
 }
 
-// Rounds until one changes nothing: it leaves the list empty, so every row is settled in every word. They go up and down in turn: what
-// goes down from the tops meets so what goes up from the readings.
+// Is an item left in the first m words of the list?
+fn items_left(todo: &[u64], m: usize) -> bool
+    requires { ⌜ m ≤ length (now todo) ⌝ }
+    ensures { λ r. ⌜ (r ≡ false) ↔ ((j : ℕ) → j < m → getD (now (todo .entry)) j 0 ≡ 0) ⌝ }
+{
+    let mut j: usize = 0;
+    while j < m {
+        if todo[j] != 0 {
+            return true;
+        }
+        j += 1;
+    }
+    false
+}
+
+// Rounds until no item is left: every row is settled in every word then. They go up and down in turn: what goes down from the tops meets so what goes up
+// from the readings.
 fn work_off(
     rows: &[u64],
     count: usize,
@@ -109,11 +118,13 @@ fn work_off(
     requires { ⌜ Inside window (Stands n (now marks)) ⌝ }
     ensures { λ _. ⌜ ClosesAll count (now (rows .entry)) window n (now (marks .entry)) (now (marks .exit)) ⌝ }
 {
-    let mut go: u64 = 1;
+    let m = (count + 63) / 64 * n;
+    let mut go = true;
     let mut up = false;
-    while go != 0 {
+    while go {
         up = !up;
-        go = work_round(up, rows, count, n, window, heads, nexts, todo, marks);
+        work_round(up, rows, count, n, window, heads, nexts, todo, marks);
+        go = items_left(todo, m);
     }
 }
 

@@ -1,9 +1,9 @@
 // A visit to a row that is an And, an Or or a Not: its rules at the ticks of one word, once through (they add nothing to it then), and every item
 // that rests on a word that they changed put on the list. A row has `n` words for each value, 64 ticks in each; `q` is the number of a word in a row.
 // Assumes that the words are a program's rows, that the lists of parents are theirs, and that the table and the list of work have them.
-use noting::Outcome;
 use noting::mark_child;
 use noting::mark_own;
+use table_words::Words;
 use table_words::words_at;
 ghost use Prim.Native.Nat.{ℕ, _<_};
 ghost use Rattle.tilco.specs.Inference.{notOf, gate};
@@ -11,7 +11,7 @@ ghost use Rattle.table_words.specs.Gains.{HasRow};
 ghost use Rattle.marking.specs.Codes.{Coded};
 ghost use Rattle.parents.specs.Links.{Linked};
 ghost use Rattle.work_list.specs.Items.{Roomy};
-ghost use Rattle.noting.specs.Visits.{Late, VisitsBy};
+ghost use Rattle.noting.specs.Visits.{VisitsBy};
 
 // A visit to a row that is an And (u is true) or an Or of the rows a and b.
 pub fn visit_gate(
@@ -27,14 +27,13 @@ pub fn visit_gate(
     nexts: &[u16],
     todo: &mut [u64],
     marks: &mut [u64],
-) -> Outcome
+)
     requires { ⌜ Coded count (now rows) ⌝ }
     requires { ⌜ row < count ⌝ }
     requires { ⌜ (q < n) × HasRow n (now marks) row × HasRow n (now marks) a × HasRow n (now marks) b × (a < row) × (b < row) ⌝ }
     requires { ⌜ Linked count (now rows) (now heads) (now nexts) ⌝ }
     requires { ⌜ Roomy count n (now todo) ⌝ }
-    ensures { λ v. ⌜ ((W : ℕ) → VisitsBy (gate u a b) count (now (rows .entry)) row q W n (now (marks .entry)) (now (marks .exit)) (now (todo .entry)) (now (todo .exit)) (v .changed) (v .late)) ⌝ }
-    ensures { λ v. ⌜ Late count (v .changed) (v .late) ⌝ }
+    ensures { λ _. ⌜ ((W : ℕ) → VisitsBy (gate u a b) count (now (rows .entry)) row q W n (now (marks .entry)) (now (marks .exit)) (now (todo .entry)) (now (todo .exit))) ⌝ }
 {
     let r = words_at(marks, n, q, row, u);
     let x = words_at(marks, n, q, a, u);
@@ -43,52 +42,21 @@ pub fn visit_gate(
     let left = x.this | r.this;
     let right = y.this | r.this;
     let part = r.other | x.other | y.other;
-    let c1 = mark_own(
-        count,
-        n,
-        q,
-        row,
-        u,
-        left & right,
-        part,
-        heads,
-        nexts,
-        todo,
-        marks,
-    );
-    let c2 = mark_child(
-        rows,
-        count,
-        n,
-        q,
-        a,
-        u,
-        left,
-        part & right,
-        heads,
-        nexts,
-        todo,
-        marks,
-    );
-    let c3 = mark_child(
-        rows,
-        count,
-        n,
-        q,
-        b,
-        u,
-        right,
-        part & left,
-        heads,
-        nexts,
-        todo,
-        marks,
-    );
-    let changed = c1 + c2 + c3;
-    Outcome {
-        changed,
-        late: count,
-    }
+    let own = Words {
+        this: left & right,
+        other: part,
+    };
+    let first = Words {
+        this: left,
+        other: part & right,
+    };
+    let second = Words {
+        this: right,
+        other: part & left,
+    };
+    mark_own(count, n, q, row, u, own, heads, nexts, todo, marks);
+    mark_child(rows, count, n, q, a, u, first, heads, nexts, todo, marks);
+    mark_child(rows, count, n, q, b, u, second, heads, nexts, todo, marks);
 }
 
 // A visit to a row that is the opposite of the row x, its only child.
@@ -103,47 +71,24 @@ pub fn visit_not(
     nexts: &[u16],
     todo: &mut [u64],
     marks: &mut [u64],
-) -> Outcome
+)
     requires { ⌜ Coded count (now rows) ⌝ }
     requires { ⌜ row < count ⌝ }
     requires { ⌜ (q < n) × HasRow n (now marks) row × HasRow n (now marks) x × (x < row) ⌝ }
     requires { ⌜ Linked count (now rows) (now heads) (now nexts) ⌝ }
     requires { ⌜ Roomy count n (now todo) ⌝ }
-    ensures { λ v. ⌜ ((W : ℕ) → VisitsBy (notOf x) count (now (rows .entry)) row q W n (now (marks .entry)) (now (marks .exit)) (now (todo .entry)) (now (todo .exit)) (v .changed) (v .late)) ⌝ }
-    ensures { λ v. ⌜ Late count (v .changed) (v .late) ⌝ }
+    ensures { λ _. ⌜ ((W : ℕ) → VisitsBy (notOf x) count (now (rows .entry)) row q W n (now (marks .entry)) (now (marks .exit)) (now (todo .entry)) (now (todo .exit))) ⌝ }
 {
     let r = words_at(marks, n, q, row, true);
     let y = words_at(marks, n, q, x, true);
-    let own = mark_own(
-        count,
-        n,
-        q,
-        row,
-        true,
-        y.other,
-        y.this,
-        heads,
-        nexts,
-        todo,
-        marks,
-    );
-    let child = mark_child(
-        rows,
-        count,
-        n,
-        q,
-        x,
-        true,
-        r.other,
-        r.this,
-        heads,
-        nexts,
-        todo,
-        marks,
-    );
-    let changed = own + child;
-    Outcome {
-        changed,
-        late: count,
-    }
+    let own = Words {
+        this: y.other,
+        other: y.this,
+    };
+    let child = Words {
+        this: r.other,
+        other: r.this,
+    };
+    mark_own(count, n, q, row, true, own, heads, nexts, todo, marks);
+    mark_child(rows, count, n, q, x, true, child, heads, nexts, todo, marks);
 }

@@ -1,74 +1,64 @@
-// A visit to a row that looks at another: its rules at the ticks of one word of its child, once through (they add nothing to it then), and every item that
-// rests on a word of the row that they changed put on the list. What they changed in the child's word is left to the caller to note.
+// A visit to a row that looks at another: its rules at the ticks of one word of its child, once through, and every item that rests on a word of the row
+// that they changed put on the list. What they give the child is gathered, for the caller to mark: many looks have one child.
 // Assumes that the words are a program's rows, that the lists of parents are theirs, and that the table and the list of work have them.
-use look_words::given_after;
-use look_words::given_before;
-use noting::Outcome;
+use look_words::join;
+use look_words::lower;
+use look_words::raise;
+use look_words::window_beside;
 use noting::mark_look;
-use table_words::add_words;
+use table_words::Words;
 ghost use mathlib.Core.Path.{_≡_};
-ghost use Prim.Native.Nat.{_+_, _-_, _/_, _<_, _≤_};
-ghost use Rattle.tilco.specs.Inference.{look};
+ghost use mathlib.Core.Bool.{true};
+ghost use Prim.Native.Nat.{ℕ, _+_, _-_, _*_, _/_, _<_, _≤_};
 ghost use Rattle.tilco.specs.Table.{words};
-ghost use Rattle.table_words.specs.Gains.{HasRow};
-ghost use Rattle.marking.specs.Codes.{Coded};
-ghost use Rattle.marking.specs.Settled.{LookIn};
-ghost use Rattle.marking.specs.Moves.{PartWrote, ByNode};
+ghost use Rattle.table_words.specs.Gains.{HasRow, Ticks, Reads};
+ghost use Rattle.marking.specs.Moves.{Gathered};
 ghost use Rattle.parents.specs.Links.{Ended, Linked};
 ghost use Rattle.work_list.specs.Items.{per, Roomy};
-ghost use Rattle.noting.specs.Visits.{Late, EntersIf, LookItems, VisitsBy};
+ghost use Rattle.noting.specs.Visits.{Looks};
+ghost use Rattle.look_visits.specs.Parts.{LooksFrom};
 
-// Whether a word of a look's row and a word of its child changed: 0 if not.
-struct Ends {
-    own: u64,
-    child: u64,
-}
-
-// Of a look's rules those between the child's word q and the row's word q - offset / 64, if there is one: it looks at the lower ticks.
+// Of a look's rules those between the child's word q, which is x, and the row's word q - offset / 64, if there is one: it looks at the lower ticks.
+// `here` are the window's ticks in word q; what the rules give the child is joined to `given`.
 fn look_before(
     count: usize,
     row: usize,
     q: usize,
     n: usize,
     window: usize,
+    here: u64,
     c: usize,
     offset: u64,
+    x: Words,
+    given: Words,
     heads: &[u16],
     nexts: &[u16],
     todo: &mut [u64],
     marks: &mut [u64],
-) -> Ends
+) -> Words
     requires { ⌜ row < count ⌝ }
-    requires { ⌜ (q < n) × HasRow n (now marks) row × HasRow n (now marks) c × (c < row) × (offset ≤ 127) × (n ≡ words window) ⌝ }
+    requires { ⌜ (q < n) × HasRow n (now marks) row × (c < row) × (n ≡ words window) × Ticks q here (λ t. t < window) ⌝ }
+    requires { ⌜ Reads n (now marks) q c true (x .this) (x .other) ⌝ }
     requires { ⌜ Ended count (now heads) (now nexts) ⌝ }
     requires { ⌜ Roomy count n (now todo) ⌝ }
-    ensures { λ x. ⌜ ByNode (look offset c) row (PartWrote row offset c q q (x .child) (x .own)) (λ S. LookIn q q window S row offset c) window n (now (marks .entry)) (now (marks .exit)) (x .child + x .own) ⌝ }
-    ensures { λ x. ⌜ EntersIf (LookItems (per count) (now (heads .entry)) (now (nexts .entry)) n row (q - offset / 64) q) (now (todo .entry)) (now (todo .exit)) (x .own) ⌝ }
-    ensures { λ x. ⌜ (x .child + x .own ≤ 2) × (0 < x .own → offset / 64 ≤ q) ⌝ }
+    ensures { λ g. ⌜ LooksFrom q q count (now (heads .entry)) (now (nexts .entry)) row offset c q window n (Gathered c q (given .this) (given .other)) (Gathered c q (g .this) (g .other)) (now (marks .entry)) (now (marks .exit)) (now (todo .entry)) (now (todo .exit)) ⌝ }
+    ensures { λ _. ⌜ Reads n (now (marks .exit)) q c true (x .this) (x .other) ⌝ }
 {
     let back = (offset / 64) as usize;
-    if offset % 64 == 0 {
-        return Ends { own: 0, child: 0 };
+    let low = offset % 64;
+    if low == 0 {
+        return given;
     }
     if q < back {
-        return Ends { own: 0, child: 0 };
+        return given;
     }
-    let g = given_before(marks, n, q, row, c, offset, window);
-    let own = mark_look(
-        count,
-        n,
-        q - back,
-        q,
-        row,
-        g.own.this,
-        g.own.other,
-        heads,
-        nexts,
-        todo,
-        marks,
-    );
-    let child = add_words(marks, n, q, c, true, g.child.this, g.child.other);
-    Ends { own, child }
+    let p = q - back;
+    let there = window_beside(window, p, q, here);
+    let ticks = raise(x, 64 - low, there);
+    let j = mark_look(count, n, p, q, row, ticks, heads, nexts, todo, marks);
+    let own = j.words;
+    let child = lower(own, 64 - low, here);
+    join(given, child)
 }
 
 // Those between the child's word q and the row's word after that, if there is one: it looks at the upper ticks.
@@ -78,51 +68,39 @@ fn look_after(
     q: usize,
     n: usize,
     window: usize,
+    here: u64,
     c: usize,
     offset: u64,
+    x: Words,
+    given: Words,
     heads: &[u16],
     nexts: &[u16],
     todo: &mut [u64],
     marks: &mut [u64],
-) -> Ends
+) -> Words
     requires { ⌜ row < count ⌝ }
-    requires { ⌜ (q < n) × HasRow n (now marks) row × HasRow n (now marks) c × (c < row) × (offset ≤ 127) × (n ≡ words window) ⌝ }
+    requires { ⌜ (q < n) × HasRow n (now marks) row × (c < row) × (offset ≤ 127) × (n ≡ words window) × Ticks q here (λ t. t < window) ⌝ }
+    requires { ⌜ Reads n (now marks) q c true (x .this) (x .other) ⌝ }
     requires { ⌜ Ended count (now heads) (now nexts) ⌝ }
     requires { ⌜ Roomy count n (now todo) ⌝ }
-    ensures { λ x. ⌜ ByNode (look offset c) row (PartWrote row offset c q (q + 1) (x .child) (x .own)) (λ S. LookIn q (q + 1) window S row offset c) window n (now (marks .entry)) (now (marks .exit)) (x .child + x .own) ⌝ }
-    ensures { λ x. ⌜ EntersIf (LookItems (per count) (now (heads .entry)) (now (nexts .entry)) n row (q + 1 - offset / 64) (q + 2)) (now (todo .entry)) (now (todo .exit)) (x .own) ⌝ }
-    ensures { λ x. ⌜ x .child + x .own ≤ 2 ⌝ }
+    ensures { λ g. ⌜ LooksFrom (q + 1) (q + 2) count (now (heads .entry)) (now (nexts .entry)) row offset c q window n (Gathered c q (given .this) (given .other)) (Gathered c q (g .this) (g .other)) (now (marks .entry)) (now (marks .exit)) (now (todo .entry)) (now (todo .exit)) ⌝ }
+    ensures { λ _. ⌜ Reads n (now (marks .exit)) q c true (x .this) (x .other) ⌝ }
 {
     let p = q + 1 - (offset / 64) as usize;
+    let low = offset % 64;
     if n <= p {
-        return Ends { own: 0, child: 0 };
+        return given;
     }
-    let g = given_after(marks, n, q, row, c, offset, window);
-    let own = mark_look(
-        count,
-        n,
-        p,
-        q + 2,
-        row,
-        g.own.this,
-        g.own.other,
-        heads,
-        nexts,
-        todo,
-        marks,
-    );
-    let child = add_words(marks, n, q, c, true, g.child.this, g.child.other);
-    Ends { own, child }
+    let there = window_beside(window, p, q, here);
+    let ticks = lower(x, low, there);
+    let j = mark_look(count, n, p, q + 2, row, ticks, heads, nexts, todo, marks);
+    let own = j.words;
+    let child = raise(own, low, here);
+    join(given, child)
 }
 
-// Row c, if it is told that it changed, and else none.
-fn left_late(count: usize, c: usize, told: u64) -> usize
-    ensures { λ late. ⌜ (0 < told → late ≡ c) × (told ≡ 0 → late ≡ count) ⌝ }
-{
-    if told == 0 { count } else { c }
-}
-
-// A visit to a row that looks at the row c, at an offset written with 64 added, for the ticks of the child's word q.
+// A visit to a row that looks at the row c, at an offset written with 64 added, for the ticks of the child's word q, which is x. What it gives the child is
+// joined to `given`; `here` are the window's ticks in word q.
 pub fn visit_look(
     rows: &[u64],
     count: usize,
@@ -130,20 +108,23 @@ pub fn visit_look(
     q: usize,
     n: usize,
     window: usize,
+    here: u64,
     c: usize,
     offset: u64,
+    x: Words,
+    given: Words,
     heads: &[u16],
     nexts: &[u16],
     todo: &mut [u64],
     marks: &mut [u64],
-) -> Outcome
-    requires { ⌜ Coded count (now rows) ⌝ }
+) -> Words
     requires { ⌜ row < count ⌝ }
-    requires { ⌜ (q < n) × HasRow n (now marks) row × HasRow n (now marks) c × (c < row) × (offset ≤ 127) × (n ≡ words window) ⌝ }
+    requires { ⌜ (q < n) × HasRow n (now marks) row × (c < row) × (offset ≤ 127) × (n ≡ words window) × Ticks q here (λ t. t < window) ⌝ }
+    requires { ⌜ Reads n (now marks) q c true (x .this) (x .other) ⌝ }
     requires { ⌜ Linked count (now rows) (now heads) (now nexts) ⌝ }
     requires { ⌜ Roomy count n (now todo) ⌝ }
-    ensures { λ v. ⌜ VisitsBy (look offset c) count (now (rows .entry)) row q window n (now (marks .entry)) (now (marks .exit)) (now (todo .entry)) (now (todo .exit)) (v .changed) (v .late) ⌝ }
-    ensures { λ v. ⌜ Late count (v .changed) (v .late) ⌝ }
+    ensures { λ g. ⌜ Looks offset c count (now (rows .entry)) row q window n (Gathered c q (given .this) (given .other)) (Gathered c q (g .this) (g .other)) (now (marks .entry)) (now (marks .exit)) (now (todo .entry)) (now (todo .exit)) ⌝ }
+    ensures { λ _. ⌜ Reads n (now (marks .exit)) q c true (x .this) (x .other) ⌝ }
 {
     let lower = look_before(
         count,
@@ -151,28 +132,30 @@ pub fn visit_look(
         q,
         n,
         window,
+        here,
         c,
         offset,
+        x,
+        given,
         heads,
         nexts,
         todo,
         marks,
     );
-    let upper = look_after(
+    look_after(
         count,
         row,
         q,
         n,
         window,
+        here,
         c,
         offset,
+        x,
+        lower,
         heads,
         nexts,
         todo,
         marks,
-    );
-    let child = lower.child + upper.child;
-    let changed = child + lower.own + upper.own;
-    let late = left_late(count, c, child);
-    Outcome { changed, late }
+    )
 }

@@ -10,7 +10,7 @@ use lib.ListN.{length, getD, List·getD-eq-default}
 use Rattle.ticks.proofs.Bits.{lt-or-ge}
 use Rattle.tilco.specs.Inference.{Node, signal, notOf, gate, look, Program, node}
 use Rattle.tilco.specs.Table.{words}
-use Rattle.rows.specs.Words.{unpacked}
+use Rattle.rows.specs.Words.{unpacked, rowAt}
 use Rattle.marking.specs.Codes.{Fine, Codes, Coded}
 use Rattle.table_words.specs.Gains.{HasRow}
 use Rattle.marking.specs.Moves.{Sized}
@@ -49,6 +49,10 @@ signal-kind (suc (suc zero)) a b e = absurd (subst Ruled e tt)
 signal-kind (suc (suc (suc zero))) a b e = absurd (subst Ruled e tt)
 signal-kind (suc (suc (suc (suc k)))) a b e = absurd (subst Ruled e tt)
 
+-- A look's word starts with its kind and its child.
+pub look-start : (w : ℕ) → w % 8 ≡ 3 → w % 524288 ≡ 8 * (w % 524288 / 8) + 3
+look-start w e = omega arith
+
 module _ (count : ℕ) (B : List ℕ) (r : ℕ) where
   -- the kind and the two numbers of the row's word
   abbrev pub kind : ℕ
@@ -74,6 +78,17 @@ module _ (count : ℕ) (B : List ℕ) (r : ℕ) where
     where
       past-rows : count ≤ r → node (c .program) r ≡ signal
       past-rows l = List·getD-eq-default (c .program .rows) signal (omega (arith, c .codes .rows-are))
+
+  -- A look at row c, told by the start of its word: its kind and its child.
+  module _ (c : ℕ) (e : getD B r 0 % 524288 ≡ 8 * c + 3) where
+    pub look-kind : kind ≡ 3
+    look-kind = omega arith
+
+    pub look-child : left ≡ c
+    look-child = omega arith
+
+    pub look-row : rowAt B r ≡ look right c
+    look-row = ap (λ (z : ℕ). unpacked z left right) look-kind ∙ ap (look right) look-child
 
   fine-as : (k : ℕ) → kind ≡ k → Coded count B → Fine r (unpacked k left right)
   fine-as k e c = subst (Fine r) (node-as k e (c .program) (c .codes)) (c .codes .fine r)

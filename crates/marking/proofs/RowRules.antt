@@ -4,17 +4,18 @@ use mathlib.Core.Path.{_≡_, refl, sym, subst₂}
 use mathlib.Core.Bool.{Bool, true, false, not}
 use mathlib.Core.List.{List}
 use mathlib.Core.Logic.{_⊎_, inl, inr, ⊎-elim}
-use Prim.Native.Nat.{ℕ, _+_, _/_, _<_}
+use Prim.Native.Nat.{ℕ, _+_, _/_, _%_, _<_}
 use native.Mathlib.Omega.{arith}
 use lib.Bits.{bitAnd, bitOr}
-use Rattle.ticks.proofs.Bits.{lt-or-ge}
+use Rattle.ticks.proofs.Bits.{lt-or-ge, or-left, or-right, or-out}
 use Rattle.tilco.specs.Inference.{notOf, gate, look, Program, Mark, mark, Marks, Shifted, down-left, down-right, up-left, up-right, look-down, look-up, not-down, not-up, up-both, rest-right, rest-left, Derives, start, one, two, _or_}
 use Rattle.tilco.specs.Table.{Stands}
-use Rattle.table_words.specs.Gains.{Ticks, Here, Sides, Reads, Bits, Joins}
-use Rattle.marking.specs.Settled.{SettledIn, LookIn, FromChild, FromLook}
-use Rattle.marking.specs.Moves.{Moves, Wrote, GateWrote, PartWrote, LookWrote, Gives, ByNode}
+use Rattle.tilco.proofs.Derives.{cut}
+use Rattle.table_words.specs.Gains.{Ticks, Sides, Reads, Bits, Joins}
+use Rattle.marking.specs.Settled.{SettledTo, SettledIn, LookTo, FromChild, FromLook}
+use Rattle.marking.specs.Moves.{Moves, Wrote, WroteBefore, GateWrote, LookWrote, Gives, Gathered, ByNode, ByLook}
 use Rattle.table_words.proofs.OneWord.{both-ticks, either-ticks}
-use Rattle.table_words.proofs.Gaining.{sides-as}
+use Rattle.table_words.proofs.Gaining.{here-as, sides-as}
 use Rattle.marking.proofs.Moving.{idle, weaker, then, keeps-inside, joins-move}
 use Rattle.marking.proofs.Settling.{ran, turned, Whole, Part, gate-in, by-value, not-in, look-in}
 
@@ -82,12 +83,12 @@ module _ (n q : ℕ) (T₀ T₁ T₂ T₃ : List ℕ) (r a b : ℕ) (u : Bool) (
   right-joins : Joins n (Sides b u q Right (λ t. Any t × Left t)) T₂ T₃ z
   right-joins = sides-as b u q right (bitAnd part left) Right (λ t. Any t × Left t) rights (both-ticks q part left Any Left parts lefts) k
 
-  pub gate-steps : (W : ℕ) → ByNode (gate u a b) r (GateWrote r a b q x y z) (λ S. SettledIn q W S r (gate u a b)) W n T₀ T₃ (x + y + z)
+  pub gate-steps : (W : ℕ) → ByNode (gate u a b) r (GateWrote r a b q x y z) (λ S. SettledIn q W S r (gate u a b)) W n T₀ T₃ (x + (y + z))
   gate-steps W P e inside =
       let m₁ = word-moves n P W q T₀ r u (λ t. Left t × Right t) Any (λ m h. h) row-joins (λ t h. two (up-both e) (of-left t (h .0)) (of-right t (h .1))) of-any in
       let m₂ = word-moves n P W q T₀ a u Left (λ t. Any t × Right t) (m₁ .grows) left-joins of-left (λ t h. two (rest-left e) (of-any t (h .0)) (of-right t (h .1))) in
       let m₃ = word-moves n P W q T₀ b u Right (λ t. Any t × Left t) (λ m h. m₂ .grows m (m₁ .grows m h)) right-joins of-right (λ t h. two (rest-right e) (of-any t (h .0)) (of-left t (h .1))) in (
-        weaker n P W (x + y + z) (omega arith) (λ m h. h) (then n P W m₁ (then n P W m₂ m₃)),
+        then n P W m₁ (then n P W m₂ m₃),
         gate-in (above la) (above lb) (ran n T₀ T₁ q r u (λ t. Left t × Right t) Any x row-joins) (ran n T₁ T₂ q a u Left (λ t. Any t × Right t) y left-joins)
             (ran n T₂ T₃ q b u Right (λ t. Any t × Left t) z right-joins),
       )
@@ -125,77 +126,90 @@ module _ (n q : ℕ) (T₀ T₁ T₂ : List ℕ) (r c x y : ℕ) (l : c < r) {r�
       (then n P W m k, λ t v o. by-value (Opposite t) (not-in (above l) f g t o) (not-in (above l) (turned f) (turned g) t o) v)
 
 -- ---- a look: row r has at a tick what row c has at the offset o from it, written with 64 added
--- Its rules between its word p and its child's word q, which the row's ticks of word p look at.
-module _ (n q e p r c o W : ℕ) (T₀ T₁ T₂ : List ℕ) (x y : ℕ) (l : c < r) (at : e ≡ p + o / 64) where
+
+-- What was gathered for word q of row c, in the words g and g₀, with the words b and b₀ joined to them, whose ticks are U.
+module _ (c q g g₀ b b₀ : ℕ) (U : Bool → ℕ → Type 0) (f : Gives q U b b₀) where
+  abbrev More : Marks
+  More = Gathered c q (bitOr g b) (bitOr g₀ b₀)
+
+  kept-there : (m : Mark) → Gathered c q g g₀ m → More m
+  kept-there (mark z t v) = ⊎-elim (λ h. inl (h .0, h .1, h .2, or-left g b (t % 64) (h .3))) (λ h. inr (h .0, h .1, h .2, or-left g₀ b₀ (t % 64) (h .3)))
+
+  joined-there : (t : ℕ) (v : Bool) → t / 64 ≡ q → U v t → More (mark c t v)
+  joined-there t true e h = inl (refl, refl, e, or-right g b (t % 64) (here-as c true q b (U true) (f .this) (mark c t true) .1 (refl, refl, e, h) .3))
+  joined-there t false e h = inr (refl, refl, e, or-right g₀ b₀ (t % 64) (here-as c false q b₀ (U false) (f .other) (mark c t false) .1 (refl, refl, e, h) .3))
+
+  old-or-joined : (m : Mark) → More m → Gathered c q g g₀ m ⊎ Sides c true q (U true) (U false) m
+  old-or-joined (mark z t v) =
+      ⊎-elim (λ h. ⊎-elim (λ k. inl (inl (h .0, h .1, h .2, k))) (λ k. inr (inl (here-as c true q b (U true) (f .this) (mark z t v) .0 (h .0, h .1, h .2, k)))) (or-out g b (t % 64) (h .3)))
+      (λ h. ⊎-elim (λ k. inl (inr (h .0, h .1, h .2, k))) (λ k. inr (inr (here-as c false q b₀ (U false) (f .other) (mark z t v) .0 (h .0, h .1, h .2, k)))) (or-out g₀ b₀ (t % 64) (h .3)))
+
+-- Its rules between its word p and its child's word q, which the row's ticks of word p look at: the row has its child's ticks, in the words a and a₀,
+-- and what it has then is gathered for the child, in the words b and b₀.
+module _ (n q e p r c o W : ℕ) (T T′ : List ℕ) (x : ℕ) (l : c < r) (at : e ≡ p + o / 64) where
   abbrev Up : Bool → ℕ → Type 0
-  Up = FromChild W (Stands n T₀) o c q
+  Up = FromChild W (Stands n T) o c q
 
   abbrev Down : Bool → ℕ → Type 0
-  Down = FromLook W (Stands n T₀) o r p
+  Down = FromLook W (Stands n T′) o r p
 
-  abbrev Same : ℕ → ℕ → Bool → Type 0
-  Same t s v = (Stands n T₂ (mark r t v) → Stands n T₂ (mark c s v)) × (Stands n T₂ (mark c s v) → Stands n T₂ (mark r t v))
-
-  joined-part : Joins n (Sides r true p (Up true) (Up false)) T₀ T₁ y → Joins n (Sides c true q (Down true) (Down false)) T₁ T₂ x
-      → ByNode (look o c) r (PartWrote r o c q e x y) (λ S. LookIn q e W S r o c) W n T₀ T₂ (x + y)
-  joined-part i j P d inside =
-      let m = sides-move n P W p T₀ r true (Up true) (Up false) (λ m h. h) i (rises true) (rises false) in
-      let g = sides-move n P W q T₀ c true (Down true) (Down false) (m .grows) j (falls true) (falls false) in
-      let f = ran n T₀ T₁ p r true (Up true) (Up false) y i in
-      let h = ran n T₁ T₂ q c true (Down true) (Down false) x j in (
-        weaker n P W (x + y) (omega arith) wrote (then n P W m g),
-        λ t s v a b z k w. let u : t / 64 ≡ p = omega arith in
-            by-value (Same t s) (look-in o W (above l) f h t s a b z u k) (look-in o W (above l) (turned f) (turned h) t s a b z u k) v,
+  pub part-steps : (g g₀ : ℕ) {a a₀ b b₀ : ℕ} → Gives p Up a a₀ → Joins n (Sides r true p (Bits a) (Bits a₀)) T T′ x → Gives q Down b b₀
+      → ByLook o c r (WroteBefore r (o / 64) e x) (λ S. LookTo (Gathered c q (bitOr g b) (bitOr g₀ b₀)) q e W S r o c) (Gathered c q g g₀) (Gathered c q (bitOr g b) (bitOr g₀ b₀)) W n T T′ x
+  part-steps g g₀ {a} {a₀} {b} {b₀} f j h P d inside =
+      let i = sides-as r true p a a₀ (Up true) (Up false) (f .this) (f .other) j in
+      let m = sides-move n P W p T r true (Up true) (Up false) (λ m k. k) i (rises true) (rises false) in
+      let ran-up = ran n T T′ p r true (Up true) (Up false) x i in (
+        weaker n P W x refl wrote m,
+        λ t s v y z w k u. let word : t / 64 ≡ p = omega arith in (
+          λ have. joined-there c q g g₀ b b₀ Down h s v k (w, (t, word, y, have)),
+          by-value (λ v. Stands n T′ (mark c s v) → Stands n T′ (mark r t v)) (look-in o W (above l) ran-up t s y z word k) (look-in o W (above l) (turned ran-up) t s y z word k) v,
+        ),
+        record {
+          grows = kept-there c q g g₀ b b₀ Down h;
+          sound = λ k i. ⊎-elim inl (λ y. inr (falls m k y)) (old-or-joined c q g g₀ b b₀ Down h k i);
+        },
       )
     where
-      rises : (v : Bool) (t : ℕ) → Up v t → Derives P W (Stands n T₀) (mark r t v)
+      rises : (v : Bool) (t : ℕ) → Up v t → Derives P W (Stands n T) (mark r t v)
       rises v t h = one (look-up {t = t} {s = h .1 .0} d (h .1 .2) (h .0) (inside c (h .1 .0) v (h .1 .3))) (start (h .1 .3))
 
-      falls : (v : Bool) (s : ℕ) → Down v s → Derives P W (Stands n T₀) (mark c s v)
-      falls v s h = one (look-down {t = h .1 .0} {s = s} d (h .1 .2) (inside r (h .1 .0) v (h .1 .3)) (h .0)) (start (h .1 .3))
+      wrote : (m : Mark) → Sides r true p (Up true) (Up false) m × (0 < x) → WroteBefore r (o / 64) e x m
+      wrote (mark z t v) h = ⊎-elim (λ k. (k .0, omega (arith, k .2), h .1)) (λ k. (k .0, omega (arith, k .2), h .1)) (h .0)
 
-      own-told : (v w : Bool) (t z : ℕ) → Here r v p (Up v) (mark z t w) → 0 < y → PartWrote r o c q e x y (mark z t w)
-      own-told v w t z h a = inr (h .0, omega (arith, h .2), a)
+      falls : {A : Marks} → Moves n P W A T T′ x → (m : Mark) → Sides c true q (Down true) (Down false) m → Derives P W (Stands n T) m
+      falls m (mark z s v) = ⊎-elim (λ h. as-mark (h .0) (h .1) (down true (h .3))) (λ h. as-mark (h .0) (h .1) (down false (h .3)))
+        where
+          as-mark : {w : Bool} → z ≡ c → v ≡ w → Derives P W (Stands n T) (mark c s w) → Derives P W (Stands n T) (mark z s v)
+          as-mark y k i = subst₂ (λ (a : ℕ) (b : Bool). Derives P W (Stands n T) (mark a s b)) (sym y) (sym k) i
 
-      child-told : (v w : Bool) (t z : ℕ) → Here c v q (Down v) (mark z t w) → 0 < x → PartWrote r o c q e x y (mark z t w)
-      child-told v w t z h a = inl (h .0, h .2, (λ s g. omega (arith, h .3 .1 .1, h .3 .1 .2, g)), a)
-
-      wrote : (m : Mark) → (_or_ (λ m. Sides r true p (Up true) (Up false) m × (0 < y)) (λ m. Sides c true q (Down true) (Down false) m × (0 < x))) m → PartWrote r o c q e x y m
-      wrote (mark z t v) =
-          ⊎-elim (λ h. ⊎-elim (λ g. own-told true v t z g (h .1)) (λ g. own-told false v t z g (h .1)) (h .0))
-          (λ h. ⊎-elim (λ g. child-told true v t z g (h .1)) (λ g. child-told false v t z g (h .1)) (h .0))
-
-  -- As the code joins the words that it made.
-  pub part-steps : {a a₀ b b₀ : ℕ} → Gives W (Stands n T₀) r o c p q a a₀ b b₀ → Joins n (Sides r true p (Bits a) (Bits a₀)) T₀ T₁ y
-      → Joins n (Sides c true q (Bits b) (Bits b₀)) T₁ T₂ x → ByNode (look o c) r (PartWrote r o c q e x y) (λ S. LookIn q e W S r o c) W n T₀ T₂ (x + y)
-  part-steps {a} {a₀} {b} {b₀} g i j =
-      joined-part (sides-as r true p a a₀ (Up true) (Up false) (g .to-look) (g .to-look-other) i)
-      (sides-as c true q b b₀ (Down true) (Down false) (g .to-child) (g .to-child-other) j)
+          down : (w : Bool) → Down w s → Derives P W (Stands n T) (mark c s w)
+          down w h = one (look-down {t = h .1 .0} {s = s} d (h .1 .2) (keeps-inside n P W m inside r (h .1 .0) w (h .1 .3)) (h .0)) (m .sound (mark r (h .1 .0) w) (h .1 .3))
 
 -- No tick of the child's word q is looked at from the word e - o / 64.
-pub no-steps : (n q : ℕ) (T : List ℕ) (r c o W e : ℕ) → ((t s : ℕ) → Shifted t o s → t < W → s / 64 ≡ q → e ≡ t / 64 + o / 64 → ⊥)
-    → ByNode (look o c) r (PartWrote r o c q e 0 0) (λ S. LookIn q e W S r o c) W n T T 0
-no-steps n q T r c o W e f P g inside = (idle n P W (PartWrote r o c q e 0 0) T, λ t s v d a b h k. absurd (f t s d a h k))
+pub no-steps : (n q : ℕ) (T : List ℕ) (r c o W e : ℕ) (G : Marks) → ((t s : ℕ) → Shifted t o s → t < W → s / 64 ≡ q → e ≡ t / 64 + o / 64 → ⊥)
+    → ByLook o c r (WroteBefore r (o / 64) e 0) (λ S. LookTo G q e W S r o c) G G W n T T 0
+no-steps n q T r c o W e G f P g inside =
+    (idle n P W (WroteBefore r (o / 64) e 0) T, λ t s v d a b h k. absurd (f t s d a h k), record { grows = λ m h. h; sound = λ m h. inl h })
 
 -- A look's rules: what the row's later word looks at is apart from what the earlier one looks at.
-pub look-steps : (n q : ℕ) (T₀ T₁ T₂ : List ℕ) (r c o W x y x′ y′ : ℕ) → c < r
-    → ByNode (look o c) r (PartWrote r o c q q x y) (λ S. LookIn q q W S r o c) W n T₀ T₁ (x + y)
-    → ByNode (look o c) r (PartWrote r o c q (q + 1) x′ y′) (λ S. LookIn q (q + 1) W S r o c) W n T₁ T₂ (x′ + y′)
-    → ByNode (look o c) r (LookWrote r o c q (x + x′) y y′) (λ S. SettledIn q W S r (look o c)) W n T₀ T₂ (x + x′ + y + y′)
-look-steps n q T₀ T₁ T₂ r c o W x y x′ y′ l f g P e inside =
+pub look-steps : (n q : ℕ) (T₀ T₁ T₂ : List ℕ) (r c o W x y : ℕ) (G G′ G″ : Marks) → c < r
+    → ByLook o c r (WroteBefore r (o / 64) q x) (λ S. LookTo G′ q q W S r o c) G G′ W n T₀ T₁ x
+    → ByLook o c r (WroteBefore r (o / 64) (q + 1) y) (λ S. LookTo G″ q (q + 1) W S r o c) G′ G″ W n T₁ T₂ y
+    → ByLook o c r (LookWrote r (o / 64) q x y) (λ S. SettledTo G″ q W S r (look o c)) G G″ W n T₀ T₂ (x + y)
+look-steps n q T₀ T₁ T₂ r c o W x y G G′ G″ l f g P e inside =
     let m = f P e inside in
     let k = g P e (keeps-inside n P W (m .0) inside) in (
-      weaker n P W (x + x′ + y + y′) (omega arith) wrote (then n P W (m .0) (k .0)),
+      then n P W (m .0) (k .0),
       λ t s v d a b h. ⊎-elim (λ i. let z = m .1 t s v d a b h i in (
-        λ j. k .0 .grows (mark c s v) (z .0 (⊎-elim (λ u. u) (λ u. absurd (⊎-elim (λ w. above l (w .0)) (λ w. omega (arith, w .1)) u)) (k .0 .only (mark r t v) j))),
-        λ j. k .0 .grows (mark r t v) (z .1 (⊎-elim (λ u. u) (λ u. absurd (⊎-elim (λ w. omega (arith, w .2 t d)) (λ w. above l (sym (w .0))) u)) (k .0 .only (mark c s v) j))),
+        λ j. k .2 .grows (mark c s v) (z .0 (⊎-elim (λ u. u) (λ u. absurd (omega (arith, u .1))) (k .0 .only (mark r t v) j))),
+        λ j. k .0 .grows (mark r t v) (z .1 (⊎-elim (λ u. u) (λ u. absurd (above l (sym (u .0)))) (k .0 .only (mark c s v) j))),
       )) (λ i. k .1 t s v d a b h i) (word t s d h),
+      record {
+        grows = λ i j. k .2 .grows i (m .2 .grows i j);
+        sound = λ i j. ⊎-elim (m .2 .sound i) (λ u. inr (cut (m .0 .sound) u)) (k .2 .sound i j);
+      },
     )
   where
     -- the word of a tick that looks at one of word q
     word : (t s : ℕ) → Shifted t o s → s / 64 ≡ q → (q ≡ t / 64 + o / 64) ⊎ (q + 1 ≡ t / 64 + o / 64)
     word t s d h = ⊎-elim (λ z. inl (omega arith)) (λ z. inr (omega arith)) (lt-or-ge (t / 64 + o / 64) (q + 1))
-
-    wrote : (m : Mark) → (_or_ (PartWrote r o c q q x y) (PartWrote r o c q (q + 1) x′ y′)) m → LookWrote r o c q (x + x′) y y′ m
-    wrote (mark z t v) =
-        ⊎-elim (⊎-elim (λ h. inl (h .0, h .1, omega (arith, h .3))) (λ h. inr (inl h))) (⊎-elim (λ h. inl (h .0, h .1, omega (arith, h .3))) (λ h. inr (inr h)))

@@ -11,7 +11,7 @@ use Rattle.tilco.specs.Table.{Stands}
 use Rattle.tilco.proofs.Closing.{GateSettled}
 use Rattle.table_words.specs.Gains.{Sides, Joins}
 use Rattle.table_words.proofs.Gaining.{not-apart}
-use Rattle.marking.specs.Settled.{FromChild, FromLook}
+use Rattle.marking.specs.Settled.{FromChild}
 
 -- The marks S′ are those of S, and row r's in word q: of value u at the ticks U, of the other value at the ticks N.
 pub record Ran (q r : ℕ) (u : Bool) (U N : ℕ → Type 0) (S S′ : Marks) : Type 0 where
@@ -104,16 +104,7 @@ not-in {q} {r} {c} {v} {S₀} {S₁} {S₂} d i j t e = (
     later : (m : Mark) → S₀ m → S₂ m
     later m h = j .grown m (i .grown m h)
 
--- A look's rules, for one value: the row gains what its child has, and the child what the row has.
-pub look-in : (k W : ℕ) {p q r c : ℕ} {v : Bool} {M N : ℕ → Type 0} {S₀ S₁ S₂ : Marks} → (r ≡ c → ⊥)
-    → Ran p r v (FromChild W S₀ k c q v) M S₀ S₁ → Ran q c v (FromLook W S₀ k r p v) N S₁ S₂
-    → (t s : ℕ) → Shifted t k s → t < W → s < W → t / 64 ≡ p → s / 64 ≡ q → (S₂ (mark r t v) → S₂ (mark c s v)) × (S₂ (mark c s v) → S₂ (mark r t v))
-look-in k W {p} {q} {r} {c} {v} {S₀ = S₀} {S₁} {S₂} d i j t s e l m f g = (
-  λ h. ⊎-elim (λ x. j .given s g (m, (t, f, e, x)))
-      (λ x. later c s (omega (arith, x .1 .1 .2, e)) (x .1 .1 .3)) (i .back r t (kept j r t d h)),
-  λ h. ⊎-elim (λ x. j .grown (mark r t v) (i .given t f (l, (s, g, e, kept i c s (λ z. d (sym z)) x))))
-      (λ x. later r t (omega (arith, x .1 .1 .2, e)) (x .1 .1 .3)) (j .back c s h),
-)
-  where
-    later : (z t : ℕ) {y : ℕ} → y ≡ t → S₀ (mark z y v) → S₂ (mark z t v)
-    later z t o h = j .grown (mark z t v) (i .grown (mark z t v) (subst (λ (y : ℕ). S₀ (mark z y v)) o h))
+-- A look's row, which gained what its child has, for one value.
+pub look-in : (k W : ℕ) {p q r c : ℕ} {v : Bool} {M : ℕ → Type 0} {S S′ : Marks} → (r ≡ c → ⊥) → Ran p r v (FromChild W S k c q v) M S S′
+    → (t s : ℕ) → Shifted t k s → t < W → t / 64 ≡ p → s / 64 ≡ q → S′ (mark c s v) → S′ (mark r t v)
+look-in k W {c = c} d i t s e l f g h = i .given t f (l, (s, g, e, kept i c s (λ z. d (sym z)) h))

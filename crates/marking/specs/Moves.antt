@@ -2,15 +2,14 @@
 -- n is how many words a row has for each value, q a word of a row, W the window, T the table before and T′ after. A number that tells
 -- of a change is 0 if there is none.
 use mathlib.Core.Path.{_≡_}
-use mathlib.Core.Bool.{true, false}
+use mathlib.Core.Bool.{Bool, true, false}
 use mathlib.Core.List.{List}
 use mathlib.Core.Logic.{_⊎_}
 use Prim.Native.Nat.{ℕ, _+_, _*_, _/_, _≤_, _<_}
 use lib.ListN.{length}
-use Rattle.tilco.specs.Inference.{Node, Program, node, Mark, mark, Marks, Shifted, Derives, _or_}
+use Rattle.tilco.specs.Inference.{Node, look, Program, node, Mark, mark, Marks, Derives, _or_}
 use Rattle.tilco.specs.Table.{words, Stands, Inside}
-use Rattle.table_words.specs.Gains.{Ticks, room}
-use Rattle.marking.specs.Settled.{FromChild, FromLook}
+use Rattle.table_words.specs.Gains.{Ticks, Sides, Bits, room}
 
 -- Nothing is lost, all that is new follows and is among the marks A; if nothing changed the table is the same, else its words have less
 -- room to grow.
@@ -34,22 +33,29 @@ WroteBefore x h e told (mark y t v) = (y ≡ x) × (e ≡ t / 64 + h) × (0 < to
 abbrev pub GateWrote : ℕ → ℕ → ℕ → ℕ → ℕ → ℕ → ℕ → Marks
 GateWrote r a b q row left right = _or_ (Wrote r q row) (_or_ (Wrote a q left) (Wrote b q right))
 
--- Of a look of row r at row c with the offset k: the marks in c's word q at ticks that r's word e - k / 64 looks at, and in that word.
-abbrev pub PartWrote : ℕ → ℕ → ℕ → ℕ → ℕ → ℕ → ℕ → Marks
-PartWrote r k c q e child own (mark z t v) =
-    ((z ≡ c) × (t / 64 ≡ q) × ((s : ℕ) → Shifted s k t → e ≡ s / 64 + k / 64) × (0 < child)) ⊎ ((z ≡ r) × (e ≡ t / 64 + k / 64) × (0 < own))
+-- The marks of a look's row r in the words that look at its child's word q, as far as they are told to have changed; h is its offset / 64.
+abbrev pub LookWrote : ℕ → ℕ → ℕ → ℕ → ℕ → Marks
+LookWrote r h q before after = _or_ (WroteBefore r h q before) (WroteBefore r h (q + 1) after)
 
--- Of a look: the marks in its child's word q and in its own words that look at that word.
-abbrev pub LookWrote : ℕ → ℕ → ℕ → ℕ → ℕ → ℕ → ℕ → Marks
-LookWrote r k c q child before after = _or_ (Wrote c q child) (_or_ (WroteBefore r (k / 64) q before) (WroteBefore r (k / 64) (q + 1) after))
+-- The words v and w have, as word q, the ticks U of true and of false.
+pub record Gives (q : ℕ) (U : Bool → ℕ → Type 0) (v w : ℕ) : Type 0 where
+  pub this : Ticks q v (U true)
+  pub other : Ticks q w (U false)
 
--- The words that the rules of row r, which looks at row c with the offset k, make of the marks S: for word p of r and for word q of c, of
--- true and of false.
-pub record Gives (W : ℕ) (S : Marks) (r k c p q own own-other child child-other : ℕ) : Type 0 where
-  pub to-look : Ticks p own (FromChild W S k c q true)
-  pub to-look-other : Ticks p own-other (FromChild W S k c q false)
-  pub to-child : Ticks q child (FromLook W S k r p true)
-  pub to-child-other : Ticks q child-other (FromLook W S k r p false)
+-- Ticks gathered for word q of row c, of true and of false.
+abbrev pub Gathered : ℕ → ℕ → ℕ → ℕ → Marks
+Gathered c q v w = Sides c true q (Bits v) (Bits w)
+
+-- More was gathered: nothing is lost from the marks G, and what is new follows from S.
+pub record Gathers (P : Program) (W : ℕ) (S G G′ : Marks) : Type 0 where
+  pub grows : (m : Mark) → G m → G′ m
+  pub sound : (m : Mark) → G′ m → G m ⊎ Derives P W S m
+
+-- What a look's visit does, or a part of it, for every program in which row r looks at row c with the offset k: only the marks A are new, C holds
+-- of the marks then, and what the look gives its child is gathered.
+abbrev pub ByLook : ℕ → ℕ → ℕ → Marks → (Marks → Type 0) → Marks → Marks → ℕ → ℕ → List ℕ → List ℕ → ℕ → Type 0
+ByLook k c r A C G G′ W n T T′ changed =
+    (P : Program) → node P r ≡ look k c → Inside W (Stands n T) → Moves n P W A T T′ changed × C (Stands n T′) × Gathers P W (Stands n T) G G′
 
 -- What a function does for every program in which row r is the node d: only the marks A are new, and C holds of the marks then.
 abbrev pub ByNode : Node → ℕ → Marks → (Marks → Type 0) → ℕ → ℕ → List ℕ → List ℕ → ℕ → Type 0

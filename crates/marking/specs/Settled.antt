@@ -9,13 +9,17 @@ use Rattle.tilco.specs.Inference.{Node, signal, notOf, gate, look, mark, Marks,
 use Rattle.tilco.specs.Table.{Stands}
 use Rattle.tilco.proofs.Closing.{GateSettled}
 
--- The rules of row r, by its node, add nothing to the ticks of word q; a look's ticks are its child's.
+-- The rules of row r, by its node, add nothing to the ticks of word q, and what a look gives its child is among C; a look's ticks are its child's.
+abbrev pub SettledTo : Marks → ℕ → ℕ → Marks → ℕ → Node → Type 0
+SettledTo C q W S r signal = Unit {0}
+SettledTo C q W S r (notOf x) = (t : ℕ) (v : Bool) → t / 64 ≡ q → (S (mark r t v) → S (mark x t (not v))) × (S (mark x t v) → S (mark r t (not v)))
+SettledTo C q W S r (gate u a b) = (t : ℕ) → t / 64 ≡ q → GateSettled S u r a b t
+SettledTo C q W S r (look k c) =
+    (t s : ℕ) (v : Bool) → Shifted t k s → t < W → s < W → s / 64 ≡ q → (S (mark r t v) → C (mark c s v)) × (S (mark c s v) → S (mark r t v))
+
+-- They add nothing to them at all.
 abbrev pub SettledIn : ℕ → ℕ → Marks → ℕ → Node → Type 0
-SettledIn q W S r signal = Unit {0}
-SettledIn q W S r (notOf x) = (t : ℕ) (v : Bool) → t / 64 ≡ q → (S (mark r t v) → S (mark x t (not v))) × (S (mark x t v) → S (mark r t (not v)))
-SettledIn q W S r (gate u a b) = (t : ℕ) → t / 64 ≡ q → GateSettled S u r a b t
-SettledIn q W S r (look k c) =
-    (t s : ℕ) (v : Bool) → Shifted t k s → t < W → s < W → s / 64 ≡ q → (S (mark r t v) → S (mark c s v)) × (S (mark c s v) → S (mark r t v))
+SettledIn q W S r d = SettledTo S q W S r d
 
 -- Whether row r's rules add something to word q rests on word p of row x. A look's offset k is written with 64 added (1..127), so
 -- the ticks of its word p look at its child's words p + k / 64 - 1 and p + k / 64.
@@ -29,10 +33,10 @@ Rests (look k c) r q x p = ((x ≡ c) × (p ≡ q)) ⊎ ((x ≡ r) × ((q ≡ p 
 abbrev pub SameWord : ℕ → List ℕ → List ℕ → ℕ → ℕ → Type 0
 SameWord n T T′ x p = (t : ℕ) (v : Bool) → t / 64 ≡ p → Stands n T′ (mark x t v) → Stands n T (mark x t v)
 
--- Row r looks at row c with the offset k: at the ticks of c's word q they have the same values, where r's tick is in the word e - k / 64.
-abbrev pub LookIn : ℕ → ℕ → ℕ → Marks → ℕ → ℕ → ℕ → Type 0
-LookIn q e W S r k c =
-    (t s : ℕ) (v : Bool) → Shifted t k s → t < W → s < W → s / 64 ≡ q → e ≡ t / 64 + k / 64 → (S (mark r t v) → S (mark c s v)) × (S (mark c s v) → S (mark r t v))
+-- The same of a look of row r at row c with the offset k, where r's tick is in the word e - k / 64.
+abbrev pub LookTo : Marks → ℕ → ℕ → ℕ → Marks → ℕ → ℕ → ℕ → Type 0
+LookTo C q e W S r k c =
+    (t s : ℕ) (v : Bool) → Shifted t k s → t < W → s < W → s / 64 ≡ q → e ≡ t / 64 + k / 64 → (S (mark r t v) → C (mark c s v)) × (S (mark c s v) → S (mark r t v))
 
 -- The ticks t at which a look has the value v by word q of its child's row c; k is its offset.
 abbrev pub FromChild : ℕ → Marks → ℕ → ℕ → ℕ → Bool → ℕ → Type 0

@@ -5,17 +5,16 @@ use mathlib.Core.List.{List}
 use mathlib.Core.Logic.{_⊎_, inl, inr, ⊎-elim}
 use Prim.Native.Nat.{ℕ, _+_, _*_, _/_, _%_, _<_}
 use native.Mathlib.Omega.{arith}
-use Rattle.ticks.proofs.Bits.{lt-or-ge}
 use Rattle.rows.specs.Words.{rowAt}
-use Rattle.tilco.specs.Inference.{Node, look, mark, Marks, _or_}
+use Rattle.tilco.specs.Inference.{Node, look, Program, node, mark, Marks, _or_}
 use Rattle.tilco.specs.Table.{Stands}
-use Rattle.marking.specs.Settled.{SettledIn, Rests}
-use Rattle.marking.specs.Moves.{Wrote, WroteBefore, LookWrote, ByNode}
+use Rattle.marking.specs.Settled.{SettledTo, SettledIn, Rests}
+use Rattle.marking.specs.Moves.{Moves, Wrote, WroteBefore, ByNode, ByLook}
 use Rattle.parents.specs.Links.{Linked}
 use Rattle.work_list.specs.Items.{per, Bit, ToDo, NoItem, OneItem, Enters, ItemsOf, ParentsAt, Touched}
 use Rattle.work_list.proofs.ByKind.{rests-split}
 use Rattle.work_list.proofs.Noting.{enters-as, enters-then}
-use Rattle.noting.specs.Visits.{Late, Notes, EntersIf, LookItems, VisitsBy}
+use Rattle.noting.specs.Visits.{Visited, VisitsBy, Looks, Notes, EntersIf, LookItems}
 
 -- ---- bits set if something changed
 pub enters-if-not : (Y : ℕ → ℕ → Type 0) (D : List ℕ) (told : ℕ) → told ≡ 0 → EntersIf Y D D told
@@ -102,50 +101,38 @@ module _ (count : ℕ) (B : List ℕ) (n : ℕ) where
 
   -- ---- a visit
 
-  -- The rules' promise and the list's together: what is new is noted, or is in word q of the row `late`.
-  pub visits-by : (d : Node) (r q W : ℕ) (A C : Marks) (T T′ D D′ : List ℕ) (x y late : ℕ)
-      → ByNode d r A (λ S. SettledIn q W S r d) W n T T′ x → (rowAt B r ≡ d → Notes (OneItem r q) count B n C D D′ y) → (x ≡ 0 → y ≡ 0)
-      → ((z t : ℕ) (v : Bool) → A (mark z t v) → ((z ≡ late) × (t / 64 ≡ q)) ⊎ C (mark z t v)) → VisitsBy d count B r q W n T T′ D D′ x late
-  visits-by d r q W A C T T′ D D′ x y late f g z among P e is inside =
-      let m = f P e inside in
-      let k = g is in
-      record {
-        size = m .0 .size;
-        grows = m .0 .grows;
-        sound = m .0 .sound;
-        still = λ g. (m .0 .still g, k .still (z g));
-        moved = m .0 .moved;
-        settled = subst (SettledIn q W (Stands n T′) r) (sym e) (m .1);
-        heeds = record {
-          size = k .size;
-          kept = k .kept;
-          noted = λ s p l h off this y u rests other t v g i. ⊎-elim (λ j. j)
-              (λ a. ⊎-elim (λ b. absurd (other (b .0) (sym g ∙ b .1)))
-              (λ b. absurd (off (k .noted y t v b s p l h this (subst (λ (w : ℕ). Rests (rowAt B s) s p y w) (sym g) rests)))) (among y t v a)) (m .0 .only (mark y t v) i);
-        };
-      }
+  -- The rules' promise and the list's together: all that is new is noted.
+  pub visited : (r q W : ℕ) (C : Marks) {A : Marks} {T T′ D D′ : List ℕ} {x : ℕ} (P : Program) → Moves n P W A T T′ x → Notes (OneItem r q) count B n A D D′ x
+      → SettledTo C q W (Stands n T′) r (node P r) → Visited count B n P W r q C T T′ D D′ x
+  visited r q W C P m k s = record {
+    size = m .size;
+    grows = m .grows;
+    sound = m .sound;
+    still = λ e. (m .still e, k .still e);
+    moved = m .moved;
+    settled = s;
+    heeds = record {
+      size = k .size;
+      kept = k .kept;
+      noted = λ s p l h off this y u rests t v g i. ⊎-elim (λ j. j)
+          (λ a. absurd (off (k .noted y t v a s p l h this (subst (λ (w : ℕ). Rests (rowAt B s) s p y w) (sym g) rests)))) (m .only (mark y t v) i);
+    };
+  }
 
-  -- All that is new is noted.
-  pub visits-noted : (d : Node) (r q W : ℕ) (A : Marks) (T T′ D D′ : List ℕ) (x y : ℕ)
-      → ByNode d r A (λ S. SettledIn q W S r d) W n T T′ x → (rowAt B r ≡ d → Notes (OneItem r q) count B n A D D′ y) → x ≡ y → VisitsBy d count B r q W n T T′ D D′ x count
-  visits-noted d r q W A T T′ D D′ x y f k e = visits-by d r q W A A T T′ D D′ x y count f k (λ z. omega arith) (λ z t v a. inr a)
+  pub visits-by : (d : Node) (r q W : ℕ) (A : Marks) (T T′ D D′ : List ℕ) (x : ℕ)
+      → ByNode d r A (λ S. SettledIn q W S r d) W n T T′ x → (rowAt B r ≡ d → Notes (OneItem r q) count B n A D D′ x) → VisitsBy d count B r q W n T T′ D D′
+  visits-by d r q W A T T′ D D′ x f k = record {
+    changed = x;
+    each = λ P e is inside. let m = f P e inside in visited r q W (Stands n T′) P (m .0) (k is) (subst (SettledIn q W (Stands n T′) r) (sym e) (m .1));
+  }
+
+  pub looks-by : (o c r q W : ℕ) (A G G′ : Marks) (T T′ D D′ : List ℕ) (x : ℕ)
+      → ByLook o c r A (λ S. SettledTo G′ q W S r (look o c)) G G′ W n T T′ x → (rowAt B r ≡ look o c → Notes (OneItem r q) count B n A D D′ x) → Looks o c count B r q W n G G′ T T′ D D′
+  looks-by o c r q W A G G′ T T′ D D′ x f k = record {
+    changed = x;
+    each = λ P e is inside. let m = f P e inside in (visited r q W G′ P (m .0) (k is) (subst (SettledTo G′ q W (Stands n T′) r) (sym e) (m .1)), m .2);
+  }
 
 -- A row whose items rest, by its node, on the same word of the row itself: a gate or a not-row.
 pub rests-here : (B : List ℕ) (r p : ℕ) {d : Node} → rowAt B r ≡ d → ((w : ℕ) → Rests d r w r p → p ≡ w) → (w : ℕ) → Rests (rowAt B r) r w r p → w ≡ p
 rests-here B r p e f w s = sym (f w (subst (λ (d : Node). Rests d r w r p) e s))
-
--- ---- the row that is left to note
-
--- None is.
-pub late-none : (count changed : ℕ) → Late count changed count
-late-none count changed = record { most = omega arith; none = λ e. refl }
-
--- A row that is told to have changed.
-pub late-told : (count x told changed late : ℕ) → x < count → (0 < told → late ≡ x) → (told ≡ 0 → late ≡ count) → (changed ≡ 0 → told ≡ 0) → Late count changed late
-late-told count x told changed late l some none f =
-    record { most = ⊎-elim (λ h. omega (arith, some h)) (λ h. omega (arith, none (omega arith))) (lt-or-ge 0 told); none = λ e. none (f e) }
-
--- A look's marks: its child's in word q, where the child is left to note, and its own, which are noted.
-pub look-among : (r k c q child before after late z t : ℕ) (v : Bool) → (0 < child → late ≡ c) → LookWrote r k c q child before after (mark z t v)
-    → ((z ≡ late) × (t / 64 ≡ q)) ⊎ (_or_ (WroteBefore r (k / 64) q before) (WroteBefore r (k / 64) (q + 1) after)) (mark z t v)
-look-among r k c q child before after late z t v some = ⊎-elim (λ a. inl (a .0 ∙ sym (some (a .2)), a .1)) inr

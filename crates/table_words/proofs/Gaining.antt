@@ -10,7 +10,7 @@ use native.Mathlib.Omega.{arith}
 use lib.Arith.{digits-div}
 use lib.Bits.{bitOr, bitXor, or-lt, or-comm, xor-self, xor-add-and, and-le-l, and-le-r}
 use lib.ListN.{length, getD, set, length-set}
-use lib.Seq.{set-getD, getD-set-other}
+use lib.Seq.{set-getD, getD-set-same, getD-set-other}
 use Rattle.ticks.specs.Ticks.{block}
 use Rattle.ticks.proofs.Bits.{lt-or-ge, or-ge}
 use Rattle.ticks.proofs.Tables.{block-apart}
@@ -18,7 +18,8 @@ use Rattle.tilco.specs.Inference.{Mark, mark, Marks, _or_}
 use Rattle.tilco.specs.Table.{Stands}
 use Rattle.table.proofs.Marks.{gains-then, word-joined}
 use Rattle.table.specs.Puts.{Gains}
-use Rattle.table_words.specs.Gains.{Ticks, Here, Sides, Bits, room, Joins}
+use Rattle.table_words.specs.Gains.{Ticks, Here, Sides, Reads, Bits, room, Joins}
+use Rattle.table_words.proofs.OneWord.{read-ticks}
 
 -- A word that grows leaves as much less room.
 room-set : (T : List ℕ) (i v : ℕ) → i < length T → getD T i 0 ≤ v → v < 2 ^ 64 → room (set T i v) + v ≡ room T + getD T i 0
@@ -136,8 +137,26 @@ module _ (n : ℕ) (T : List ℕ) (r : ℕ) (u : Bool) (q v w : ℕ) (l : q < n)
           let q : y ≡ getD T j 0 = omega (arith, or-ge (getD T i 0) v, or-ge (getD T j 0) w) in
           rw (p, q, xor-self (getD T i 0), xor-self (getD T j 0))
 
+  -- The words as they stand then.
+  pub words-none : changes ≡ 0 → Reads n T q r u x y
+  words-none z =
+      let s = same-words (getD T i 0) (getD T j 0) x y z in
+      record { this = read-ticks n T r u q l (s .0 ∙ ap (λ (k : ℕ). getD T k 0) e); other = read-ticks n T r (not u) q l (s .1 ∙ ap (λ (k : ℕ). getD T k 0) f) }
+
+  pub words-some : Reads n (set (set T i x) j y) q r u x y
+  words-some = record {
+    this = read-ticks n (set (set T i x) j y) r u q l (sym first ∙ ap (λ (k : ℕ). getD (set (set T i x) j y) k 0) e);
+    other = read-ticks n (set (set T i x) j y) r (not u) q l (sym second ∙ ap (λ (k : ℕ). getD (set (set T i x) j y) k 0) f);
+  }
+    where
+      first : getD (set (set T i x) j y) i 0 ≡ x
+      first = getD-set-other (set T i x) j i y 0 (λ z. apart (sym z)) ∙ getD-set-same T i x 0 hi
+
+      second : getD (set (set T i x) j y) j 0 ≡ y
+      second = getD-set-same (set T i x) j y 0 (rw length-set hj)
+
 -- ---- the ticks of a word by what they say
-here-as : (r : ℕ) (v : Bool) (q ticks : ℕ) (U : ℕ → Type 0) → Ticks q ticks U → (m : Mark) → Here r v q (Bits ticks) m ↔ Here r v q U m
+pub here-as : (r : ℕ) (v : Bool) (q ticks : ℕ) (U : ℕ → Type 0) → Ticks q ticks U → (m : Mark) → Here r v q (Bits ticks) m ↔ Here r v q U m
 here-as r v q ticks U f (mark x t y) = (
   λ h. (h .0, h .1, h .2, subst U (at (h .2)) (f (t % 64) (omega arith) .0 (h .3))),
   λ h. (h .0, h .1, h .2, f (t % 64) (omega arith) .1 (subst U (sym (at (h .2))) (h .3))),

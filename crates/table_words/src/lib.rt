@@ -58,31 +58,31 @@ pub fn add_word(marks: &mut [u64], n: usize, q: usize, row: usize, value: bool, 
     1
 }
 
-// Joins ticks to word q of a row's marks of value u, and others to that of the other value; 0 if all were there.
-pub fn add_words(
-    marks: &mut [u64],
-    n: usize,
-    q: usize,
-    row: usize,
-    u: bool,
-    ticks: u64,
-    others: u64,
-) -> u64
+// A row's words after ticks were joined to them; `changed` is 0 if all were there.
+pub struct Joined {
+    pub changed: u64,
+    pub words: Words,
+}
+
+// Joins ticks to word q of a row's marks of value u and of the other value.
+pub fn add_words(marks: &mut [u64], n: usize, q: usize, row: usize, u: bool, ticks: Words) -> Joined
     requires { ⌜ (q < n) × HasRow n (now marks) row ⌝ }
-    ensures { λ changed. ⌜ Joins n (Sides row u q (Bits ticks) (Bits others)) (now (marks .entry)) (now (marks .exit)) changed ⌝ }
+    ensures { λ j. ⌜ Joins n (Sides row u q (Bits (ticks .this)) (Bits (ticks .other))) (now (marks .entry)) (now (marks .exit)) (j .changed) ⌝ }
+    ensures { λ j. ⌜ Reads n (now (marks .exit)) q row u (j .words .this) (j .words .other) ⌝ }
 {
     let i = place_of(n, q, row, u);
     let j = place_of(n, q, row, !u);
     let a = marks[i];
     let b = marks[j];
-    let x = a | ticks;
-    let y = b | others;
-    if (x ^ a) | (y ^ b) == 0 {
-        return 0;
+    let this = a | ticks.this;
+    let other = b | ticks.other;
+    let words = Words { this, other };
+    if (this ^ a) | (other ^ b) == 0 {
+        return Joined { changed: 0, words };
     }
-    marks[i] = x;
-    marks[j] = y;
-    1
+    marks[i] = this;
+    marks[j] = other;
+    Joined { changed: 1, words }
 }
 
 // The window's ticks in word q.

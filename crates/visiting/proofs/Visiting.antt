@@ -1,31 +1,47 @@
 -- A visit by the kind in the row's word. Assumes nothing.
-use mathlib.Core.Path.{_≡_, refl, ap}
+use mathlib.Core.Path.{_≡_, refl, sym, ap, subst}
 use mathlib.Core.List.{List}
-use Prim.Native.Nat.{ℕ, _≤_}
+use Prim.Native.Nat.{ℕ, zero, suc, _≤_, _<_}
 use native.Mathlib.Omega.{arith}
 use Rattle.rows.specs.Words.{unpacked}
-use Rattle.tilco.specs.Inference.{signal, notOf, Marks}
+use Rattle.tilco.specs.Inference.{notOf, Marks}
+use Rattle.tilco.specs.Table.{Stands}
+use Rattle.marking.specs.Settled.{SettledIn}
 use Rattle.marking.proofs.Moving.{idle}
 use Rattle.marking.proofs.Decoding.{kind, left, right, past, node-as}
 use Rattle.work_list.specs.Items.{OneItem}
 use Rattle.noting.specs.Visits.{Visits, VisitsBy}
-use Rattle.noting.proofs.Heeding.{notes-none, visits-noted}
+use Rattle.noting.proofs.Heeding.{notes-none, visited}
 
 -- No mark.
 abbrev None : Marks
 None m = ⊥
 
 module _ (count : ℕ) (B : List ℕ) (n r q W : ℕ) where
-  module _ (T T′ D D′ : List ℕ) (x late : ℕ) where
-    pub visits-as : (k : ℕ) → kind count B r ≡ k → VisitsBy (unpacked k (left count B r) (right count B r)) count B r q W n T T′ D D′ x late
-        → Visits count B r q W n T T′ D D′ x late
-    visits-as k e f P c inside = f P (node-as count B r k e P c) (ap (λ (z : ℕ). unpacked z (left count B r) (right count B r)) e) inside
+  module _ (T T′ D D′ : List ℕ) (l : r < count) where
+    pub visits-as : (k : ℕ) → kind count B r ≡ k → VisitsBy (unpacked k (left count B r) (right count B r)) count B r q W n T T′ D D′ → Visits count B r q W n T T′ D D′
+    visits-as k e f = record {
+      changed = f .changed;
+      each = λ P c. f .each P (node-as count B r k e P c) (ap (λ (z : ℕ). unpacked z (left count B r) (right count B r)) e);
+      past = λ h. absurd (omega arith);
+    }
 
-    pub visits-not : 4 ≤ kind count B r → VisitsBy (notOf (left count B r)) count B r q W n T T′ D D′ x late → Visits count B r q W n T T′ D D′ x late
+    pub visits-not : 4 ≤ kind count B r → VisitsBy (notOf (left count B r)) count B r q W n T T′ D D′ → Visits count B r q W n T T′ D D′
     visits-not h f = visits-as (past count B r) (omega arith) f
 
   -- A signal's row has no rules.
-  pub visits-signal : (T D : List ℕ) → kind count B r ≡ 0 → Visits count B r q W n T T D D 0 count
-  visits-signal T D e =
-      visits-as T T D D 0 count 0 e
-      (visits-noted count B n signal r q W None T T D D 0 0 (λ P g i. (idle n P W None T, tt)) (λ g. notes-none count B n (OneItem r q) None D 0 (λ x t v a. a)) refl)
+  pub visits-signal : (T D : List ℕ) → kind count B r ≡ 0 → Visits count B r q W n T T D D
+  visits-signal T D e = record {
+    changed = 0;
+    each = λ P c inside. visited count B n r q W (Stands n T) P (idle n P W None T) (notes-none count B n (OneItem r q) None D 0 (λ x t v a. a))
+        (subst (SettledIn q W (Stands n T) r) (sym (node-as count B r 0 e P c)) tt);
+    past = λ h. refl;
+  }
+
+-- A kind that is no signal's, no gate's and no look's is a not-row's.
+pub past-looks : (k : ℕ) → (k ≡ 0 → ⊥) → (k ≡ 1 → ⊥) → (k ≡ 2 → ⊥) → (k ≡ 3 → ⊥) → 4 ≤ k
+past-looks zero a b c d = absurd (a refl)
+past-looks (suc zero) a b c d = absurd (b refl)
+past-looks (suc (suc zero)) a b c d = absurd (c refl)
+past-looks (suc (suc (suc zero))) a b c d = absurd (d refl)
+past-looks (suc (suc (suc (suc k)))) a b c d = omega arith

@@ -8,9 +8,9 @@ use Prim.Native.Nat.{ℕ, _+_, _*_, _/_, _%_, _≤_, _<_}
 use lib.ListN.{length, getD}
 use Rattle.ticks.specs.Ticks.{Has}
 use Rattle.rows.specs.Words.{rowAt}
-use Rattle.tilco.specs.Inference.{Node, signal, notOf, gate, look, mark}
+use Rattle.tilco.specs.Inference.{Node, signal, notOf, gate, look, mark, Marks}
 use Rattle.tilco.specs.Table.{Stands}
-use Rattle.marking.specs.Settled.{SettledIn, Rests}
+use Rattle.marking.specs.Settled.{SettledTo, Rests}
 use Rattle.parents.specs.Links.{Reach}
 
 -- The words that a word of ticks has in the list: one bit a row.
@@ -74,6 +74,10 @@ pub record Starts (count : ℕ) (B : List ℕ) (n : ℕ) (X : ℕ → ℕ → Ty
   pub kept : (r q : ℕ) → r < count → q < n → ToDo count D r q → ToDo count D′ r q
   pub noted : (x t : ℕ) (v : Bool) → X x (t / 64) → Stands n T (mark x t v) → Noted count B n D′ x (t / 64)
 
+-- Every item that is not on the list is settled, where what a look gives its child is among C.
+abbrev pub DoneTo : Marks → ℕ → List ℕ → ℕ → ℕ → List ℕ → List ℕ → Type 0
+DoneTo C count B W n T D = (r q : ℕ) → r < count → q < n → (ToDo count D r q → ⊥) → SettledTo C q W (Stands n T) r (rowAt B r)
+
 -- Every item that is not on the list is settled.
 abbrev pub Done : ℕ → List ℕ → ℕ → ℕ → List ℕ → List ℕ → Type 0
-Done count B W n T D = (r q : ℕ) → r < count → q < n → (ToDo count D r q → ⊥) → SettledIn q W (Stands n T) r (rowAt B r)
+Done count B W n T D = DoneTo (Stands n T) count B W n T D

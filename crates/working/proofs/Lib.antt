@@ -2,4 +2,4 @@
 pub mod Local
 pub mod Taking
 pub mod Working
-pub mod Leaving
+pub mod Gathering

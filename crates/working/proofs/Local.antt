@@ -6,14 +6,21 @@ use mathlib.Core.List.{List}
 use mathlib.Core.Logic.{inl, inr}
 use Prim.Native.Nat.{ℕ, _*_, _/_, _≤_, _<_}
 use native.Mathlib.Omega.{arith}
-use Rattle.tilco.specs.Inference.{Node, signal, notOf, gate, look, Mark, mark}
+use Rattle.tilco.specs.Inference.{Node, signal, notOf, gate, look, Mark, mark, Marks}
 use Rattle.tilco.specs.Table.{Stands}
 use Rattle.tilco.proofs.Closing.{GateSettled, SettledAt}
-use Rattle.marking.specs.Settled.{SettledIn, Rests, SameWord}
+use Rattle.marking.specs.Settled.{SettledTo, SettledIn, Rests, SameWord}
 use Rattle.work_list.proofs.Starting.{seen-from}
 
-module _ (n W : ℕ) (T T′ : List ℕ) (grows : (m : Mark) → Stands n T m → Stands n T′ m) where
-  pub settled-local : (r q : ℕ) (d : Node) → ((x p : ℕ) → Rests d r q x p → SameWord n T T′ x p) → SettledIn q W (Stands n T) r d → SettledIn q W (Stands n T′) r d
+-- More marks that a look may give its child.
+pub settled-more : (C C′ : Marks) (q W : ℕ) (S : Marks) (r : ℕ) (d : Node) → ((m : Mark) → C m → C′ m) → SettledTo C q W S r d → SettledTo C′ q W S r d
+settled-more C C′ q W S r signal f h = tt
+settled-more C C′ q W S r (notOf x) f h = h
+settled-more C C′ q W S r (gate u a b) f h = h
+settled-more C C′ q W S r (look k c) f h = λ t s v d l m e. let z = h t s v d l m e in (λ i. f (mark c s v) (z .0 i), z .1)
+
+module _ (n W : ℕ) (T T′ : List ℕ) (grows : (m : Mark) → Stands n T m → Stands n T′ m) (C : Marks) where
+  pub settled-local : (r q : ℕ) (d : Node) → ((x p : ℕ) → Rests d r q x p → SameWord n T T′ x p) → SettledTo C q W (Stands n T) r d → SettledTo C q W (Stands n T′) r d
   settled-local r q signal f h = tt
   settled-local r q (notOf x) f h =
       λ t v e. (
@@ -41,7 +48,7 @@ module _ (n W : ℕ) (T T′ : List ℕ) (grows : (m : Mark) → Stands n T m �
       right = f b q (refl, inr (inr refl))
   settled-local r q (look k c) f h =
       λ t s v d l m e. (
-        λ i. grows (mark c s v) (h t s v d l m e .0 (f r (t / 64) (inr (refl, seen-from t k s q d e)) t v refl i)),
+        λ i. h t s v d l m e .0 (f r (t / 64) (inr (refl, seen-from t k s q d e)) t v refl i),
         λ i. grows (mark r t v) (h t s v d l m e .1 (f c q (inl (refl, refl)) s v e i)),
       )
 

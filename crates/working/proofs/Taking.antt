@@ -14,14 +14,15 @@ use lib.Seq.{getD-set-same, getD-set-other}
 use Rattle.ticks.specs.Ticks.{bit, Has}
 use Rattle.ticks.proofs.Bits.{lt-or-ge, bit-shr, bit-past, bit-low}
 use Rattle.rows.specs.Words.{rowAt}
-use Rattle.tilco.specs.Inference.{Program}
+use Rattle.tilco.specs.Inference.{look, Program, Mark, Marks, _or_}
 use Rattle.tilco.specs.Table.{Stands, Inside}
 use Rattle.marking.specs.Codes.{Codes, Coded}
-use Rattle.marking.specs.Settled.{SettledIn, Rests}
-use Rattle.work_list.specs.Items.{per, ToDo, NoItem, OneItem}
-use Rattle.noting.specs.Visits.{Late, Visited, Visits}
-use Rattle.working.specs.Stretches.{DoneBut, Stretch, Only, Either, Taken}
-use Rattle.working.proofs.Local.{settled-local}
+use Rattle.marking.specs.Settled.{SettledTo}
+use Rattle.marking.specs.Moves.{Gathers}
+use Rattle.work_list.specs.Items.{per, ToDo, OneItem, DoneTo}
+use Rattle.noting.specs.Visits.{Heeds, Visited, Visits, Looks}
+use Rattle.working.specs.Stretches.{Stretch, NoWord, Taken, TakenLook}
+use Rattle.working.proofs.Local.{settled-more, settled-local}
 
 -- ---- a bit of a word cleared
 module _ (x k : ℕ) (has : Has x k) where
@@ -79,88 +80,105 @@ module _ (count : ℕ) (D : List ℕ) (i k q : ℕ) (l : i < per count) (m : k <
   others-stay r p h f t =
       bit-other (p * per count + r / 64) (r % 64) (λ e g. let z = item-at r p h e in f (omega (arith, z .1, g)) (z .0)) ∙ t
 
-  pub none-new : (r p : ℕ) → ToDo count without r p → ToDo count D r p
-  none-new r p t = go (ℕ-discrete (p * per count + r / 64) place) (ℕ-discrete (r % 64) k)
+  -- No other word changes, and this one was not 0.
+  zero-stays : (j : ℕ) → getD D j 0 ≡ 0 → getD without j 0 ≡ 0
+  zero-stays j z = go (ℕ-discrete j place)
     where
-      go : Dec (p * per count + r / 64 ≡ place) → Dec (r % 64 ≡ k) → ToDo count D r p
-      go (yes e) (yes g) = ap (λ (v : ℕ). bit (getD D v 0) (r % 64)) e ∙ ap (bit (getD D place 0)) g ∙ has
-      go (yes e) (no g) = sym (bit-other (p * per count + r / 64) (r % 64) (λ a b. g b)) ∙ t
-      go (no e) g = sym (bit-other (p * per count + r / 64) (r % 64) (λ a b. e a)) ∙ t
+      go : Dec (j ≡ place) → getD without j 0 ≡ 0
+      go (yes e) = absurd (omega (arith, ap (λ (v : ℕ). getD D v 0) e, bit-le (getD D place 0) k has, pow-pos k))
+      go (no f) = getD-set-other D place j (getD D place 0 - 2 ^ k) 0 f ∙ z
 
   pub word-falls : getD without place 0 < getD D place 0
   word-falls = omega (arith, getD-set-same D place (getD D place 0 - 2 ^ k) 0 inside, bit-le (getD D place 0) k has, pow-pos k)
 
--- ---- a visit
+-- ---- a visit to item (64 i + k, q)
+module _ (count : ℕ) (B : List ℕ) (n i k q : ℕ) {T T′ D D₁ : List ℕ} (l : q < n) (b : k < 64) (has : Has (getD D (q * per count + i) 0) k) where
+  -- The item is on the list after the visit too.
+  pub kept-item : 64 * i + k < count → Heeds count B n (64 * i + k) q T T′ D D₁ → Has (getD D₁ (q * per count + i) 0) k
+  kept-item g f = rw (word, tick) at (f .kept (64 * i + k) q g l (rw (word, tick) has))
+    where
+      word : (64 * i + k) / 64 ≡ i
+      word = omega arith
 
--- The item is on the list after the visit too.
-pub kept-bit : (count : ℕ) (B : List ℕ) (W n i k q : ℕ) (T T′ D D₁ : List ℕ) (changed late : ℕ) → q < n → i < per count → k < 64 → Coded count B → Inside W (Stands n T)
-    → Visits count B (64 * i + k) q W n T T′ D D₁ changed late → (count ≤ 64 * i + k → changed ≡ 0) → Has (getD D (q * per count + i) 0) k → Has (getD D₁ (q * per count + i) 0) k
-kept-bit count B W n i k q T T′ D D₁ changed late l h b c w f past has = ⊎-elim row none (lt-or-ge (64 * i + k) count)
-  where
-    word : (64 * i + k) / 64 ≡ i
-    word = omega arith
+      tick : (64 * i + k) % 64 ≡ k
+      tick = omega arith
 
-    tick : (64 * i + k) % 64 ≡ k
-    tick = omega arith
+  pub kept-bit : (W : ℕ) → Coded count B → Inside W (Stands n T) → Visits count B (64 * i + k) q W n T T′ D D₁ → Has (getD D₁ (q * per count + i) 0) k
+  kept-bit W c w f =
+      ⊎-elim (λ g. kept-item g (v .heeds)) (λ g. subst (λ (X : List ℕ). Has (getD X (q * per count + i) 0) k) (sym (v .still (f .past g) .1)) has) (lt-or-ge (64 * i + k) count)
+    where
+      v : Visited count B n (c .program) W (64 * i + k) q (Stands n T′) T T′ D D₁ (f .changed)
+      v = f .each (c .program) (c .codes) w
 
-    row : 64 * i + k < count → Has (getD D₁ (q * per count + i) 0) k
-    row g =
-        rw (word, tick) at (f (c .program) (c .codes) w .heeds .kept (64 * i + k) q g l (rw (word, tick) has))
-
-    none : count ≤ 64 * i + k → Has (getD D₁ (q * per count + i) 0) k
-    none g = subst (λ (X : List ℕ). Has (getD X (q * per count + i) 0) k) (sym (f (c .program) (c .codes) w .still (past g) .1)) has
-
-module _ (count : ℕ) (B : List ℕ) (W n i k q : ℕ) (T T′ D D₁ D′ : List ℕ) (changed late : ℕ) (l : i < per count) (m : k < 64)
+module _ (count : ℕ) (B : List ℕ) (W n i k q : ℕ) (T T′ D D₁ D′ : List ℕ) (l : i < per count) (m : k < 64)
     (inside : q * per count + i < length D₁) (has : Has (getD D₁ (q * per count + i) 0) k)
     (is : D′ ≡ set D₁ (q * per count + i) (getD D₁ (q * per count + i) 0 - 2 ^ k)) where
-  -- An item that is not on the list at the end was not on it before, or was this one.
-  module _ (P : Program) (c : Codes P count B) (v : Visited count B n P W (64 * i + k) q T T′ D D₁ changed late) (before : ℕ) (done : DoneBut (Only before) q count B W n T D) where
-    -- Item (r, p) rests on word q of none of the rows left to note.
-    abbrev Free : ℕ → ℕ → Type 0
-    Free r p = (x : ℕ) → Either before late x → Rests (rowAt B r) r p x q → ⊥
+  -- What is not on the list at the end was not on it before, or is this item; X and X′ are what looks may give before and after.
+  module _ (P : Program) (c : Codes P count B) (C X X′ : Marks) {x : ℕ} (more : (m : Mark) → X m → X′ m) (own : (m : Mark) → C m → X′ m)
+      (v : Visited count B n P W (64 * i + k) q C T T′ D D₁ x) (done : DoneTo X count B W n T D) where
+    still-settled : (r p : ℕ) → r < count → p < n → (ToDo count D₁ r p → ⊥) → (OneItem (64 * i + k) q r p → ⊥) → SettledTo X′ p W (Stands n T′) r (rowAt B r)
+    still-settled r p h b f z =
+        settled-more X X′ p W (Stands n T′) r (rowAt B r) more
+        (settled-local n W T T′ (v .grows) X r p (rowAt B r) (v .heeds .noted r p h b f z) (done r p h b (λ t. f (v .heeds .kept r p h b t))))
 
-    still-settled : (r p : ℕ) → r < count → p < n → (ToDo count D₁ r p → ⊥) → (OneItem (64 * i + k) q r p → ⊥) → Free r p → SettledIn p W (Stands n T′) r (rowAt B r)
-    still-settled r p h b f z o =
-        settled-local n W T T′ (v .grows) r p (rowAt B r)
-        (λ x s g. v .heeds .noted r p h b f z x s g (λ d e. o x (inr d) (subst (λ (w : ℕ). Rests (rowAt B r) r p x w) e g)))
-        (done r p h b (λ t. f (v .heeds .kept r p h b t)) (λ x d. o x (inl d)))
-
-    done-after : DoneBut (Either before late) q count B W n T′ D′
-    done-after r p h b f o = go (ℕ-discrete r (64 * i + k)) (ℕ-discrete p q)
+    done-after : DoneTo X′ count B W n T′ D′
+    done-after r p h b f = go (ℕ-discrete r (64 * i + k)) (ℕ-discrete p q)
       where
         gone : (r ≡ 64 * i + k → p ≡ q → ⊥) → ToDo count D₁ r p → ⊥
         gone g t = f (subst (λ (X : List ℕ). ToDo count X r p) (sym is) (others-stay count D₁ i k q l m inside has r p h g t))
 
-        go : Dec (r ≡ 64 * i + k) → Dec (p ≡ q) → SettledIn p W (Stands n T′) r (rowAt B r)
+        go : Dec (r ≡ 64 * i + k) → Dec (p ≡ q) → SettledTo X′ p W (Stands n T′) r (rowAt B r)
         go (yes e) (yes g) =
-            let s : SettledIn q W (Stands n T′) (64 * i + k) (rowAt B (64 * i + k)) = subst (SettledIn q W (Stands n T′) (64 * i + k)) (c .nodes (64 * i + k)) (v .settled) in
-            subst (λ (x : ℕ). SettledIn p W (Stands n T′) x (rowAt B x)) (sym e) (subst (λ (y : ℕ). SettledIn y W (Stands n T′) (64 * i + k) (rowAt B (64 * i + k))) (sym g) s)
-        go (yes e) (no g) = still-settled r p h b (gone (λ a z. g z)) (λ z. g (z .1)) o
-        go (no e) g = still-settled r p h b (gone (λ a z. e a)) (λ z. e (z .0)) o
+            let s : SettledTo C q W (Stands n T′) (64 * i + k) (rowAt B (64 * i + k)) = subst (SettledTo C q W (Stands n T′) (64 * i + k)) (c .nodes (64 * i + k)) (v .settled) in
+            let z = settled-more C X′ q W (Stands n T′) (64 * i + k) (rowAt B (64 * i + k)) own s in
+            subst (λ (x : ℕ). SettledTo X′ p W (Stands n T′) x (rowAt B x)) (sym e) (subst (λ (y : ℕ). SettledTo X′ y W (Stands n T′) (64 * i + k) (rowAt B (64 * i + k))) (sym g) z)
+        go (yes e) (no g) = still-settled r p h b (gone (λ a z. g z)) (λ z. g (z .1))
+        go (no e) g = still-settled r p h b (gone (λ a z. e a)) (λ z. e (z .0))
 
-  pub taken : length D₁ ≡ length D → Coded count B → Inside W (Stands n T) → Visits count B (64 * i + k) q W n T T′ D D₁ changed late → Late count changed late
-      → Taken count B W n q (q * per count + i) T T′ D D′ changed late
-  taken same coded w f handed = record {
-    long = ap length is ∙ length-set D₁ (q * per count + i) (getD D₁ (q * per count + i) 0 - 2 ^ k) ∙ same;
-    each = each;
-    row = handed;
-    less = λ e. subst (λ (X : List ℕ). getD X (q * per count + i) 0 < getD D (q * per count + i) 0) (sym is)
-        (subst (λ (X : List ℕ). getD (without count D₁ i k q l m inside has) (q * per count + i) 0 < getD X (q * per count + i) 0) (stays e) (word-falls count D₁ i k q l m inside has));
-  }
-    where
-      stays : changed ≡ 0 → D₁ ≡ D
-      stays e = f (coded .program) (coded .codes) w .still e .1
+  -- The visit as a stretch: word j of the list falls, unless the table changed.
+  module _ {P : Program} {C : Marks} {x : ℕ} (v : Visited count B n P W (64 * i + k) q C T T′ D D₁ x) where
+    stretch : {F G : List ℕ → List ℕ → Type 0} → (F T D → G T′ D′) → Stretch F G n P W NoWord T T′ D D′ x
+    stretch f = record {
+      size = v .size;
+      grows = v .grows;
+      sound = v .sound;
+      moved = v .moved;
+      still = λ e. v .still e .0;
+      empty = λ e j. ⊎-elim (λ z. subst (λ (X : List ℕ). getD X j 0 ≡ 0) (sym is) (zero-stays count D₁ i k q l m inside has j (subst (λ (X : List ℕ). getD X j 0 ≡ 0) (sym (v .still e .1)) z)))
+          (λ z. absurd z);
+      rests = f;
+    }
 
-      each : (P : Program) → Codes P count B → (before : ℕ)
-          → Stretch (DoneBut (Only before) q count B W n) (DoneBut (Either before late) q count B W n) count n P W NoItem T T′ D D′ changed
-      each P c before =
-          let v = f P c w in
-          record {
-            size = v .size;
-            grows = v .grows;
-            sound = v .sound;
-            moved = v .moved;
-            still = λ e. v .still e .0;
-            left = λ e r p h b t. (subst (λ (X : List ℕ). ToDo count X r p) (stays e) (none-new count D₁ i k q l m inside has r p (subst (λ (X : List ℕ). ToDo count X r p) is t)), λ z. z);
-            rests = done-after P c v before;
-          }
+    falls : x ≡ 0 → getD D′ (q * per count + i) 0 < getD D (q * per count + i) 0
+    falls e =
+        subst (λ (X : List ℕ). getD X (q * per count + i) 0 < getD D (q * per count + i) 0) (sym is)
+        (subst (λ (X : List ℕ). getD (without count D₁ i k q l m inside has) (q * per count + i) 0 < getD X (q * per count + i) 0) (v .still e .1) (word-falls count D₁ i k q l m inside has))
+
+    long : length D′ ≡ length D
+    long = ap length is ∙ length-set D₁ (q * per count + i) (getD D₁ (q * per count + i) 0 - 2 ^ k) ∙ v .heeds .size
+
+  module _ (coded : Coded count B) (w : Inside W (Stands n T)) where
+    pub taken : Visits count B (64 * i + k) q W n T T′ D D₁ → Taken count B W n (q * per count + i) T T′ D D′
+    taken f = record {
+      works = record {
+        changed = f .changed;
+        long = long (f .each (coded .program) (coded .codes) w);
+        each = λ P c. let v = f .each P c w in stretch v (done-after P c (Stands n T′) (Stands n T) (Stands n T′) (v .grows) (λ m h. h) v);
+      };
+      less = falls (f .each (coded .program) (coded .codes) w);
+    }
+
+    -- A look: what it gives its child is gathered.
+    pub looked : (o y : ℕ) (G G′ : Marks) → rowAt B (64 * i + k) ≡ look o y → Looks o y count B (64 * i + k) q W n G G′ T T′ D D₁ → TakenLook count B W n (q * per count + i) G G′ T T′ D D′
+    looked o y G G′ e f = record {
+      changed = f .changed;
+      long = long (visit (coded .program) (coded .codes) .0);
+      each = λ P c. let v = visit P c in (
+        stretch (v .0) (done-after P c G′ (_or_ (Stands n T) G) (_or_ (Stands n T′) G′) (λ m. ⊎-elim (λ h. inl (v .0 .grows m h)) (λ h. inr (v .1 .grows m h))) (λ m h. inr h) (v .0)),
+        v .1,
+      );
+      less = falls (visit (coded .program) (coded .codes) .0);
+    }
+      where
+        visit : (P : Program) → Codes P count B → Visited count B n P W (64 * i + k) q G′ T T′ D D₁ (f .changed) × Gathers P W (Stands n T) G G′
+        visit P c = f .each P (c .nodes (64 * i + k) ∙ e) e w

@@ -1,73 +1,55 @@
--- What visits to items one after another do: a word of the list, the items of a word of ticks, and a whole round. Assumes nothing.
--- n is how many words a row has for each value, B the rows' words, W the window, T the table and D the list before, T′ and D′ after.
+-- What visits to items one after another do: those of a word of the list, and of any of its words. Assumes nothing.
+-- n is how many words a row has for each value, B the rows' words, W the window, T the table and D the list before, T′ and D′ after. A number that tells
+-- of a change is 0 if there is none.
 use mathlib.Core.Path.{_≡_}
-use mathlib.Core.Bool.{Bool, true, false}
 use mathlib.Core.List.{List}
 use mathlib.Core.Logic.{_⊎_}
-use Prim.Native.Nat.{ℕ, _-_, _/_, _<_}
+use Prim.Native.Nat.{ℕ, _<_}
 use lib.ListN.{length, getD}
-use Rattle.rows.specs.Words.{rowAt}
-use Rattle.tilco.specs.Inference.{Program, Mark, Derives}
+use Rattle.tilco.specs.Inference.{Program, Mark, Marks, Derives, _or_}
 use Rattle.tilco.specs.Table.{Stands}
 use Rattle.marking.specs.Codes.{Codes}
+use Rattle.marking.specs.Moves.{Gathers}
 use Rattle.table_words.specs.Gains.{room}
-use Rattle.marking.specs.Settled.{SettledIn, Rests}
-use Rattle.work_list.specs.Items.{ToDo, NoItem, Done}
-use Rattle.noting.specs.Visits.{Late}
-
--- Every item that is not on the list, and rests on word q of no row among L, is settled.
-abbrev pub DoneBut : (ℕ → Type 0) → ℕ → ℕ → List ℕ → ℕ → ℕ → List ℕ → List ℕ → Type 0
-DoneBut L q count B W n T D =
-    (r p : ℕ) → r < count → p < n → (ToDo count D r p → ⊥) → ((x : ℕ) → L x → Rests (rowAt B r) r p x q → ⊥) → SettledIn p W (Stands n T) r (rowAt B r)
+use Rattle.work_list.specs.Items.{DoneTo, Done}
 
 -- What a stretch of visits does. Nothing is lost and what is new follows; if F holds of the table and the list before, G does after; and if
--- nothing changed the table is the same, no item was added, and none of the items Z is left.
-pub record Stretch (F G : List ℕ → List ℕ → Type 0) (count n : ℕ) (P : Program) (W : ℕ) (Z : ℕ → ℕ → Type 0) (T T′ D D′ : List ℕ) (changed : ℕ) : Type 0 where
+-- nothing changed the table is the same, and each word of the list that was 0, or is among Z, is 0.
+pub record Stretch (F G : List ℕ → List ℕ → Type 0) (n : ℕ) (P : Program) (W : ℕ) (Z : ℕ → Type 0) (T T′ D D′ : List ℕ) (changed : ℕ) : Type 0 where
   pub size : length T′ ≡ length T
   pub grows : (m : Mark) → Stands n T m → Stands n T′ m
   pub sound : (m : Mark) → Stands n T′ m → Derives P W (Stands n T) m
   pub moved : 0 < changed → room T′ < room T
   pub still : changed ≡ 0 → T′ ≡ T
-  pub left : changed ≡ 0 → (r q : ℕ) → r < count → q < n → ToDo count D′ r q → ToDo count D r q × (Z r q → ⊥)
+  pub empty : changed ≡ 0 → (j : ℕ) → (getD D j 0 ≡ 0) ⊎ Z j → getD D′ j 0 ≡ 0
   pub rests : F T D → G T′ D′
 
--- A stretch after which items off the list are settled, if they were before.
-abbrev pub Worked : ℕ → List ℕ → ℕ → Program → ℕ → (ℕ → ℕ → Type 0) → List ℕ → List ℕ → List ℕ → List ℕ → ℕ → Type 0
-Worked count B n P W Z T T′ D D′ changed = Stretch (Done count B W n) (Done count B W n) count n P W Z T T′ D D′ changed
-
--- The same for every program with these rows; the list keeps its length.
-pub record Works (count : ℕ) (B : List ℕ) (W n : ℕ) (Z : ℕ → ℕ → Type 0) (T T′ D D′ : List ℕ) (changed : ℕ) : Type 0 where
+-- A stretch after which items off the list are settled, if they were before, for every program with these rows; the list keeps its length.
+pub record Works (count : ℕ) (B : List ℕ) (W n : ℕ) (Z : ℕ → Type 0) (T T′ D D′ : List ℕ) : Type 0 where
+  pub changed : ℕ
   pub long : length D′ ≡ length D
-  pub each : (P : Program) → Codes P count B → Worked count B n P W Z T T′ D D′ changed
+  pub each : (P : Program) → Codes P count B → Stretch (Done count B W n) (Done count B W n) n P W Z T T′ D D′ changed
 
--- Every item.
-abbrev pub AnyItem : ℕ → ℕ → Type 0
-AnyItem r q = Unit {0}
+-- No word of the list, and one.
+abbrev pub NoWord : ℕ → Type 0
+NoWord j = ⊥
 
--- One row, and one of two.
-abbrev pub Only : ℕ → ℕ → Type 0
-Only a x = x ≡ a
+abbrev pub OneWord : ℕ → ℕ → Type 0
+OneWord k j = j ≡ k
 
-abbrev pub Either : ℕ → ℕ → ℕ → Type 0
-Either a b x = (x ≡ a) ⊎ (x ≡ b)
+-- A stretch of visits to items of word j of the list: if nothing changed that word is smaller.
+pub record Taken (count : ℕ) (B : List ℕ) (W n j : ℕ) (T T′ D D′ : List ℕ) : Type 0 where
+  pub works : Works count B W n NoWord T T′ D D′
+  pub less : works .changed ≡ 0 → getD D′ j 0 < getD D j 0
 
--- A visit to the item at a bit of word j of the list, in word q of ticks, that leaves the row `late` to note in word q, whatever row was left
--- before: if nothing changed word j is smaller.
-pub record Taken (count : ℕ) (B : List ℕ) (W n q j : ℕ) (T T′ D D′ : List ℕ) (changed late : ℕ) : Type 0 where
+-- Every item that is not on the list is settled, but that looks may give the marks G, which are gathered.
+abbrev pub DoneBut : Marks → ℕ → List ℕ → ℕ → ℕ → List ℕ → List ℕ → Type 0
+DoneBut G count B W n T D = DoneTo (_or_ (Stands n T) G) count B W n T D
+
+-- A visit to a look at a bit of word j of the list: what it gives its child is gathered, G before and G′ after.
+pub record TakenLook (count : ℕ) (B : List ℕ) (W n j : ℕ) (G G′ : Marks) (T T′ D D′ : List ℕ) : Type 0 where
+  pub changed : ℕ
   pub long : length D′ ≡ length D
-  pub each : (P : Program) → Codes P count B → (before : ℕ)
-      → Stretch (DoneBut (Only before) q count B W n) (DoneBut (Either before late) q count B W n) count n P W NoItem T T′ D D′ changed
-  pub row : Late count changed late
+  pub each : (P : Program) → Codes P count B
+      → Stretch (DoneBut G count B W n) (DoneBut G′ count B W n) n P W NoWord T T′ D D′ changed × Gathers P W (Stands n T) G G′
   pub less : changed ≡ 0 → getD D′ j 0 < getD D j 0
-
--- The items of word q, and those of them in its i-th word of the list.
-abbrev pub InColumn : ℕ → ℕ → ℕ → Type 0
-InColumn q r p = p ≡ q
-
-abbrev pub InWord : ℕ → ℕ → ℕ → ℕ → Type 0
-InWord q i r p = (p ≡ q) × (r / 64 ≡ i)
-
--- The i-th of m words from below or, going down, from above.
-abbrev pub turn : Bool → ℕ → ℕ → ℕ
-turn true m i = i
-turn false m i = m - 1 - i

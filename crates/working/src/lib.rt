@@ -1,18 +1,23 @@
 // The items of one word of the list: each is visited and taken off, until none is left there. A row has `n` words for each value, 64 ticks in each.
 // Assumes that the words are a program's rows, that the table has them, and that no mark is outside the window.
-use noting::Outcome;
+use look_visits::visit_look;
+use noting::mark_child;
+use table_words::Words;
+use table_words::window_word;
+use table_words::words_at;
 use visiting::visit;
-use work_list::touch;
 ghost use mathlib.Core.Path.{_≡_};
-ghost use Prim.Native.Nat.{_+_, _-_, _*_, _/_, _^_, _<_, _≤_};
+ghost use mathlib.Core.Bool.{true};
+ghost use Prim.Native.Nat.{ℕ, _+_, _-_, _*_, _/_, _%_, _^_, _<_, _≤_};
 ghost use lib.ListN.{length, getD, set};
 ghost use Rattle.ticks.specs.Ticks.{Has};
 ghost use Rattle.tilco.specs.Table.{Stands, Inside};
+ghost use Rattle.table_words.specs.Gains.{Ticks, Reads};
 ghost use Rattle.marking.specs.Codes.{Coded};
-ghost use Rattle.marking.specs.Moves.{Sized};
-ghost use Rattle.work_list.specs.Items.{per, Roomy, Touched};
-ghost use Rattle.working.specs.Stretches.{Works, Taken, InWord};
+ghost use Rattle.marking.specs.Moves.{Gathered, Sized};
 ghost use Rattle.parents.specs.Links.{Linked};
+ghost use Rattle.work_list.specs.Items.{per, Roomy};
+ghost use Rattle.working.specs.Stretches.{Works, OneWord, Taken, TakenLook};
 
 // Clears bit k, which is set, of word j of the list.
 fn clear_bit(todo: &mut [u64], j: usize, k: u64)
@@ -21,60 +26,6 @@ fn clear_bit(todo: &mut [u64], j: usize, k: u64)
 {
     let bit: u64 = 1 << k;
     todo[j] = todo[j] - bit;
-}
-
-// Visits the item of word q that bit k of its i-th word in the list stands for, and takes it off the list after that.
-fn take_item(
-    rows: &[u64],
-    count: usize,
-    i: usize,
-    k: u64,
-    q: usize,
-    n: usize,
-    window: usize,
-    heads: &[u16],
-    nexts: &[u16],
-    todo: &mut [u64],
-    marks: &mut [u64],
-) -> Outcome
-    requires { ⌜ Coded count (now rows) ⌝ }
-    requires { ⌜ (q < n) × (i < per count) × (k < 64) × Has (getD (now todo) (q * per count + i) 0) k ⌝ }
-    requires { ⌜ Linked count (now rows) (now heads) (now nexts) ⌝ }
-    requires { ⌜ Roomy count n (now todo) ⌝ }
-    requires { ⌜ Sized n count window (now marks) ⌝ }
-    requires { ⌜ Inside window (Stands n (now marks)) ⌝ }
-    ensures { λ v. ⌜ Taken count (now (rows .entry)) window n q (q * per count + i) (now (marks .entry)) (now (marks .exit)) (now (todo .entry)) (now (todo .exit)) (v .changed) (v .late) ⌝ }
-{
-    let stride = (count + 63) / 64;
-    let j = q * stride + i;
-    let row = 64 * i + (k as usize);
-    let v = visit(rows, count, row, q, n, window, heads, nexts, todo, marks);
-    clear_bit(todo, j, k);
-    v
-}
-
-// Notes the row `late` in word q, if there is one.
-fn note_late(
-    rows: &[u64],
-    count: usize,
-    n: usize,
-    q: usize,
-    late: usize,
-    heads: &[u16],
-    nexts: &[u16],
-    todo: &mut [u64],
-)
-    requires { ⌜ Coded count (now rows) ⌝ }
-    requires { ⌜ (q < n) × (late ≤ count) ⌝ }
-    requires { ⌜ Linked count (now rows) (now heads) (now nexts) ⌝ }
-    requires { ⌜ Roomy count n (now todo) ⌝ }
-    ensures { λ _. ⌜ Touched count (now (rows .entry)) n late q (now (todo .entry)) (now (todo .exit)) ⌝ }
-    ensures { λ _. ⌜ (late ≡ count → now (todo .exit) ≡ now (todo .entry)) ⌝ }
-{
-    if late == count {
-        return;
-    }
-    touch(rows, count, n, q, late, heads, nexts, todo);
 }
 
 // The first set bit of a word from bit `from` on; if there is none, its first at all.
@@ -89,8 +40,179 @@ fn next_bit(word: u64, from: u64) -> u64
     from + u64::trailing_zeros(rest) as u64
 }
 
-// Visits the items of word q in its i-th word of the list, round and round, until none is left there. Looks at one child, visited one after
-// another, leave the child to note: it is noted once, where a visit leaves another row or none, or at the end.
+// The first set bit of a word of the list from bit `from` on, if its row's word starts as `kind` says, with its kind and its child; else 64. The bits are
+// those of the rows from `start` on.
+fn next_look(rows: &[u64], start: usize, word: u64, from: u64, kind: u64) -> u64
+    requires { ⌜ (from < 64) × (start + 64 ≤ length (now rows)) ⌝ }
+    ensures { λ k. ⌜ (k < 64 → Has word k × (getD (now (rows .entry)) (start + k) 0 % 524288 ≡ kind)) ⌝ }
+{
+    let rest = word >> from;
+    if rest == 0 {
+        return 64;
+    }
+    let k = from + u64::trailing_zeros(rest) as u64;
+    let w = rows[start + (k as usize)];
+    if w % 524288 != kind {
+        return 64;
+    }
+    k
+}
+
+// Visits the look at row c that bit k of word j of the list stands for, and takes it off the list after that. x is the child's word q, `here` are the
+// window's ticks in it, and what the look gives it is joined to `given`.
+fn take_look(
+    rows: &[u64],
+    count: usize,
+    i: usize,
+    j: usize,
+    k: u64,
+    q: usize,
+    n: usize,
+    window: usize,
+    here: u64,
+    c: usize,
+    x: Words,
+    given: Words,
+    heads: &[u16],
+    nexts: &[u16],
+    todo: &mut [u64],
+    marks: &mut [u64],
+) -> Words
+    requires { ⌜ Coded count (now rows) ⌝ }
+    requires { ⌜ (q < n) × (i < per count) × (j ≡ q * per count + i) × (k < 64) × Has (getD (now todo) j 0) k ⌝ }
+    requires { ⌜ (getD (now rows) (64 * i + k) 0 % 524288 ≡ 8 * c + 3) × Ticks q here (λ t. t < window) × Reads n (now marks) q c true (x .this) (x .other) ⌝ }
+    requires { ⌜ Linked count (now rows) (now heads) (now nexts) ⌝ }
+    requires { ⌜ Roomy count n (now todo) ⌝ }
+    requires { ⌜ Sized n count window (now marks) ⌝ }
+    requires { ⌜ Inside window (Stands n (now marks)) ⌝ }
+    ensures { λ g. ⌜ TakenLook count (now (rows .entry)) window n j (Gathered c q (given .this) (given .other)) (Gathered c q (g .this) (g .other)) (now (marks .entry)) (now (marks .exit)) (now (todo .entry)) (now (todo .exit)) ⌝ }
+    ensures { λ _. ⌜ Reads n (now (marks .exit)) q c true (x .this) (x .other) ⌝ }
+{
+    let row = 64 * i + (k as usize);
+    let offset = rows[row] / 524288;
+    let g = visit_look(
+        rows,
+        count,
+        row,
+        q,
+        n,
+        window,
+        here,
+        c,
+        offset,
+        x,
+        given,
+        heads,
+        nexts,
+        todo,
+        marks,
+    );
+    clear_bit(todo, j, k);
+    g
+}
+
+// Visits the looks at one row whose bits follow each other in word j of the list, from bit `first` on. What they give the row is marked once, after them.
+fn take_looks(
+    rows: &[u64],
+    count: usize,
+    i: usize,
+    j: usize,
+    first: u64,
+    q: usize,
+    n: usize,
+    window: usize,
+    heads: &[u16],
+    nexts: &[u16],
+    todo: &mut [u64],
+    marks: &mut [u64],
+)
+    requires { ⌜ Coded count (now rows) ⌝ }
+    requires { ⌜ (q < n) × (i < per count) × (j ≡ q * per count + i) × (first < 64) × Has (getD (now todo) j 0) first ⌝ }
+    requires { ⌜ getD (now rows) (64 * i + first) 0 % 8 ≡ 3 ⌝ }
+    requires { ⌜ Linked count (now rows) (now heads) (now nexts) ⌝ }
+    requires { ⌜ Roomy count n (now todo) ⌝ }
+    requires { ⌜ Sized n count window (now marks) ⌝ }
+    requires { ⌜ Inside window (Stands n (now marks)) ⌝ }
+    ensures { λ _. ⌜ Taken count (now (rows .entry)) window n j (now (marks .entry)) (now (marks .exit)) (now (todo .entry)) (now (todo .exit)) ⌝ }
+{
+    let start = 64 * i;
+    let kind = rows[start + (first as usize)] % 524288;
+    let c = (kind / 8) as usize;
+    let x = words_at(marks, n, q, c, true);
+    let here = window_word(window, q);
+    let mut given = Words { this: 0, other: 0 };
+    let mut k = first;
+    while k < 64 {
+        given = take_look(
+            rows,
+            count,
+            i,
+            j,
+            k,
+            q,
+            n,
+            window,
+            here,
+            c,
+            x,
+            given,
+            heads,
+            nexts,
+            todo,
+            marks,
+        );
+        k = next_look(rows, start, todo[j], k, kind);
+    }
+    mark_child(rows, count, n, q, c, true, given, heads, nexts, todo, marks);
+}
+
+// Visits the item that bit k of word j of the list stands for, and takes it off the list after that; of a look also the looks at the same row after it.
+fn take(
+    rows: &[u64],
+    count: usize,
+    i: usize,
+    j: usize,
+    k: u64,
+    q: usize,
+    n: usize,
+    window: usize,
+    heads: &[u16],
+    nexts: &[u16],
+    todo: &mut [u64],
+    marks: &mut [u64],
+)
+    requires { ⌜ Coded count (now rows) ⌝ }
+    requires { ⌜ (q < n) × (i < per count) × (j ≡ q * per count + i) × (k < 64) × Has (getD (now todo) j 0) k ⌝ }
+    requires { ⌜ Linked count (now rows) (now heads) (now nexts) ⌝ }
+    requires { ⌜ Roomy count n (now todo) ⌝ }
+    requires { ⌜ Sized n count window (now marks) ⌝ }
+    requires { ⌜ Inside window (Stands n (now marks)) ⌝ }
+    ensures { λ _. ⌜ Taken count (now (rows .entry)) window n j (now (marks .entry)) (now (marks .exit)) (now (todo .entry)) (now (todo .exit)) ⌝ }
+{
+    let row = 64 * i + (k as usize);
+    let w = rows[row];
+    if w % 8 == 3 {
+        take_looks(
+            rows,
+            count,
+            i,
+            j,
+            k,
+            q,
+            n,
+            window,
+            heads,
+            nexts,
+            todo,
+            marks,
+        );
+        return;
+    }
+    visit(rows, count, row, w, q, n, window, heads, nexts, todo, marks);
+    clear_bit(todo, j, k);
+}
+
+// Visits the items of word q in its i-th word of the list, round and round, until none is left there.
 pub fn work_word(
     rows: &[u64],
     count: usize,
@@ -102,33 +224,34 @@ pub fn work_word(
     nexts: &[u16],
     todo: &mut [u64],
     marks: &mut [u64],
-) -> u64
+)
     requires { ⌜ Coded count (now rows) ⌝ }
     requires { ⌜ (q < n) × (i < per count) ⌝ }
     requires { ⌜ Linked count (now rows) (now heads) (now nexts) ⌝ }
     requires { ⌜ Roomy count n (now todo) ⌝ }
     requires { ⌜ Sized n count window (now marks) ⌝ }
     requires { ⌜ Inside window (Stands n (now marks)) ⌝ }
-    ensures { λ changed. ⌜ Works count (now (rows .entry)) window n (InWord q i) (now (marks .entry)) (now (marks .exit)) (now (todo .entry)) (now (todo .exit)) changed ⌝ }
+    ensures { λ _. ⌜ Works count (now (rows .entry)) window n (OneWord (q * per count + i)) (now (marks .entry)) (now (marks .exit)) (now (todo .entry)) (now (todo .exit)) ⌝ }
 {
     let stride = (count + 63) / 64;
     let j = q * stride + i;
-    let mut changed: u64 = 0;
     let mut from: u64 = 0;
-    let mut late = count;
     while todo[j] != 0 {
         let k = next_bit(todo[j], from);
-        from = (k + 1) % 64;
-        let v = take_item(rows, count, i, k, q, n, window, heads, nexts, todo, marks);
-        if v.changed != 0 {
-            changed = 1;
-            if v.late != late {
-                let old = late;
-                late = v.late;
-                note_late(rows, count, n, q, old, heads, nexts, todo);
-            }
-        }
+        take(
+            rows,
+            count,
+            i,
+            j,
+            k,
+            q,
+            n,
+            window,
+            heads,
+            nexts,
+            todo,
+            marks,
+        );
+        from = k;
     }
-    note_late(rows, count, n, q, late, heads, nexts, todo);
-    changed
 }

@@ -5,7 +5,7 @@ use mathlib.Core.Path.{_∙_}
 use Rattle.marking.proofs.RowRules.{gate-ticks, gate-steps}
 use Rattle.parents.proofs.Linking.{ended}
 use Rattle.work_list.proofs.Noting.{roomy-as}
-use Rattle.noting.proofs.Heeding.{notes-but, notes-then, notes-parents, rests-here, visits-noted, late-none}
+use Rattle.noting.proofs.Heeding.{notes-but, notes-then, notes-parents, rests-here, visits-by}
 use Rattle.gate_visits.proofs.visit_gate.Statement.{statement}
 use Rattle.gate_visits.proofs.visit_gate.Tie as tie
 
@@ -27,20 +27,14 @@ mark-child-requires : tie.Need-mark-child-requires
 mark-child-requires c κs =
     let o = c .before .before .before .before .before .before .before .before .before .before .before .before .before .before .before .before .before .before .before .before .before .before .before .before .before .before .before .pre in
     let own = c .before .before .before .before .before .before .mark-own .ensures in
-    (o .0, ((omega (arith, o .1 .0, o .1 .1 .0 .4), o .1 .1 .0 .0, omega (arith, o .1 .1 .0 .2, own .0 .gains .size)), (o .1 .1 .1 .0, roomy-as (own .1 .enters .size) (o .1 .1 .1 .1))))
+    (o .0, ((omega (arith, o .1 .0, o .1 .1 .0 .4), o .1 .1 .0 .0, omega (arith, o .1 .1 .0 .2, own .0 .gains .size)), (o .1 .1 .1 .0, roomy-as (own .1 .1 .enters .size) (o .1 .1 .1 .1))))
 
 mark-child-requires-2 : tie.Need-mark-child-requires-2
 mark-child-requires-2 c κs =
     let o = c .before .before .before .before .before .before .before .before .before .before .before .before .before .before .before .before .before .before .before .before .before .before .before .before .before .before .before .before .before .before .before .before .before .before .pre in
     let own = c .before .before .before .before .before .before .before .before .before .before .before .before .before .mark-own .ensures in
     let left = c .before .before .before .before .before .before .mark-child .ensures in
-    (o .0, ((omega (arith, o .1 .0, o .1 .1 .0 .5), o .1 .1 .0 .0, omega (arith, o .1 .1 .0 .3, own .0 .gains .size, left .0 .gains .size)), (o .1 .1 .1 .0, roomy-as (left .1 .size ∙ own .1 .enters .size) (o .1 .1 .1 .1))))
-
-add-changed : tie.Need-add-changed
-add-changed c = omega (arith, c .before .before .before .before .before .before .before .before .before .before .before .before .before .before .before .before .before .before .mark-own .ensures .0 .small, c .before .before .before .before .before .before .before .before .before .before .before .mark-child .ensures .0 .small)
-
-add-changed-2 : tie.Need-add-changed-2
-add-changed-2 c = omega (arith, c .before .before .before .before .before .before .before .before .before .before .before .before .before .before .before .before .before .before .mark-own .ensures .0 .small, c .before .before .before .before .before .before .before .before .before .before .before .mark-child .ensures .0 .small, c .before .before .before .before .mark-child2 .ensures .0 .small)
+    (o .0, ((omega (arith, o .1 .0, o .1 .1 .0 .5), o .1 .1 .0 .0, omega (arith, o .1 .1 .0 .3, own .0 .gains .size, left .joins .gains .size)), (o .1 .1 .1 .0, roomy-as (left .notes .size ∙ own .1 .1 .enters .size) (o .1 .1 .1 .1))))
 
 same-length : tie.Need-same-length
 same-length c = search needs
@@ -55,12 +49,10 @@ returns c =
     let own = c .before .before .before .before .before .before .before .before .before .before .before .before .before .before .before .before .before .before .mark-own .ensures in
     let left = c .before .before .before .before .before .before .before .before .before .before .before .mark-child .ensures in
     let right = c .before .before .before .before .mark-child2 .ensures in
-    let w = gate-ticks (c .before .before .before .before .before .before .before .before .before .before .before .before .before .before .before .before .before .before .before .before .before .before .before .before .before .before .before .before .before .before .before .before .words-at .ensures) (c .before .before .before .before .before .before .before .before .before .before .before .before .before .before .before .before .before .before .before .before .before .before .before .before .before .before .before .before .before .before .words-at2 .ensures) (c .before .before .before .before .before .before .before .before .before .before .before .before .before .before .before .before .before .before .before .before .before .before .before .before .before .before .before .before .words-at3 .ensures) in (
-      λ W. visits-noted _ _ _ _ _ _ W _ _ _ _ _ _ _ (gate-steps _ _ _ _ _ _ _ _ _ _ _ _ _ (o .1 .1 .0 .4) (o .1 .1 .0 .5) _ _ _ (w .0) (w .1) (w .2) (own .0) (left .0) (right .0) W)
-          (λ e. notes-then _ _ _ (notes-parents _ _ _ _ _ (o .1 .1 .1 .0) _ _ _ _ (o .1 .0) (rests-here (a .rows .now) (a .row) _ e (λ w s. s .0)) (own .1)) (notes-then _ _ _ (notes-but _ _ _ (left .1)) (notes-but _ _ _ (right .1))))
-          (omega arith),
-      late-none _ _,
-    )
+    let w = gate-ticks (c .before .before .before .before .before .before .before .before .before .before .before .before .before .before .before .before .before .before .before .before .before .before .before .before .before .before .before .before .before .before .before .before .words-at .ensures) (c .before .before .before .before .before .before .before .before .before .before .before .before .before .before .before .before .before .before .before .before .before .before .before .before .before .before .before .before .before .before .words-at2 .ensures) (c .before .before .before .before .before .before .before .before .before .before .before .before .before .before .before .before .before .before .before .before .before .before .before .before .before .before .before .before .words-at3 .ensures) in
+    λ W. visits-by _ _ _ _ _ _ W _ _ _ _ _ _ (gate-steps _ _ _ _ _ _ _ _ _ _ _ _ _ (o .1 .1 .0 .4) (o .1 .1 .0 .5) _ _ _ (w .0) (w .1) (w .2) (own .0) (left .joins) (right .joins) W)
+    (λ e. notes-then _ _ _ (notes-parents _ _ _ _ _ (o .1 .1 .1 .0) _ _ _ _ (o .1 .0) (rests-here (a .rows .now) (a .row) _ e (λ w s. s .0)) (own .1 .1))
+    (notes-then _ _ _ (notes-but _ _ _ (left .notes)) (notes-but _ _ _ (right .notes))))
 
 pub visit-gate-spec : {M : Type 1} → statement M
 visit-gate-spec =
@@ -72,8 +64,6 @@ visit-gate-spec =
     mark-own-requires
     mark-child-requires
     mark-child-requires-2
-    add-changed
-    add-changed-2
     same-length
     same-length-2
     returns)

@@ -5,7 +5,7 @@ use mathlib.Core.Path.{refl}
 use Rattle.marking.proofs.RowRules.{not-steps}
 use Rattle.parents.proofs.Linking.{ended}
 use Rattle.work_list.proofs.Noting.{roomy-as}
-use Rattle.noting.proofs.Heeding.{notes-but, notes-then, notes-parents, rests-here, visits-noted, late-none}
+use Rattle.noting.proofs.Heeding.{notes-but, notes-then, notes-parents, rests-here, visits-by}
 use Rattle.gate_visits.proofs.visit_not.Statement.{statement}
 use Rattle.gate_visits.proofs.visit_not.Tie as tie
 
@@ -24,10 +24,7 @@ mark-child-requires : tie.Need-mark-child-requires
 mark-child-requires c κs =
     let o = c .before .before .before .before .before .before .before .before .before .before .before .before .before .before .before .before .before .before .pre in
     let own = c .before .before .before .before .before .before .mark-own .ensures in
-    (o .0, ((omega (arith, o .1 .0, o .1 .1 .0 .3), o .1 .1 .0 .0, omega (arith, o .1 .1 .0 .2, own .0 .gains .size)), (o .1 .1 .1 .0, roomy-as (own .1 .enters .size) (o .1 .1 .1 .1))))
-
-add-changed : tie.Need-add-changed
-add-changed c = omega (arith, c .before .before .before .before .before .before .before .before .before .before .before .mark-own .ensures .0 .small, c .before .before .before .before .mark-child .ensures .0 .small)
+    (o .0, ((omega (arith, o .1 .0, o .1 .1 .0 .3), o .1 .1 .0 .0, omega (arith, o .1 .1 .0 .2, own .0 .gains .size)), (o .1 .1 .1 .0, roomy-as (own .1 .1 .enters .size) (o .1 .1 .1 .1))))
 
 same-length : tie.Need-same-length
 same-length c = search needs
@@ -40,11 +37,9 @@ returns c =
     let a = c .before .before .before .before .before .before .before .before .before .before .before .before .before .before .before .before .before .before .before .before .before .before .before .args in
     let o = c .before .before .before .before .before .before .before .before .before .before .before .before .before .before .before .before .before .before .before .before .before .before .before .pre in
     let own = c .before .before .before .before .before .before .before .before .before .before .before .mark-own .ensures in
-    let child = c .before .before .before .before .mark-child .ensures in (
-      λ W. visits-noted _ _ _ _ _ _ W _ _ _ _ _ _ _ (not-steps _ _ _ _ _ _ _ _ _ (o .1 .1 .0 .3) (c .before .before .before .before .before .before .before .before .before .before .before .before .before .before .before .before .words-at .ensures) (c .before .before .before .before .before .before .before .before .before .before .before .before .before .before .words-at2 .ensures) (own .0) (child .0) W)
-          (λ e. notes-then _ _ _ (notes-parents _ _ _ _ _ (o .1 .1 .1 .0) _ _ _ _ (o .1 .0) (rests-here (a .rows .now) (a .row) _ e (λ w s. s .0)) (own .1)) (notes-but _ _ _ (child .1))) refl,
-      late-none _ _,
-    )
+    let child = c .before .before .before .before .mark-child .ensures in
+    λ W. visits-by _ _ _ _ _ _ W _ _ _ _ _ _ (not-steps _ _ _ _ _ _ _ _ _ (o .1 .1 .0 .3) (c .before .before .before .before .before .before .before .before .before .before .before .before .before .before .before .before .words-at .ensures) (c .before .before .before .before .before .before .before .before .before .before .before .before .before .before .words-at2 .ensures) (own .0) (child .joins) W)
+    (λ e. notes-then _ _ _ (notes-parents _ _ _ _ _ (o .1 .1 .1 .0) _ _ _ _ (o .1 .0) (rests-here (a .rows .now) (a .row) _ e (λ w s. s .0)) (own .1 .1)) (notes-but _ _ _ (child .notes)))
 
 pub visit-not-spec : {M : Type 1} → statement M
 visit-not-spec =
@@ -54,7 +49,6 @@ visit-not-spec =
     words-at-requires-2
     mark-own-requires
     mark-child-requires
-    add-changed
     same-length
     same-length-2
     returns)

@@ -2,7 +2,7 @@
 use borrow.Author.Needs.{needs}
 use native.Mathlib.Omega.{arith}
 use lib.ListN.{length-set}
-use Rattle.table_words.proofs.Gaining.{sides-none, sides-some}
+use Rattle.table_words.proofs.Gaining.{sides-none, sides-some, words-none, words-some}
 use Rattle.table_words.proofs.add_words.Statement.{statement}
 use Rattle.table_words.proofs.add_words.Tie as tie
 
@@ -26,10 +26,12 @@ slice-read-b c = search needs
 
 returns : tie.Need-returns
 returns c =
-    let o = c .before .before .before .before .before .before .pre in
-    let p = c .before .before .before .before .place-of .ensures in
-    let r = c .before .before .before .place-of2 .ensures in
-    sides-none _ _ _ (c .before .before .before .before .before .before .args .u) _ _ _ (o .0) _ _ (p .0) (r .0) (omega (arith, o .1, p .1)) (omega (arith, o .1, r .1)) (c .if1 .taken)
+    let o = c .before .before .before .before .before .before .before .before .pre in
+    let p = c .before .before .before .before .before .before .place-of .ensures in
+    let r = c .before .before .before .before .before .place-of2 .ensures in (
+      sides-none _ _ _ (c .before .before .before .before .before .before .before .before .args .u) _ _ _ (o .0) _ _ (p .0) (r .0) (omega (arith, o .1, p .1)) (omega (arith, o .1, r .1)) (c .if1 .taken),
+      words-none _ _ _ (c .before .before .before .before .before .before .before .before .args .u) _ _ _ (o .0) _ _ (p .0) (r .0) (omega (arith, o .1, p .1)) (omega (arith, o .1, r .1)) (c .if1 .taken),
+    )
 
 mul-marks : tie.Need-mul-marks
 mul-marks c = search needs
@@ -41,18 +43,20 @@ mul-marks-2 : tie.Need-mul-marks-2
 mul-marks-2 c = search needs
 
 slice-write-marks-2 : tie.Need-slice-write-marks-2
-slice-write-marks-2 c = rw length-set (omega (arith, c .before .before .before .before .before .before .pre .1, c .before .before .before .place-of2 .ensures .1))
+slice-write-marks-2 c = rw length-set (omega (arith, c .before .before .before .before .before .before .before .before .pre .1, c .before .before .before .before .before .place-of2 .ensures .1))
 
 same-length : tie.Need-same-length
 same-length c = search needs
 
 returns-2 : tie.Need-returns-2
 returns-2 c =
-    let o = c .before .before .before .before .before .before .pre in
-    let p = c .before .before .before .before .place-of .ensures in
-    let r = c .before .before .before .place-of2 .ensures in
-    sides-some _ _ _ (c .before .before .before .before .before .before .args .u) _ _ _ (o .0) _ _ (p .0) (r .0) (omega (arith, o .1, p .1)) (omega (arith, o .1, r .1))
-    (omega (arith, c .before .before .before .before .before .slice-known .given (c .before .before .before .before .place-of .result))) (omega (arith, c .before .before .before .before .before .slice-known .given (c .before .before .before .place-of2 .result))) (omega arith) (omega arith) (c .if1 .left)
+    let o = c .before .before .before .before .before .before .before .before .pre in
+    let p = c .before .before .before .before .before .before .place-of .ensures in
+    let r = c .before .before .before .before .before .place-of2 .ensures in (
+      sides-some _ _ _ (c .before .before .before .before .before .before .before .before .args .u) _ _ _ (o .0) _ _ (p .0) (r .0) (omega (arith, o .1, p .1)) (omega (arith, o .1, r .1))
+          (omega (arith, c .before .before .before .before .before .before .before .slice-known .given (c .before .before .before .before .before .before .place-of .result))) (omega (arith, c .before .before .before .before .before .before .before .slice-known .given (c .before .before .before .before .before .place-of2 .result))) (omega arith) (omega arith) (c .if1 .left),
+      words-some _ (c .before .before .before .before .before .before .before .before .args .marks .now) _ (c .before .before .before .before .before .before .before .before .args .u) _ _ _ (o .0) _ _ (p .0) (r .0) (omega (arith, o .1, p .1)) (omega (arith, o .1, r .1)),
+    )
 
 pub add-words-spec : {M : Type 1} → statement M
 add-words-spec =

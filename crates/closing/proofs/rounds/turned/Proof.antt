@@ -2,7 +2,7 @@
 use borrow.Author.Needs.{needs}
 use mathlib.Core.Path.{sym, ap}
 use mathlib.Core.Bool.{Bool}
-use Rattle.working.specs.Stretches.{turn}
+use Rattle.closing.specs.Rounds.{turn}
 use Rattle.closing.proofs.rounds.turned.Statement.{statement}
 use Rattle.closing.proofs.rounds.turned.Tie as tie
 

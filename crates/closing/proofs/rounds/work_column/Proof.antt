@@ -1,28 +1,27 @@
 -- `work_column` meets its contract. The invariant: the first i words of the list, up or down, are done. Assumes nothing.
 use native.Mathlib.Omega.{arith}
-use mathlib.Core.Logic.{⊎-elim}
-use Prim.Native.Nat.{_-_, _/_, _≤_}
-use Rattle.work_list.specs.Items.{per}
-use Rattle.working.specs.Stretches.{Works}
+use mathlib.Core.Path.{_≡_}
+use Prim.Native.Nat.{_-_, _≤_}
 use Rattle.marking.proofs.Decoding.{sized-as}
-use Rattle.working.proofs.Working.{FirstWords, works-none, works-words, works-as, works-inside, turn-below}
+use Rattle.work_list.specs.Items.{per}
 use Rattle.work_list.proofs.Noting.{roomy-as}
+use Rattle.working.specs.Stretches.{Works}
+use Rattle.working.proofs.Working.{works-inside}
+use Rattle.closing.proofs.Turning.{Turned, turned-none, turned-more, turned-all, turn-below}
 use Rattle.closing.proofs.rounds.work_column.Statement.{statement}
 use Rattle.closing.proofs.rounds.work_column.Tie as tie
 
 abbrev Inv-loop : tie.InvT-loop
-Inv-loop up rows count q n window heads nexts todo₀ marks₀ stride changed₀ i₀ todo marks changed i = (i ≤ per count) × Works count rows window n (FirstWords count rows window n up q i) marks₀ marks todo₀ todo changed
+Inv-loop up rows count q n window heads nexts todo₀ marks₀ stride i₀ todo marks i = (i ≤ per count) × Works count rows window n (Turned count rows window n up q i) marks₀ marks todo₀ todo
 
 abbrev μ-loop : tie.MeasureT-loop
-μ-loop up rows count q n window heads nexts todo₀ marks₀ stride changed₀ i₀ todo marks changed i = per count - i
+μ-loop up rows count q n window heads nexts todo₀ marks₀ stride i₀ todo marks i = per count - i
 
 add-stride : tie.Need-add-stride Inv-loop μ-loop
-add-stride c =
-    let o = c .before .before .before .before .before .pre in
-    omega (arith, o .1 .1 .1 .0 .most)
+add-stride c = omega (arith, c .before .before .before .before .before .pre .1 .1 .1 .0 .most)
 
 loop-holds : tie.Need-loop-holds Inv-loop μ-loop
-loop-holds c = (omega arith, works-none _ _ _ _ _ _ _ (λ r p z. absurd (omega (arith, z .1))))
+loop-holds c = (omega arith, turned-none _ _ _ _ (c .before .before .before .before .before .args .up) _ _ _)
 
 turned-requires : tie.Need-turned-requires Inv-loop μ-loop
 turned-requires c κs = omega arith
@@ -36,32 +35,26 @@ work-word-requires c κs =
     (o .0, ((o .1 .0, omega (arith, c .before .before .turned .ensures, turn-below (a .up) (per (a .count)) (l .i) (omega arith))), (o .1 .1 .0, (roomy-as (w .long) (o .1 .1 .1 .0), (sized-as (w .each (o .0 .program) (o .0 .codes) .size) (o .1 .1 .1 .1 .0), works-inside _ _ _ _ _ (o .0) (o .1 .1 .1 .1 .1) w)))))
 
 add-i : tie.Need-add-i Inv-loop μ-loop
-add-i c =
-    let o = c .before .before .before .before .before .before .before .before .before .before .before .before .before .before .before .before .pre in
-    omega (arith, o .1 .1 .1 .0 .most)
+add-i c = omega (arith, c .before .before .before .before .before .before .before .before .before .before .before .before .before .before .before .pre .1 .1 .1 .0 .most)
 
 loop-less : tie.Need-loop-less Inv-loop μ-loop
 loop-less c = omega arith
 
 loop-again : tie.Need-loop-again Inv-loop μ-loop
-loop-again c =
-    let a = c .before .before .before .before .before .before .before .before .before .before .before .before .before .before .before .before .args in
-    let l = c .before .before .before .before .before .before .before .before .before .before .loop in
-    (omega arith, works-words _ _ _ _ _ (λ e. ⊎-elim (λ w. omega arith) (λ w. omega arith) (c .if1 .came)) (λ e. ⊎-elim (λ w. omega arith) (λ w. omega arith) (c .if1 .came)) (a .up) _ _ _ (omega arith) (c .before .before .before .before .before .before .before .before .turned .ensures) (l .inv .1) (c .before .before .before .before .before .work-word .ensures))
+loop-again c = (omega arith, turned-more _ _ _ _ (c .before .before .before .before .before .before .before .before .before .before .before .before .before .before .before .args .up) _ _ _ (omega arith) (c .before .before .before .before .before .before .before .turned .ensures) (c .before .before .before .before .before .before .before .before .before .loop .inv .1) (c .before .before .before .before .work-word .ensures))
 
 same-length : tie.Need-same-length Inv-loop μ-loop
 same-length c = c .before .loop .inv .1 .long
 
 same-length-2 : tie.Need-same-length-2 Inv-loop μ-loop
 same-length-2 c =
-    let l = c .before .loop in
     let o = c .before .before .before .before .before .before .before .pre in
-    l .inv .1 .each (o .0 .program) (o .0 .codes) .size
+    c .before .loop .inv .1 .each (o .0 .program) (o .0 .codes) .size
 
 returns : tie.Need-returns Inv-loop μ-loop
-returns c =
-    let a = c .before .before .before .before .before .before .before .args in
-    works-as _ _ _ _ _ _ (λ r p h b z. (z, omega (arith, turn-below (a .up) (per (a .count)) (r / 64) (omega arith)))) (c .before .loop .inv .1)
+returns c = 
+    let e : c .before .loop .i ≡ per (c .before .before .before .before .before .before .before .args .count) = omega arith in
+    turned-all _ _ _ _ (c .before .before .before .before .before .before .before .args .up) _ (rw e at (c .before .loop .inv .1))
 
 pub work-column-spec : {M : Type 1} → statement M
 work-column-spec =

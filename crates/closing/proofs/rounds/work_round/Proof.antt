@@ -1,28 +1,29 @@
 -- `work_round` meets its contract. The invariant: the words of ticks before q are done. Assumes nothing.
 use native.Mathlib.Omega.{arith}
-use mathlib.Core.Logic.{⊎-elim}
+use mathlib.Core.Path.{_≡_}
 use Prim.Native.Nat.{_-_, _≤_}
-use Rattle.working.specs.Stretches.{Works}
 use Rattle.marking.proofs.Decoding.{sized-as}
-use Rattle.working.proofs.Working.{FirstColumns, works-none, works-columns, works-as, works-inside}
 use Rattle.work_list.proofs.Noting.{roomy-as}
+use Rattle.working.specs.Stretches.{Works}
+use Rattle.working.proofs.Working.{works-inside}
+use Rattle.closing.specs.Rounds.{InColumns}
+use Rattle.closing.proofs.Turning.{columns-none, columns-more}
 use Rattle.closing.proofs.rounds.work_round.Statement.{statement}
 use Rattle.closing.proofs.rounds.work_round.Tie as tie
 
 abbrev Inv-loop : tie.InvT-loop
-Inv-loop up rows count n window heads nexts todo₀ marks₀ changed₀ q₀ todo marks changed q = (q ≤ n) × Works count rows window n (FirstColumns count rows window n q) marks₀ marks todo₀ todo changed
+Inv-loop up rows count n window heads nexts todo₀ marks₀ q₀ todo marks q = (q ≤ n) × Works count rows window n (InColumns count q) marks₀ marks todo₀ todo
 
 abbrev μ-loop : tie.MeasureT-loop
-μ-loop up rows count n window heads nexts todo₀ marks₀ changed₀ q₀ todo marks changed q = n - q
+μ-loop up rows count n window heads nexts todo₀ marks₀ q₀ todo marks q = n - q
 
 loop-holds : tie.Need-loop-holds Inv-loop μ-loop
-loop-holds c = (omega arith, works-none _ _ _ _ _ _ _ (λ r p z. absurd (omega (arith, z))))
+loop-holds c = (omega arith, columns-none _ _ _ _ _ _)
 
 work-column-requires : tie.Need-work-column-requires Inv-loop μ-loop
 work-column-requires c κs =
-    let l = c .before .before .before .loop in
     let o = c .before .before .before .before .before .before .before .before .before .pre in
-    let w = l .inv .1 in
+    let w = c .before .before .before .loop .inv .1 in
     (o .0, (omega arith, (o .1 .0, (roomy-as (w .long) (o .1 .1 .0), (sized-as (w .each (o .0 .program) (o .0 .codes) .size) (o .1 .1 .1 .0), works-inside _ _ _ _ _ (o .0) (o .1 .1 .1 .1) w)))))
 
 add-q : tie.Need-add-q Inv-loop μ-loop
@@ -32,21 +33,20 @@ loop-less : tie.Need-loop-less Inv-loop μ-loop
 loop-less c = omega arith
 
 loop-again : tie.Need-loop-again Inv-loop μ-loop
-loop-again c =
-    let l = c .before .before .before .before .before .before .before .before .before .loop in
-    (omega arith, works-columns _ _ _ _ _ (λ e. ⊎-elim (λ w. omega arith) (λ w. omega arith) (c .if1 .came)) (λ e. ⊎-elim (λ w. omega arith) (λ w. omega arith) (c .if1 .came)) _ (l .inv .1) (c .before .before .before .before .before .work-column .ensures))
+loop-again c = (omega arith, columns-more _ _ _ _ _ (c .before .before .before .before .before .before .before .before .loop .inv .1) (c .before .before .before .before .work-column .ensures))
 
 same-length : tie.Need-same-length Inv-loop μ-loop
 same-length c = c .before .loop .inv .1 .long
 
 same-length-2 : tie.Need-same-length-2 Inv-loop μ-loop
 same-length-2 c =
-    let l = c .before .loop in
     let o = c .before .before .before .before .before .before .before .pre in
-    l .inv .1 .each (o .0 .program) (o .0 .codes) .size
+    c .before .loop .inv .1 .each (o .0 .program) (o .0 .codes) .size
 
 returns : tie.Need-returns Inv-loop μ-loop
-returns c = works-as _ _ _ _ _ _ (λ r p h b z. omega arith) (c .before .loop .inv .1)
+returns c =
+    let e : c .before .loop .q ≡ c .before .before .before .before .before .before .before .args .n = omega arith in
+    rw e at (c .before .loop .inv .1)
 
 pub work-round-spec : {M : Type 1} → statement M
 work-round-spec =
