@@ -1,9 +1,9 @@
 -- Lists of parents: for each row the rows that have it for a child, along numbered edges. Edge 2 r is row r's to its first child and
--- 2 r + 1 to its second; in H and N the number e + 1 stands for edge e, and 0 ends a list. Assumes nothing.
+-- 2 r + 1 to its second; 0 ends a list, for row 0 is a signal's. Assumes nothing.
 use mathlib.Core.Path.{_≡_}
 use mathlib.Core.List.{List}
 use mathlib.Core.Logic.{_⊎_}
-use Prim.Native.Nat.{ℕ, suc, _*_, _/_, _≤_, _<_}
+use Prim.Native.Nat.{ℕ, _*_, _/_, _≤_, _<_}
 use lib.ListN.{length, getD}
 use Rattle.rows.specs.Words.{rowAt}
 use Rattle.tilco.specs.Inference.{Node, signal, notOf, gate, look}
@@ -15,15 +15,15 @@ Child (notOf y) x = x ≡ y
 Child (gate u a b) x = (x ≡ a) ⊎ (x ≡ b)
 Child (look k c) x = x ≡ c
 
--- Row y is in the list that starts with h: N has what comes after each edge.
+-- Row y is in the list that starts with edge h: N has what comes after each edge.
 pub data Reach (N : List ℕ) : ℕ → ℕ → Type 0 where
-  here : {h y : ℕ} (e : ℕ) → h ≡ suc e → e / 2 ≡ y → Reach N h y
-  later : {h y : ℕ} (e : ℕ) → h ≡ suc e → Reach N (getD N e 0) y → Reach N h y
+  here : {h y : ℕ} → 0 < h → h / 2 ≡ y → Reach N h y
+  later : {h y : ℕ} → 0 < h → Reach N (getD N h 0) y → Reach N h y
 
--- The list that starts with h has edges below m, each lower than the one before.
+-- The list that starts with edge h has edges below m, each lower than the one before.
 pub data Falls (N : List ℕ) (m : ℕ) : ℕ → Type 0 where
   ends : {h : ℕ} → h ≡ 0 → Falls N m h
-  goes : {h : ℕ} (e : ℕ) → h ≡ suc e → e < m → getD N e 0 ≤ e → Falls N m (getD N e 0) → Falls N m h
+  goes : {h : ℕ} → 0 < h → h < m → getD N h 0 < h → Falls N m (getD N h 0) → Falls N m h
 
 -- The lists with the edges of the first m rows: H has where each list starts.
 pub record LinkedTo (count : ℕ) (B H N : List ℕ) (m : ℕ) : Type 0 where

@@ -1,5 +1,5 @@
-// The lists of parents: for each row the rows that have it for a child. Edge 2 r is row r's to its first child, 2 r + 1 to its second;
-// `heads` has where each row's list starts and `nexts` what comes after each edge, as the edge's number and one, and 0 ends a list.
+// The lists of parents: for each row the rows that have it for a child. Edge 2 r is row r's to its first child, 2 r + 1 to its second; `heads` has
+// the edge with which each row's list starts, and `nexts` the one after each edge. 0 ends a list: row 0 is a signal's, and has no edge.
 // Assumes that the words are a program's rows, of which there are at most 1,024.
 ghost use mathlib.Core.Path.{_≡_};
 ghost use Prim.Native.Nat.{ℕ, _+_, _*_, _<_, _≤_};
@@ -17,11 +17,11 @@ pub fn index(number: u16) -> usize
 // Puts an edge before row x's list.
 fn link(heads: &mut [u16], nexts: &mut [u16], x: usize, edge: usize)
     requires { ⌜ (x < length (now heads)) × (edge < length (now nexts)) × (edge < 2048) ⌝ }
-    ensures { λ _. ⌜ now (heads .exit) ≡ set (now (heads .entry)) x (edge + 1) ⌝ }
+    ensures { λ _. ⌜ now (heads .exit) ≡ set (now (heads .entry)) x edge ⌝ }
     ensures { λ _. ⌜ now (nexts .exit) ≡ set (now (nexts .entry)) edge (getD (now (heads .entry)) x 0) ⌝ }
 {
     nexts[edge] = heads[x];
-    heads[x] = (edge + 1) as u16;
+    heads[x] = edge as u16;
 }
 
 // Puts row r into the lists of its children.

@@ -3,7 +3,7 @@
 use mathlib.Core.Path.{_≡_, refl, sym, ap, _∙_, subst}
 use mathlib.Core.List.{List}
 use mathlib.Core.Logic.{_⊎_, inl, inr, ⊎-elim}
-use Prim.Native.Nat.{ℕ, suc, _+_, _-_, _*_, _/_, _%_, _^_, _≤_, _<_}
+use Prim.Native.Nat.{ℕ, _+_, _*_, _/_, _%_, _^_, _≤_, _<_}
 use native.Mathlib.Decide.{ℕ-discrete}
 use native.Mathlib.Nat.{mul-le-mul-right, mul-comm, suc-mul}
 use native.Mathlib.Omega.{arith}
@@ -109,29 +109,27 @@ module _ (N : List ℕ) (count head i : ℕ) (D : List ℕ) where
   pub walk-start : Falls N (2 * count) head → Walking N count head head i D D
   walk-start f = record { size = refl; kept = λ j b h. h; falls = f; left = λ y r. inr r }
 
-  pub walk-more : (h h′ : ℕ) (D′ D″ : List ℕ) → 0 < h → h′ ≡ getD N (h - 1) 0 → Walking N count head h i D D′ → Enters (λ j z. (j ≡ i) × (z ≡ (h - 1) / 2)) D′ D″
+  pub walk-more : (h h′ : ℕ) (D′ D″ : List ℕ) → 0 < h → h′ ≡ getD N h 0 → Walking N count head h i D D′ → Enters (λ j z. (j ≡ i) × (z ≡ h / 2)) D′ D″
       → Walking N count head h′ i D D″
   walk-more h h′ D′ D″ some to w a = record {
     size = a .size ∙ w .size;
     kept = λ j b k. a .kept j b (w .kept j b k);
-    falls = subst (Falls N (2 * count)) (sym to) (falls-next (h - 1) (omega arith) (w .falls) .2);
+    falls = subst (Falls N (2 * count)) (sym to) (falls-next some (w .falls) .2);
     left = λ y r. ⊎-elim (λ k. inl (a .kept (i + y / 64) (y % 64) k)) (λ k. next y k) (w .left y r);
   }
     where
       next : (y : ℕ) → Reach N h y → Bit D″ i y ⊎ Reach N h′ y
-      next y r =
-          let e : h ≡ suc (h - 1) = omega arith in
-          ⊎-elim (λ k. inl (a .each i y (refl, sym k))) (λ k. inr (subst (λ (v : ℕ). Reach N v y) (sym to) k)) (reach-next N (h - 1) y (subst (λ (k : ℕ). Reach N k y) e r))
+      next y r = ⊎-elim (λ k. inl (a .each i y (refl, sym k))) (λ k. inr (subst (λ (v : ℕ). Reach N v y) (sym to) k)) (reach-next N h y r)
 
   -- The next edge is lower, and the row of this one has its bit in the list.
-  pub walk-edge : (h : ℕ) (D′ : List ℕ) → 0 < h → Walking N count head h i D D′ → (h - 1 < 2 * count) × (getD N (h - 1) 0 < h)
-  walk-edge h D′ some w = let n = falls-next (h - 1) (omega arith) (w .falls) in (n .0, omega (arith, n .1))
+  pub walk-edge : (h : ℕ) (D′ : List ℕ) → 0 < h → Walking N count head h i D D′ → (h < 2 * count) × (getD N h 0 < h)
+  walk-edge h D′ some w = let n = falls-next some (w .falls) in (n .0, n .1)
 
   pub walk-end : (h : ℕ) (D′ : List ℕ) → h ≡ 0 → Walking N count head h i D D′ → Enters (λ j y. (j ≡ i) × Reach N head y) D D′
   walk-end h D′ e w = record {
     size = w .size;
     kept = w .kept;
-    each = λ j y k. rw (k .0) (⊎-elim (λ b. b) (λ b. absurd (reach-end N y (subst (λ (v : ℕ). Reach N v y) e b))) (w .left y (k .1)));
+    each = λ j y k. rw (k .0) (⊎-elim (λ b. b) (λ b. absurd (reach-end N h y e b)) (w .left y (k .1)));
   }
 
 -- ---- all that rest on word p of row x: its own items and those of its parents

@@ -26,9 +26,8 @@ fn enter_parents(count: usize, head: usize, nexts: &[u16], todo: &mut [u64], i: 
 {
     let mut h = head;
     while h != 0 {
-        let edge = h - 1;
-        enter(todo, i, edge / 2);
-        h = index(nexts[edge]);
+        enter(todo, i, h / 2);
+        h = index(nexts[h]);
     }
 }
 

@@ -14,9 +14,6 @@ abbrev μ-loop : tie.MeasureT-loop
 loop-holds : tie.Need-loop-holds Inv-loop μ-loop
 loop-holds c = walk-start _ _ _ _ _ (c .before .before .pre .0)
 
-sub-edge : tie.Need-sub-edge Inv-loop μ-loop
-sub-edge c = omega arith
-
 enter-requires : tie.Need-enter-requires Inv-loop μ-loop
 enter-requires c κs =
     let o = c .before .before .before .before .before .pre in
@@ -61,7 +58,6 @@ enter-parents-spec =
     Inv-loop
     μ-loop
     loop-holds
-    sub-edge
     enter-requires
     mul-index
     shared-slice-read-index

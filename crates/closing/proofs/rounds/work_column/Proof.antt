@@ -52,7 +52,7 @@ same-length-2 c =
     c .before .loop .inv .1 .each (o .0 .program) (o .0 .codes) .size
 
 returns : tie.Need-returns Inv-loop μ-loop
-returns c = 
+returns c =
     let e : c .before .loop .i ≡ per (c .before .before .before .before .before .before .before .args .count) = omega arith in
     turned-all _ _ _ _ (c .before .before .before .before .before .before .before .args .up) _ (rw e at (c .before .loop .inv .1))
 
