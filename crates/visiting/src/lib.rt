@@ -1,5 +1,5 @@
-// A visit to an item of work: the rules of a row at a word of ticks, and every item that rests on a word that they changed put on the list, but for the
-// item itself, and for what a look changed in its child's word: the caller notes once what several looks at one child changed.
+// A visit to an item of a row that is no look: the rules of the row at a word of ticks, and every item that rests on a word that they changed put on the list, but
+// for the item itself.
 // Assumes that the words are a program's rows, that the lists of parents are theirs, and that the table and the list of work have them.
 use gate_visits::visit_gate;
 use gate_visits::visit_not;
