@@ -3,7 +3,7 @@ use mathlib.Core.Path.{_≡_, sym, subst, subst₂}
 use mathlib.Core.Bool.{Bool, true, false}
 use mathlib.Core.List.{List}
 use mathlib.Core.Logic.{inl, ⊎-elim}
-use Prim.Native.Nat.{ℕ, _+_, _-_, _/_, _<_}
+use Prim.Native.Nat.{ℕ, _+_, _-_, _/_, _≤_, _<_}
 use native.Mathlib.Omega.{arith}
 use lib.Bits.{bitOr}
 use Rattle.tilco.specs.Inference.{mark, Marks, Shifted}
@@ -16,7 +16,8 @@ use Rattle.marking.proofs.RowRules.{part-steps, no-steps}
 use Rattle.work_list.specs.Items.{per}
 use Rattle.noting.specs.Visits.{EntersIf, LookItems}
 use Rattle.noting.proofs.Heeding.{enters-if-not}
-use Rattle.look_visits.specs.Parts.{LooksFrom}
+use Rattle.look_words.specs.Moved.{Beside}
+use Rattle.look_visits.specs.Parts.{PartOf, LooksFrom}
 
 -- Ticks joined to another row's words leave those of row c as they are.
 pub child-stays : (n q c r p : ℕ) {U N : ℕ → Type 0} {T T′ : List ℕ} {x a b : ℕ} → c < r → Joins n (Sides r true p U N) T T′ x → Reads n T q c true a b → Reads n T′ q c true a b
@@ -29,6 +30,20 @@ child-stays n q c r p {T = T} {T′} {a = a} {b} l j f = record { this = each tr
           λ i. j .gains .exactly (mark c t v) .1 (inl i),
           λ i. ⊎-elim (λ h. h) (λ h. absurd (⊎-elim (λ k. omega (arith, k .0)) (λ k. omega (arith, k .0)) h)) (j .gains .exactly (mark c t v) .0 i),
         )) g
+
+-- ---- which part it is
+pub part-small : (up : Bool) (q o e k : ℕ) → PartOf up q o e k → k ≤ 64
+part-small true q o e k h = omega (arith, h .1)
+part-small false q o e k h = omega (arith, h .1)
+
+pub part-beside : (up : Bool) (q o e k : ℕ) → PartOf up q o e k → o / 64 ≤ e → Beside up (e - o / 64) q o k
+part-beside true q o e k h l = (omega (arith, h .0), h .1)
+part-beside false q o e k h l = (omega (arith, h .0), h .1)
+
+-- A look at an offset of whole words looks at no lower ticks.
+pub part-whole : (up : Bool) (q o e k : ℕ) → PartOf up q o e k → k ≡ 64 → (t s : ℕ) → Shifted t o s → s / 64 ≡ q → e ≡ t / 64 + o / 64 → ⊥
+part-whole true q o e k h z t s d a b = omega (arith, h .0, h .1)
+part-whole false q o e k h z t s d a b = omega (arith, h .1)
 
 module _ (e m count : ℕ) (H N : List ℕ) (r k c q W n : ℕ) where
   -- The row has no word e - k / 64 that looks at the child's word q.

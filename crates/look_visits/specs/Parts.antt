@@ -1,12 +1,19 @@
 -- A part of a visit to a look: its rules between a word of its child and one of its own. Assumes nothing.
 -- n is how many words a row has for each value, H and N are the lists of parents, W the window, T the table and D the list before, T′ and D′ after.
+use mathlib.Core.Path.{_≡_}
+use mathlib.Core.Bool.{Bool, true, false}
 use mathlib.Core.List.{List}
-use Prim.Native.Nat.{ℕ, _-_, _/_, _≤_, _<_}
+use Prim.Native.Nat.{ℕ, _+_, _-_, _/_, _%_, _≤_, _<_}
 use Rattle.tilco.specs.Inference.{Marks}
 use Rattle.marking.specs.Settled.{LookTo}
 use Rattle.marking.specs.Moves.{WroteBefore, ByLook}
 use Rattle.work_list.specs.Items.{per}
 use Rattle.noting.specs.Visits.{EntersIf, LookItems}
+
+-- Which part it is: the child's lower ticks, that stand k lower than the row's in their word, or else the upper ones, k higher. The row's word is e - o / 64.
+abbrev pub PartOf : Bool → ℕ → ℕ → ℕ → ℕ → Type 0
+PartOf true q o e k = (e ≡ q) × (k ≡ 64 - o % 64)
+PartOf false q o e k = (e ≡ q + 1) × (k ≡ o % 64)
 
 -- Row r looks at row c with the offset k: its rules between c's word q and its own word e - k / 64. What they give c is gathered, G before and G′ after;
 -- if they changed r's word, its parents' items are on the list, and its own before word m.

@@ -5,7 +5,7 @@ ghost use mathlib.Core.Path.{_≡_};
 ghost use Prim.Native.Nat.{_*_, _<_};
 ghost use lib.Bits.{bitOr};
 ghost use Rattle.table_words.specs.Gains.{Ticks};
-ghost use Rattle.look_words.specs.Moved.{raisedIn, loweredIn};
+ghost use Rattle.look_words.specs.Moved.{moved};
 
 // The window's ticks in word p; `here` are those in word q, which in a short window is the same.
 pub fn window_beside(window: usize, p: usize, q: usize, here: u64) -> u64
@@ -18,21 +18,16 @@ pub fn window_beside(window: usize, p: usize, q: usize, here: u64) -> u64
     window_word(window, p)
 }
 
-// Both words moved up by k ticks, as far as they stay among the ticks of `within`.
-pub fn raise(w: Words, k: u64, within: u64) -> Words
+// Both words moved by k ticks, up or else down, as far as they stay among the ticks of `within`.
+pub fn shift(w: Words, k: u64, up: bool, within: u64) -> Words
     requires { ⌜ k < 64 ⌝ }
-    ensures { λ r. ⌜ (r .this ≡ raisedIn within k (w .this)) × (r .other ≡ raisedIn within k (w .other)) ⌝ }
+    ensures { λ r. ⌜ (r .this ≡ moved up within k (w .this)) × (r .other ≡ moved up within k (w .other)) ⌝ }
 {
-    let this = within & (w.this << k);
-    let other = within & (w.other << k);
-    Words { this, other }
-}
-
-// Both words moved down by k ticks, in the same way.
-pub fn lower(w: Words, k: u64, within: u64) -> Words
-    requires { ⌜ k < 64 ⌝ }
-    ensures { λ r. ⌜ (r .this ≡ loweredIn within k (w .this)) × (r .other ≡ loweredIn within k (w .other)) ⌝ }
-{
+    if up {
+        let this = within & (w.this << k);
+        let other = within & (w.other << k);
+        return Words { this, other };
+    }
     let this = within & (w.this >> k);
     let other = within & (w.other >> k);
     Words { this, other }
