@@ -17,7 +17,7 @@ use Rattle.work_list.specs.Items.{per}
 use Rattle.noting.specs.Visits.{EntersIf, LookItems}
 use Rattle.noting.proofs.Heeding.{enters-if-not}
 use Rattle.look_words.specs.Moved.{Beside}
-use Rattle.look_visits.specs.Parts.{PartOf, LooksFrom}
+use Rattle.look_visits.specs.Parts.{endOf, apart, LooksFrom}
 
 -- Ticks joined to another row's words leave those of row c as they are.
 pub child-stays : (n q c r p : ℕ) {U N : ℕ → Type 0} {T T′ : List ℕ} {x a b : ℕ} → c < r → Joins n (Sides r true p U N) T T′ x → Reads n T q c true a b → Reads n T′ q c true a b
@@ -32,18 +32,18 @@ child-stays n q c r p {T = T} {T′} {a = a} {b} l j f = record { this = each tr
         )) g
 
 -- ---- which part it is
-pub part-small : (up : Bool) (q o e k : ℕ) → PartOf up q o e k → k ≤ 64
-part-small true q o e k h = omega (arith, h .1)
-part-small false q o e k h = omega (arith, h .1)
+pub part-small : (up : Bool) (o : ℕ) → apart up o ≤ 64
+part-small true o = omega arith
+part-small false o = omega arith
 
-pub part-beside : (up : Bool) (q o e k : ℕ) → PartOf up q o e k → o / 64 ≤ e → Beside up (e - o / 64) q o k
-part-beside true q o e k h l = (omega (arith, h .0), h .1)
-part-beside false q o e k h l = (omega (arith, h .0), h .1)
+pub part-beside : (up : Bool) (q o e k : ℕ) → e ≡ endOf up q → k ≡ apart up o → o / 64 ≤ e → Beside up (e - o / 64) q o k
+part-beside true q o e k a b l = (omega arith, b)
+part-beside false q o e k a b l = (omega arith, b)
 
 -- A look at an offset of whole words looks at no lower ticks.
-pub part-whole : (up : Bool) (q o e k : ℕ) → PartOf up q o e k → k ≡ 64 → (t s : ℕ) → Shifted t o s → s / 64 ≡ q → e ≡ t / 64 + o / 64 → ⊥
-part-whole true q o e k h z t s d a b = omega (arith, h .0, h .1)
-part-whole false q o e k h z t s d a b = omega (arith, h .1)
+pub part-whole : (up : Bool) (q o : ℕ) → apart up o ≡ 64 → (t s : ℕ) → Shifted t o s → s / 64 ≡ q → endOf up q ≡ t / 64 + o / 64 → ⊥
+part-whole true q o z t s d a b = omega arith
+part-whole false q o z t s d a b = omega arith
 
 module _ (e m count : ℕ) (H N : List ℕ) (r k c q W n : ℕ) where
   -- The row has no word e - k / 64 that looks at the child's word q.

@@ -1,19 +1,32 @@
 -- A part of a visit to a look: its rules between a word of its child and one of its own. Assumes nothing.
 -- n is how many words a row has for each value, H and N are the lists of parents, W the window, T the table and D the list before, T′ and D′ after.
-use mathlib.Core.Path.{_≡_}
 use mathlib.Core.Bool.{Bool, true, false}
 use mathlib.Core.List.{List}
 use Prim.Native.Nat.{ℕ, _+_, _-_, _/_, _%_, _≤_, _<_}
 use Rattle.tilco.specs.Inference.{Marks}
+use Rattle.table_words.specs.Gains.{Ticks, Reads}
 use Rattle.marking.specs.Settled.{LookTo}
 use Rattle.marking.specs.Moves.{WroteBefore, ByLook}
 use Rattle.work_list.specs.Items.{per}
 use Rattle.noting.specs.Visits.{EntersIf, LookItems}
 
--- Which part it is: the child's lower ticks, that stand k lower than the row's in their word, or else the upper ones, k higher. The row's word is e - o / 64.
-abbrev pub PartOf : Bool → ℕ → ℕ → ℕ → ℕ → Type 0
-PartOf true q o e k = (e ≡ q) × (k ≡ 64 - o % 64)
-PartOf false q o e k = (e ≡ q + 1) × (k ≡ o % 64)
+-- Word q of row c is at hand: its marks of true and of false are v and w, and `here` are the window's ticks in it.
+abbrev pub Sees : ℕ → ℕ → List ℕ → ℕ → ℕ → ℕ → ℕ → ℕ → Type 0
+Sees n W T c q v w here = (q < n) × Ticks q here (λ t. t < W) × Reads n T q c true v w
+
+-- Of a look's rules those about the lower ticks of its child's word q (true), or about the upper ones: its own word is `endOf` less its offset / 64; the
+-- child's ticks stand `apart` lower in their word than its own, or else higher; another item of its row that rests on its word is the one before `nextOf`.
+abbrev pub endOf : Bool → ℕ → ℕ
+endOf true q = q
+endOf false q = q + 1
+
+abbrev pub apart : Bool → ℕ → ℕ
+apart true o = 64 - o % 64
+apart false o = o % 64
+
+abbrev pub nextOf : Bool → ℕ → ℕ
+nextOf true q = q
+nextOf false q = q + 2
 
 -- Row r looks at row c with the offset k: its rules between c's word q and its own word e - k / 64. What they give c is gathered, G before and G′ after;
 -- if they changed r's word, its parents' items are on the list, and its own before word m.

@@ -90,6 +90,9 @@ module _ (count : ℕ) (B : List ℕ) (r : ℕ) where
     pub look-row : rowAt B r ≡ look right c
     look-row = ap (λ (z : ℕ). unpacked z left right) look-kind ∙ ap (look right) look-child
 
+    pub look-in : Coded count B → r < count
+    look-in k = row-in k (λ z. omega (arith, z, look-kind))
+
   fine-as : (k : ℕ) → kind ≡ k → Coded count B → Fine r (unpacked k left right)
   fine-as k e c = subst (Fine r) (node-as k e (c .program) (c .codes)) (c .codes .fine r)
 

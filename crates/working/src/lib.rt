@@ -1,20 +1,19 @@
 // The items of one word of the list: each is visited and taken off, until none is left there. A row has `n` words for each value, 64 ticks in each.
 // Assumes that the words are a program's rows, that the table has them, and that no mark is outside the window.
+use look_visits::Child;
+use look_visits::child_at;
 use look_visits::visit_look;
 use noting::mark_child;
 use table_words::Words;
-use table_words::window_word;
-use table_words::words_at;
 use visiting::visit;
 ghost use mathlib.Core.Path.{_≡_};
-ghost use mathlib.Core.Bool.{true};
 ghost use Prim.Native.Nat.{ℕ, _+_, _-_, _*_, _/_, _%_, _^_, _<_, _≤_};
 ghost use lib.ListN.{length, getD, set};
 ghost use Rattle.ticks.specs.Ticks.{Has};
 ghost use Rattle.tilco.specs.Table.{Stands, Inside};
-ghost use Rattle.table_words.specs.Gains.{Ticks, Reads};
 ghost use Rattle.marking.specs.Codes.{Coded};
 ghost use Rattle.marking.specs.Moves.{Gathered, Sized};
+ghost use Rattle.look_visits.specs.Parts.{Sees};
 ghost use Rattle.parents.specs.Links.{Linked};
 ghost use Rattle.work_list.specs.Items.{per, Roomy};
 ghost use Rattle.working.specs.Stretches.{Works, OneWord, Taken, TakenLook};
@@ -58,20 +57,16 @@ fn next_look(rows: &[u64], start: usize, word: u64, from: u64, kind: u64) -> u64
     k
 }
 
-// Visits the look at row c that bit k of word j of the list stands for, and takes it off the list after that. x is the child's word q, `here` are the
-// window's ticks in it, and what the look gives it is joined to `given`.
+// Visits the look at `child` that bit k of word j of the list stands for, and takes it off the list after that. What it gives the child is joined to `given`.
 fn take_look(
     rows: &[u64],
     count: usize,
     i: usize,
     j: usize,
     k: u64,
-    q: usize,
     n: usize,
     window: usize,
-    here: u64,
-    c: usize,
-    x: Words,
+    child: Child,
     given: Words,
     heads: &[u16],
     nexts: &[u16],
@@ -79,14 +74,14 @@ fn take_look(
     marks: &mut [u64],
 ) -> Words
     requires { ⌜ Coded count (now rows) ⌝ }
-    requires { ⌜ (q < n) × (i < per count) × (j ≡ q * per count + i) × (k < 64) × Has (getD (now todo) j 0) k ⌝ }
-    requires { ⌜ (getD (now rows) (64 * i + k) 0 % 524288 ≡ 8 * c + 3) × Ticks q here (λ t. t < window) × Reads n (now marks) q c true (x .this) (x .other) ⌝ }
+    requires { ⌜ (i < per count) × (j ≡ child .q * per count + i) × (k < 64) × Has (getD (now todo) j 0) k × (getD (now rows) (64 * i + k) 0 % 524288 ≡ 8 * child .row + 3) ⌝ }
+    requires { ⌜ Sees n window (now marks) (child .row) (child .q) (child .words .this) (child .words .other) (child .here) ⌝ }
     requires { ⌜ Linked count (now rows) (now heads) (now nexts) ⌝ }
     requires { ⌜ Roomy count n (now todo) ⌝ }
     requires { ⌜ Sized n count window (now marks) ⌝ }
     requires { ⌜ Inside window (Stands n (now marks)) ⌝ }
-    ensures { λ g. ⌜ TakenLook count (now (rows .entry)) window n j (Gathered c q (given .this) (given .other)) (Gathered c q (g .this) (g .other)) (now (marks .entry)) (now (marks .exit)) (now (todo .entry)) (now (todo .exit)) ⌝ }
-    ensures { λ _. ⌜ Reads n (now (marks .exit)) q c true (x .this) (x .other) ⌝ }
+    ensures { λ g. ⌜ TakenLook count (now (rows .entry)) window n j (Gathered (child .row) (child .q) (given .this) (given .other)) (Gathered (child .row) (child .q) (g .this) (g .other)) (now (marks .entry)) (now (marks .exit)) (now (todo .entry)) (now (todo .exit)) ⌝ }
+    ensures { λ _. ⌜ Sees n window (now (marks .exit)) (child .row) (child .q) (child .words .this) (child .words .other) (child .here) ⌝ }
 {
     let row = 64 * i + (k as usize);
     let offset = rows[row] / 524288;
@@ -94,13 +89,10 @@ fn take_look(
         rows,
         count,
         row,
-        q,
         n,
         window,
-        here,
-        c,
+        child,
         offset,
-        x,
         given,
         heads,
         nexts,
@@ -138,8 +130,7 @@ fn take_looks(
     let start = 64 * i;
     let kind = rows[start + (first as usize)] % 524288;
     let c = (kind / 8) as usize;
-    let x = words_at(marks, n, q, c, true);
-    let here = window_word(window, q);
+    let child = child_at(marks, n, q, c, window);
     let mut given = Words { this: 0, other: 0 };
     let mut k = first;
     while k < 64 {
@@ -149,12 +140,9 @@ fn take_looks(
             i,
             j,
             k,
-            q,
             n,
             window,
-            here,
-            c,
-            x,
+            child,
             given,
             heads,
             nexts,
