@@ -16,8 +16,8 @@ use Rattle.marking.proofs.RowRules.{part-steps, no-steps}
 use Rattle.work_list.specs.Items.{per}
 use Rattle.noting.specs.Visits.{EntersIf, LookItems}
 use Rattle.noting.proofs.Heeding.{enters-if-not}
-use Rattle.look_words.specs.Moved.{Beside}
-use Rattle.look_visits.specs.Parts.{endOf, apart, LooksFrom}
+use Rattle.look_words.specs.Moved.{endOf, apart, Beside}
+use Rattle.look_visits.specs.Parts.{LooksFrom}
 
 -- Ticks joined to another row's words leave those of row c as they are.
 pub child-stays : (n q c r p : ℕ) {U N : ℕ → Type 0} {T T′ : List ℕ} {x a b : ℕ} → c < r → Joins n (Sides r true p U N) T T′ x → Reads n T q c true a b → Reads n T′ q c true a b
@@ -37,8 +37,7 @@ part-small true o = omega arith
 part-small false o = omega arith
 
 pub part-beside : (up : Bool) (q o e k : ℕ) → e ≡ endOf up q → k ≡ apart up o → o / 64 ≤ e → Beside up (e - o / 64) q o k
-part-beside true q o e k a b l = (omega arith, b)
-part-beside false q o e k a b l = (omega arith, b)
+part-beside up q o e k a b l = (omega arith, b)
 
 -- A look at an offset of whole words looks at no lower ticks.
 pub part-whole : (up : Bool) (q o : ℕ) → apart up o ≡ 64 → (t s : ℕ) → Shifted t o s → s / 64 ≡ q → endOf up q ≡ t / 64 + o / 64 → ⊥

@@ -2,7 +2,7 @@
 -- n is how many words a row has for each value, H and N are the lists of parents, W the window, T the table and D the list before, T′ and D′ after.
 use mathlib.Core.Bool.{Bool, true, false}
 use mathlib.Core.List.{List}
-use Prim.Native.Nat.{ℕ, _+_, _-_, _/_, _%_, _≤_, _<_}
+use Prim.Native.Nat.{ℕ, _+_, _-_, _/_, _≤_, _<_}
 use Rattle.tilco.specs.Inference.{Marks}
 use Rattle.table_words.specs.Gains.{Ticks, Reads}
 use Rattle.marking.specs.Settled.{LookTo}
@@ -14,16 +14,8 @@ use Rattle.noting.specs.Visits.{EntersIf, LookItems}
 abbrev pub Sees : ℕ → ℕ → List ℕ → ℕ → ℕ → ℕ → ℕ → ℕ → Type 0
 Sees n W T c q v w here = (q < n) × Ticks q here (λ t. t < W) × Reads n T q c true v w
 
--- Of a look's rules those about the lower ticks of its child's word q (true), or about the upper ones: its own word is `endOf` less its offset / 64; the
--- child's ticks stand `apart` lower in their word than its own, or else higher; another item of its row that rests on its word is the one before `nextOf`.
-abbrev pub endOf : Bool → ℕ → ℕ
-endOf true q = q
-endOf false q = q + 1
-
-abbrev pub apart : Bool → ℕ → ℕ
-apart true o = 64 - o % 64
-apart false o = o % 64
-
+-- Where a look's rules about the lower ticks of its child's word q (true), or about the upper ones, change its row's word, the other item of the row that rests on
+-- that word is the one before this.
 abbrev pub nextOf : Bool → ℕ → ℕ
 nextOf true q = q
 nextOf false q = q + 2

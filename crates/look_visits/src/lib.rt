@@ -12,11 +12,12 @@ ghost use mathlib.Core.Path.{_≡_};
 ghost use Prim.Native.Nat.{_+_, _^_, _<_};
 ghost use Rattle.tilco.specs.Table.{words};
 ghost use Rattle.table_words.specs.Gains.{HasRow};
+ghost use Rattle.look_words.specs.Moved.{endOf, apart};
 ghost use Rattle.marking.specs.Moves.{Gathered};
 ghost use Rattle.parents.specs.Links.{Ended, Linked};
-ghost use Rattle.work_list.specs.Items.{per, Roomy};
+ghost use Rattle.work_list.specs.Items.{Roomy};
 ghost use Rattle.noting.specs.Visits.{Looks};
-ghost use Rattle.look_visits.specs.Parts.{Sees, endOf, apart, nextOf, LooksFrom};
+ghost use Rattle.look_visits.specs.Parts.{Sees, nextOf, LooksFrom};
 
 // A row that looks see: the number of a word of it, its marks there, and the window's ticks there.
 pub struct Child {

@@ -1,7 +1,7 @@
--- A word moved against another by k bits, and where a look's words and its child's stand to each other. Assumes nothing.
+-- A word moved by k bits, and where a look's words and its child's stand to each other. Assumes nothing.
 use mathlib.Core.Path.{_≡_}
 use mathlib.Core.Bool.{Bool, true, false}
-use Prim.Native.Nat.{ℕ, _+_, _-_, _*_, _/_, _%_, _^_, _<_}
+use Prim.Native.Nat.{ℕ, _+_, _-_, _*_, _/_, _%_, _^_}
 use lib.Bits.{bitAnd}
 
 -- A word moved by k bits, up or else down, as far as it stays among the bits of m.
@@ -9,7 +9,16 @@ abbrev pub moved : Bool → ℕ → ℕ → ℕ → ℕ
 moved true m k w = bitAnd m ((w * 2 ^ k) % 2 ^ 64)
 moved false m k w = bitAnd m (w / 2 ^ k)
 
--- A look's ticks of word p look, with the offset o, at ticks of its child's word q, which stand k bits lower in their word, or else k bits higher.
+-- The lower ticks of a child's word q (true), or its upper ones, are looked at with the offset o from the word `endOf` less o / 64.
+abbrev pub endOf : Bool → ℕ → ℕ
+endOf true q = q
+endOf false q = q + 1
+
+-- They stand so many bits lower in their word than the ticks that look at them, or else higher.
+abbrev pub apart : Bool → ℕ → ℕ
+apart true o = 64 - o % 64
+apart false o = o % 64
+
+-- A look's ticks of word p look, with the offset o, at such ticks of its child's word q, k bits lower or else higher.
 abbrev pub Beside : Bool → ℕ → ℕ → ℕ → ℕ → Type 0
-Beside true p q o k = (q ≡ p + o / 64) × (k ≡ 64 - o % 64)
-Beside false p q o k = (q + 1 ≡ p + o / 64) × (k ≡ o % 64)
+Beside up p q o k = (endOf up q ≡ p + o / 64) × (k ≡ apart up o)

@@ -1,14 +1,13 @@
 -- Stretches of visits: none, one after another, and a word of the list that is empty then.
 -- Assumes nothing.
 use mathlib.Core.Path.{_≡_, refl, sym, ap, _∙_, subst}
-use mathlib.Core.Bool.{Bool, true, false}
 use mathlib.Core.List.{List}
 use mathlib.Core.Logic.{_⊎_, inl, inr, ⊎-elim}
 use Prim.Native.Nat.{ℕ, zero, suc, _+_, _*_, _/_, _^_, _≤_, _<_}
 use native.Mathlib.Nat.{le-of-eq, div-le-self}
 use native.Mathlib.Omega.{arith}
 use lib.Count.{trailingZeros}
-use lib.ListN.{length, getD}
+use lib.ListN.{getD}
 use Rattle.ticks.specs.Ticks.{Has}
 use Rattle.ticks.proofs.Bits.{bit-shr, has-below}
 use Rattle.ticks.proofs.Counts.{first-has}

@@ -7,7 +7,7 @@ use noting::mark_child;
 use table_words::Words;
 use visiting::visit;
 ghost use mathlib.Core.Path.{_≡_};
-ghost use Prim.Native.Nat.{ℕ, _+_, _-_, _*_, _/_, _%_, _^_, _<_, _≤_};
+ghost use Prim.Native.Nat.{_+_, _-_, _*_, _/_, _%_, _^_, _<_, _≤_};
 ghost use lib.ListN.{length, getD, set};
 ghost use Rattle.ticks.specs.Ticks.{Has};
 ghost use Rattle.tilco.specs.Table.{Stands, Inside};

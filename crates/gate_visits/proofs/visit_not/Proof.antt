@@ -1,7 +1,6 @@
 -- `visit_not` meets its contract. Assumes nothing.
 use borrow.Author.Needs.{needs}
 use native.Mathlib.Omega.{arith}
-use mathlib.Core.Path.{refl}
 use Rattle.marking.proofs.RowRules.{not-steps}
 use Rattle.parents.proofs.Linking.{ended}
 use Rattle.work_list.proofs.Noting.{roomy-as}

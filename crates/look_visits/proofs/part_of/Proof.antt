@@ -1,7 +1,8 @@
 -- `part_of` meets its contract. Assumes nothing.
 use mathlib.Core.Path.{sym, ap}
 use mathlib.Core.Bool.{Bool}
-use Rattle.look_visits.specs.Parts.{endOf, apart, nextOf}
+use Rattle.look_words.specs.Moved.{endOf, apart}
+use Rattle.look_visits.specs.Parts.{nextOf}
 use borrow.Author.Needs.{needs}
 use Rattle.look_visits.proofs.part_of.Statement.{statement}
 use Rattle.look_visits.proofs.part_of.Tie as tie
