@@ -33,7 +33,9 @@ shift-requires : tie.Need-shift-requires
 shift-requires c κs = omega (arith, part-small (c .before .before .before .before .before .before .before .before .before .before .before .before .before .args .up) (c .before .before .before .before .before .before .before .before .before .before .before .before .before .args .offset), c .before .before .before .before .before .before .before .before .part-of .ensures .1, c .before .before .if3 .left)
 
 mark-look-requires : tie.Need-mark-look-requires
-mark-look-requires c κs = search needs
+mark-look-requires c κs =
+    let o = c .before .before .before .before .before .before .before .before .before .before .before .before .before .before .before .before .pre in
+    ((o .0 .0, omega (arith, c .before .before .before .before .before .before .before .if2 .left, o .1 .0 .0), o .0 .1), (o .1 .1 .0, o .1 .1 .1))
 
 shift-requires-2 : tie.Need-shift-requires-2
 shift-requires-2 c κs = omega (arith, part-small (c .before .before .before .before .before .before .before .before .before .before .before .before .before .before .before .before .before .before .before .before .before .before .args .up) (c .before .before .before .before .before .before .before .before .before .before .before .before .before .before .before .before .before .before .before .before .before .before .args .offset), c .before .before .before .before .before .before .before .before .before .before .before .before .before .before .before .before .before .part-of .ensures .1, c .before .before .before .before .before .before .before .before .before .before .before .if3 .left)
@@ -57,7 +59,7 @@ returns-4 c =
     let b = part-beside (a .up) _ _ _ _ (f .0) (f .1) (omega (arith, c .before .before .before .before .before .before .before .before .before .before .before .before .before .before .before .before .before .if1 .left)) in (
       part-some _ _ _ _ _ _ _ _ _ _ _ (c .before .before .before .before .before .before .before .before .before .before .before .before .before .before .before .before .before .before .before .part-of .result .e - a .offset / 64) _ _ (o .0 .2) (omega (arith, c .before .before .before .before .before .before .before .before .before .before .before .before .before .before .before .before .before .if1 .left, f .0))
           (gives-as _ (c .before .before .before .before .before .before .before .before .before .before .shift .ensures) (from-child _ _ _ _ _ _ _ _ _ (a .up) b (c .before .before .before .before .before .before .before .before .before .before .before .window-beside .ensures) (omega (arith, c .before .before .before .before .before .before .before .before .before .before .before .before .before .before .before .before .before .before .before .before .before .before .before .before .good)) (omega (arith, c .before .before .before .before .before .before .before .before .before .before .before .before .before .before .before .before .before .before .before .before .before .before .before .before .good)) (t .2))) (own .0)
-          (gives-as _ (c .before .shift2 .ensures) (from-look _ _ _ _ _ _ _ _ _ (a .up) b (t .1) (omega (arith, c .before .before .before .before .before .before .before .mark-look)) (omega (arith, c .before .before .before .before .before .before .before .mark-look)) (own .1 .0))) (rw (f .2) at (own .1 .1)) (c .join .ensures),
+          (gives-as _ (c .before .shift2 .ensures) (from-look _ _ _ _ _ _ _ _ _ (a .up) b (t .1) (omega (arith, c .before .before .before .before .before .before .before .mark-look, c .before .before .before .before .before .before .before .before .before .before .before .before .before .before .before .before .before .before .before .before .before .before .before .before .good)) (omega (arith, c .before .before .before .before .before .before .before .mark-look, c .before .before .before .before .before .before .before .before .before .before .before .before .before .before .before .before .before .before .before .before .before .before .before .before .good)) (own .1 .0))) (rw (f .2) at (own .1 .1)) (c .join .ensures),
       (t .0, t .1, child-stays _ _ _ _ _ (o .0 .2) (own .0) (t .2)),
     )
 
