@@ -1,15 +1,16 @@
 -- Every input gets an answer: for every sheet text, readings text, table and question there is one that the contract allows.
 -- Assumes of add's table that its words have 64 bits.
-use mathlib.Core.Path.{_≡_, refl, sym, subst}
+use mathlib.Core.Path.{_≡_, refl, sym, ap, _∙_, subst}
 use mathlib.Core.Bool.{Bool, true, false, true≢false}
 use mathlib.Core.List.{List, [], _∷_}
-use mathlib.Core.Logic.{⊎-elim, _↔_}
+use mathlib.Core.Logic.{_⊎_, inl, inr, ⊎-elim, _↔_}
 use Prim.Native.Nat.{ℕ, _-_, _<_}
 use native.Mathlib.Decide.{ℕ-discrete, decLt}
 use native.Mathlib.Omega.{arith}
 use lib.ListN.{length}
 use Rattle.text.specs.Read.{Read}
 use Rattle.text.specs.Read.Read.{got, refused as unread}
+use Rattle.text.proofs.Answers.{not-both}
 use Rattle.ticks.specs.Ticks.{Small}
 use Rattle.tilco.specs.Inference.{Mark, mark, Clash}
 use Rattle.tilco.specs.Table.{words, Stands, Standing, tableWords, factsOf, Answer, Unsettled, True, False, Contradiction, Asked, clashes, holds, fails, neither}
@@ -20,14 +21,25 @@ use Rattle.operations.specs.Results.{Gain, gain}
 use Rattle.sheet_opening.specs.SheetIn.{sheetIn, namesIn}
 use Rattle.opening.specs.Opening.{Opens}
 use Rattle.opening.specs.Opening.Opens.{both, not-the-sheet, not-the-length, not-inside}
-use Rattle.operations.specs.Operations.{Adds, Asks}
+use Rattle.operations.specs.Operations.{counted, Adds, Asks}
 use Rattle.operations.specs.Operations.Adds.{not-opened, not-read, added}
 use Rattle.operations.specs.Operations.Asks.{not-opened as not-asked, out-of-range, asked}
-use Rattle.demands.specs.Runs.{RunTexts}
-use Rattle.demands.specs.Runs.RunTexts.{done, call}
+use Rattle.demands.specs.Refusals.{SheetAccepted, TakenUp, ReadingsAccepted, SheetRefused}
+use Rattle.demands.specs.Cuts.{Given, RunCalls}
+use Rattle.demands.specs.Cuts.RunCalls.{done, call}
 use Rattle.demands.proofs.Deciding.{stands-told, inside-told, clash-told}
-use Rattle.demands.proofs.Runs.{all-declared, marks-within}
+use Rattle.demands.proofs.Refusals.{sheet-in, check-refusals, readings-in, in-readings, taken-up, up-taken}
+use Rattle.demands.proofs.Runs.{Step, unchanged, step-of, all-declared, marks-within}
 use Rattle.demands.proofs.Closable.{can-be-added}
+
+-- ---- check
+
+pub check-some : (s : List ℕ) → ((k : Contents) × SheetAccepted s k) ⊎ ((n : ℕ) × (p : ℕ) × SheetRefused s n p)
+check-some s = go (sheetIn s) refl
+  where
+    go : (r : Result Contents) → sheetIn s ≡ r → ((k : Contents) × SheetAccepted s k) ⊎ ((n : ℕ) × (p : ℕ) × SheetRefused s n p)
+    go (accepted k) e = inl (k, sheet-in s e)
+    go (refused n p) e = inr (n, p, check-refusals s .0 (ap counted e))
 
 -- ---- the sheet and the table
 
@@ -74,12 +86,26 @@ adds-small small (not-read o f e) = subst (Small 64) (sym e) small
 adds-small small (added o f A g c) = A .small
 
 -- And so do calls one after the other.
-pub run-some : (s : List ℕ) (rs : List (List ℕ)) (T : List ℕ) → Small 64 T → (U : List ℕ) × (answers : List (Result Gain)) × RunTexts s T rs U answers
-run-some s [] T small = (T, [], done)
-run-some s (r ∷ rs) T small =
-    let x = add-some s r T small in
-    let y = run-some s rs (x .0) (adds-small small (x .2)) in
+pub calls-some : (cs : List Given) (T : List ℕ) → Small 64 T → (U : List ℕ) × (answers : List (Result Gain)) × RunCalls T cs U answers
+calls-some [] T small = (T, [], done)
+calls-some (c ∷ cs) T small =
+    let x = add-some (c .sheet) (c .readings) T small in
+    let y = calls-some cs (x .0) (adds-small small (x .2)) in
     (y .0, x .1 ∷ y .1, call (x .2) (y .2))
+
+-- It is accepted exactly if the sheet, the table and the readings are.
+pub add-accepts : (s r T : List ℕ) → Small 64 T → ((U : List ℕ) × (g : Gain) × Adds s r T U (accepted g)) ↔ ((k : Contents) × (ms : List Mark) × TakenUp s T k × ReadingsAccepted s k r ms)
+add-accepts s r T small = (λ x. of-answer (x .2), λ x. let y = add-some s r T small in answer (x .2) (x .3) (y .1) (y .2))
+  where
+    of-answer : {U : List ℕ} {g : Gain} → Adds s r T U (accepted g) → (k : Contents) × (ms : List Mark) × TakenUp s T k × ReadingsAccepted s k r ms
+    of-answer (added {k} {ms} o f A n c) = (k, ms, taken-up o, readings-in s k r f)
+
+    not-refused : {k : Contents} {ms : List Mark} {U : List ℕ} {n p : ℕ} → ReadingsAccepted s k r ms → Step s k r T U (refused n p) → ⊥
+    not-refused {k} y (unchanged f e) = not-both (sym (in-readings s k r y) ∙ f)
+
+    answer : {k : Contents} {ms : List Mark} {U : List ℕ} → TakenUp s T k → ReadingsAccepted s k r ms → (a : Result Gain) → Adds s r T U a → (U : List ℕ) × (g : Gain) × Adds s r T U (accepted g)
+    answer {U = U} x y (accepted g) z = (U, g, z)
+    answer x y (refused n p) z = absurd (not-refused y (step-of (up-taken x) z))
 
 -- ---- ask
 

@@ -12,14 +12,14 @@ use Rattle.tilco.proofs.Demand3.{table-only, table-every, reports-add-up, cuts-
 use Rattle.sheet.specs.Sheet.{Contents, meant}
 use Rattle.sheet_opening.specs.Results.{Result}
 use Rattle.operations.specs.Results.{Gain}
-use Rattle.demands.specs.Runs.{FromBlank, calls, marksIn, newIn, acceptedOf}
-use Rattle.demands.proofs.Runs.{AsCalls, as-calls, window-some, blank-opens, run-none, some-told}
+use Rattle.demands.specs.Runs.{FromBlank, newIn}
+use Rattle.demands.proofs.Refusals.{in-sheet-text}
+use Rattle.demands.proofs.Runs.{AsCalls, as-calls, calls, marksIn, window-some, blank-opens}
 use Rattle.sheet_opening.specs.SheetIn.{blank}
-use Rattle.demands.proofs.Texts.{marks-among, some-among, cut-anywhere}
 
 -- The calls as `tilco` speaks of them.
 pub as-run : {s : List ℕ} {k : Contents} {rs : List (List ℕ)} {U : List ℕ} {answers : List (Result Gain)} → FromBlank s k rs U answers → AsCalls s k (blank k) rs U answers
-as-run {s} {k} x = as-calls s k (x .sheet) (blank-opens s k (x .sheet)) (x .run)
+as-run {s} {k} x = let e = in-sheet-text s (x .sheet) in as-calls s k e (blank-opens s k e) (x .run)
 
 module _ {s : List ℕ} {k : Contents} {rs : List (List ℕ)} {U : List ℕ} {answers : List (Result Gain)} (x : FromBlank s k rs U answers) where
   -- The table has exactly what the rules lead to from the readings.
@@ -28,21 +28,9 @@ module _ {s : List ℕ} {k : Contents} {rs : List (List ℕ)} {U : List ℕ} {an
 
   -- The new facts reported add up to its facts.
   pub news-add-up : total newIn answers ≡ factsOf (meant k) U
-  news-add-up = sym (as-run x .sum) ∙ reports-add-up (meant k) (tableWords (meant k)) (as-run x .run) (window-some s k (x .sheet))
+  news-add-up = sym (as-run x .sum) ∙ reports-add-up (meant k) (tableWords (meant k)) (as-run x .run) (window-some s k (in-sheet-text s (x .sheet)))
 
   module _ {rs′ : List (List ℕ)} {U′ : List ℕ} {answers′ : List (Result Gain)} (x′ : FromBlank s k rs′ U′ answers′) where
-    -- Accepted texts that hold the same marks,
+    -- Two runs whose accepted texts hold the same marks end in one table.
     pub by-marks : Some (calls s k rs) → Some (calls s k rs′) → ((m : Mark) → Taken (marksIn s k rs) m ↔ Taken (marksIn s k rs′) m) → U ≡ U′
-    by-marks c c′ same = cuts-change-nothing (meant k) (window-some s k (x .sheet)) (tableWords (meant k)) (as-run x .run) c (as-run x′ .run) c′ same
-
-    -- the same texts in any order and number,
-    pub by-texts : ((r : List ℕ) → List·Memᴰ r rs ↔ List·Memᴰ r rs′) → U ≡ U′
-    by-texts same =
-        ⊎-elim
-        (λ c. by-marks c (some-among s k rs rs′ (λ r. same r .0) c) (λ m. (marks-among s k rs rs′ (λ r. same r .0) m, marks-among s k rs′ rs (λ r. same r .1) m)))
-        (λ f. run-none (meant k) (as-run x .run) f ∙ sym (run-none (meant k) (as-run x′ .run) (λ c. f (some-among s k rs′ rs (λ r. same r .1) c))))
-        (some-told (calls s k rs))
-
-    -- and one text cut in two ways: one table.
-    pub by-bytes : Some (calls s k rs) → Some (calls s k rs′) → flatten (acceptedOf s k rs) ≡ flatten (acceptedOf s k rs′) → U ≡ U′
-    by-bytes c c′ j = let w = cut-anywhere s k rs rs′ j in by-marks c c′ (λ m. (subst (λ (ms : List Mark). Taken ms m) w, subst (λ (ms : List Mark). Taken ms m) (sym w)))
+    by-marks c c′ same = cuts-change-nothing (meant k) (window-some s k (in-sheet-text s (x .sheet))) (tableWords (meant k)) (as-run x .run) c (as-run x′ .run) c′ same

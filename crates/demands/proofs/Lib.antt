@@ -7,7 +7,9 @@ pub mod Closable
 pub mod Answered
 pub mod Texts
 pub mod LastTable
+pub mod Cuts
 pub mod Histories
+pub mod Listings
 pub mod Narrow
 pub mod RuleTexts
 pub mod Parting

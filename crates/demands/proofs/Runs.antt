@@ -2,7 +2,7 @@
 -- Assumes that the sheet is accepted, and the table with it.
 use mathlib.Core.Path.{_≡_, refl, sym, _∙_, subst}
 use mathlib.Core.Bool.{Bool, true, false}
-use mathlib.Core.List.{List, [], _∷_, List·Memᴰ, List·Memᴰ·not-nil, List·Memᴰ·cases-cons}
+use mathlib.Core.List.{List, [], _∷_, map, List·Memᴰ, List·Memᴰ·not-nil, List·Memᴰ·cases-cons}
 use mathlib.Core.Logic.{_⊎_, inl, inr, ⊎-elim, _↔_}
 use Prim.Native.Nat.{ℕ, _-_, _≤_}
 use native.Mathlib.Omega.{arith}
@@ -31,9 +31,24 @@ use Rattle.opening.specs.Opening.Opens.{both}
 use Rattle.operations.specs.Operations.{Adds}
 use Rattle.operations.specs.Operations.Adds.{not-opened, not-read, added}
 use Rattle.opening.proofs.Tables.{in-sheet}
-use Rattle.demands.specs.Runs.{RunTexts, callOf, calls, marksIn, newIn}
+use Rattle.demands.specs.Runs.{RunTexts, newIn}
 use Rattle.demands.specs.Runs.RunTexts.{done, call}
 use Rattle.operations.proofs.Determined.{opens-same, opens-or-not}
+
+-- ---- calls as `tilco` speaks of them
+
+-- The call of a readings text: accepted, with its marks, or refused.
+abbrev pub callOf : Read (List Mark) → Call
+callOf (got ms q) = tilco.add ms
+callOf (unread n p) = tilco.refused
+
+-- The calls of readings texts.
+abbrev pub calls : List ℕ → Contents → List (List ℕ) → List Call
+calls s k rs = map (λ r. callOf (readings (namesIn s k) (k .window) r)) rs
+
+-- All the marks of the accepted texts.
+abbrev pub marksIn : List ℕ → Contents → List (List ℕ) → List Mark
+marksIn s k rs = readingsOf (calls s k rs)
 
 -- ---- one call
 

@@ -1,4 +1,4 @@
--- Which readings texts hold the same marks: the same texts in any order and number, and texts whose accepted ones make one text when joined.
+-- The marks of readings texts: texts that are among others have their marks among theirs, and the marks of accepted texts are theirs in turn.
 -- Assumes nothing. s is the sheet's text and k its contents.
 use mathlib.Core.Path.{_≡_, refl, sym, ap, _∙_, subst}
 use mathlib.Core.List.{List, [], _∷_, _++_, flatten, List·Memᴰ, List·Memᴰ·head, List·Memᴰ·tail, List·Memᴰ·not-nil, List·Memᴰ·cases-cons, List·Memᴰ·append-cases, Memᴰ·append-left, Memᴰ·append-right}
@@ -12,10 +12,10 @@ use Rattle.tilco.specs.Calls.{Call, readingsOf, Some}
 use Rattle.tilco.specs.Calls as tilco
 use Rattle.sheet.specs.Sheet.{Contents}
 use Rattle.readings.specs.Readings.{readings}
-use Rattle.readings.proofs.Cuts.{AllAccepted, cuts-agree}
+use Rattle.readings.proofs.Cuts.{AllAccepted}
 use Rattle.readings.proofs.Cuts.AllAccepted.{none, one}
 use Rattle.sheet_opening.specs.SheetIn.{namesIn}
-use Rattle.demands.specs.Runs.{callOf, calls, marksIn, accepting, acceptedOf}
+use Rattle.demands.proofs.Runs.{callOf, calls, marksIn}
 
 -- ---- calls by what is among them
 
@@ -74,19 +74,10 @@ module _ (s : List ℕ) (k : Contents) where
     pub some-among : Some (calls s k rs) → Some (calls s k qs)
     some-among x = let y = some-call (calls s k rs) x in call-some (calls s k qs) (call-among (y .1))
 
-  -- ---- one text when joined
+  -- ---- accepted texts
 
-  all-accepted : (rs : List (List ℕ)) → (mss : List (List Mark)) × AllAccepted (namesIn s k) (k .window) (acceptedOf s k rs) mss × (flatten mss ≡ marksIn s k rs)
+  -- The marks of texts that are all accepted.
+  pub marks-of-all : {rs : List (List ℕ)} {mss : List (List Mark)} → AllAccepted (namesIn s k) (k .window) rs mss → marksIn s k rs ≡ flatten mss
   unfolding flatten
-  all-accepted [] = ([], none, refl)
-  all-accepted (r ∷ rs) = go (readings (namesIn s k) (k .window) r) refl (all-accepted rs)
-    where
-      go : (R : Read (List Mark)) → readings (namesIn s k) (k .window) r ≡ R
-          → (mss : List (List Mark)) × AllAccepted (namesIn s k) (k .window) (acceptedOf s k rs) mss × (flatten mss ≡ marksIn s k rs)
-          → (mss : List (List Mark)) × AllAccepted (namesIn s k) (k .window) (accepting R r (acceptedOf s k rs)) mss × (flatten mss ≡ readingsOf (callOf R ∷ calls s k rs))
-      go (got ms q) e x = (ms ∷ x .0, one e (x .1), ap (λ (ns : List Mark). ms ++ ns) (x .2))
-      go (unread n p) e x = x
-
-  -- Where the accepted texts are one text when joined, cut at whatever places, the marks are the same and in the same order.
-  pub cut-anywhere : (rs qs : List (List ℕ)) → flatten (acceptedOf s k rs) ≡ flatten (acceptedOf s k qs) → marksIn s k rs ≡ marksIn s k qs
-  cut-anywhere rs qs e = let x = all-accepted rs in let y = all-accepted qs in sym (x .2) ∙ cuts-agree (x .1) (y .1) e ∙ y .2
+  marks-of-all none = refl
+  marks-of-all (one {r} {ms} {rs} e more) = ap (λ (R : Read (List Mark)). readingsOf (callOf R ∷ calls s k rs)) e ∙ ap (λ (ns : List Mark). ms ++ ns) (marks-of-all more)

@@ -1,19 +1,18 @@
--- Calls of add one after the other on one table, each with a readings text (demand 3: cuts, order, repeats, refused calls among them).
+-- Calls of add one after the other on one table, each with the sheet's text and a readings text (demand 3).
 -- Assumes nothing. `s` is the sheet's text and k its contents.
-use mathlib.Core.Path.{_≡_}
-use mathlib.Core.List.{List, [], _∷_, map}
+use mathlib.Core.Bool.{Bool, true, false}
+use mathlib.Core.List.{List, [], _∷_, List·Memᴰ}
 use Prim.Native.Nat.{ℕ}
-use Rattle.text.specs.Read.{Read}
-use Rattle.text.specs.Read.Read.{got, refused as unread}
+use Rattle.tilco.specs.Lists.{All}
 use Rattle.tilco.specs.Inference.{Mark}
-use Rattle.tilco.specs.Calls.{Call, readingsOf}
-use Rattle.tilco.specs.Calls as tilco
+use Rattle.tilco.specs.Meaning.{History}
+use Rattle.tilco.specs.Table.{Agrees, Answer, True, False}
 use Rattle.sheet.specs.Sheet.{Contents}
-use Rattle.readings.specs.Readings.{readings}
 use Rattle.sheet_opening.specs.Results.{Result, accepted, refused}
 use Rattle.operations.specs.Results.{Gain, gain}
-use Rattle.sheet_opening.specs.SheetIn.{sheetIn, namesIn, blank}
+use Rattle.sheet_opening.specs.SheetIn.{blank}
 use Rattle.operations.specs.Operations.{Adds}
+use Rattle.demands.specs.Refusals.{SheetAccepted, ReadingsAccepted}
 
 -- Calls of add with these readings texts lead from the table T to the table U, and these are their answers.
 pub data RunTexts (s : List ℕ) : List ℕ → List (List ℕ) → List ℕ → List (Result Gain) → Type 0 where
@@ -21,35 +20,21 @@ pub data RunTexts (s : List ℕ) : List ℕ → List (List ℕ) → List ℕ →
   call : {r T T′ U : List ℕ} {rs : List (List ℕ)} {a : Result Gain} {answers : List (Result Gain)} → Adds s r T T′ a → RunTexts s T′ rs U answers
       → RunTexts s T (r ∷ rs) U (a ∷ answers)
 
--- Such calls on an accepted sheet, from the table without a mark.
+-- "Start from an empty table with an accepted sheet": such calls from the table without a mark.
 pub record FromBlank (s : List ℕ) (k : Contents) (rs : List (List ℕ)) (U : List ℕ) (answers : List (Result Gain)) : Type 0 where
-  pub sheet : sheetIn s ≡ accepted k
+  pub sheet : SheetAccepted s k
   pub run : RunTexts s (blank k) rs U answers
-
--- The call of a readings text: accepted, with its marks, or refused.
-abbrev pub callOf : Read (List Mark) → Call
-callOf (got ms q) = tilco.add ms
-callOf (unread n p) = tilco.refused
-
--- The calls of readings texts.
-abbrev pub calls : List ℕ → Contents → List (List ℕ) → List Call
-calls s k rs = map (λ r. callOf (readings (namesIn s k) (k .window) r)) rs
-
--- All the marks of the accepted texts.
-abbrev pub marksIn : List ℕ → Contents → List (List ℕ) → List Mark
-marksIn s k rs = readingsOf (calls s k rs)
 
 -- The new facts that an answer reports.
 abbrev pub newIn : Result Gain → ℕ
 newIn (accepted (gain new clash)) = new
 newIn (refused n p) = 0
 
--- A text before others, if it is accepted.
-abbrev pub accepting : Read (List Mark) → List ℕ → List (List ℕ) → List (List ℕ)
-accepting (got ms q) r rs = r ∷ rs
-accepting (unread n p) r rs = rs
+-- The answer that gives a value.
+abbrev pub valued : Bool → Answer
+valued true = True
+valued false = False
 
--- The accepted ones of readings texts.
-abbrev pub acceptedOf : List ℕ → Contents → List (List ℕ) → List (List ℕ)
-acceptedOf s k [] = []
-acceptedOf s k (r ∷ rs) = accepting (readings (namesIn s k) (k .window) r) r (acceptedOf s k rs)
+-- The history agrees with the readings of each accepted text.
+abbrev pub AgreesWith : List ℕ → Contents → List (List ℕ) → History → Type 0
+AgreesWith s k rs h = (r : List ℕ) (ms : List Mark) → List·Memᴰ r rs → ReadingsAccepted s k r ms → All (Agrees h) ms

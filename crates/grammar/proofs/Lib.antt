@@ -18,5 +18,6 @@ pub mod Lines
 pub mod LineKinds
 pub mod SheetLines
 pub mod ReadingLines
+pub mod Prefixes
 pub mod Refusals
 pub mod BeforeFault

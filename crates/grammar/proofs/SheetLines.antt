@@ -14,7 +14,7 @@ use Rattle.text.specs.Read.Read.{got, refused}
 use Rattle.text.specs.Bytes.{bytes, between, InLine}
 use Rattle.names.specs.Words.{namesAt}
 use Rattle.lines.specs.Lines.{rangedLine, inTurn}
-use Rattle.text.proofs.Answers.{not-both, same-value, then-same}
+use Rattle.text.proofs.Answers.{not-both, same-value, same-place, then-same}
 use Rattle.tilco.specs.Formula.{Written}
 use Rattle.formula.specs.Grammar as reading
 use Rattle.sheet.specs.Sheet as sheet
@@ -220,3 +220,11 @@ module _ (s : List ℕ) where
         go (accepted {w = x} {places = ps} {ws = vs} h) e =
             let z : contents x ps vs ≡ contents w places ws = same-value (sym (all-accepted h) ∙ e) in
             subst (λ (k : Contents). Reached s (Next.rule (k .window) (k .places) zero (k .rules)) (length s)) z h
+
+    -- It is read to its end then.
+    pub sheet-end : {k : Contents} {q : ℕ} → sheetOf s ≡ got k q → q ≡ length s
+    sheet-end {k} {q} e = go (walk (length s + 1) Next.window 0 (omega arith) Reached.start)
+      where
+        go : Outcome → q ≡ length s
+        go (faulty f) = absurd (not-both (sym e ∙ fault-refused f))
+        go (accepted h) = same-place (sym e ∙ all-accepted h)

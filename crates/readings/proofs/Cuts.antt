@@ -1,32 +1,28 @@
 -- Readings texts one after another: what follows an accepted text is read as by itself. So where a text is cut between readings changes nothing.
 -- Assumes of a text that is made of others that it is at most 32,768 bytes, where it is read as one.
 use mathlib.Core.Path.{_≡_, refl, sym, ap, subst, _∙_}
-use mathlib.Core.Bool.{Bool, true, false}
-use mathlib.Core.List.{List, [], _∷_, _++_, append-nil, flatten}
-use Prim.Native.Nat.{ℕ, zero, suc, _+_, _-_, _≤_}
+use mathlib.Core.List.{List, [], _∷_, _++_, flatten}
+use Prim.Native.Nat.{ℕ, _+_, _-_, _<_, _≤_}
+use native.Mathlib.Decide.{decLt}
 use native.Mathlib.Omega.{arith}
-use borrow.Author.Tests.{ltb-true, ltb-false}
 use lib.Dec.{ltb}
-use lib.ListN.{length, length-append}
-use Rattle.text.specs.Read.{Read}
+use lib.ListN.{length, take, length-append}
+use lib.Seq.{take-all}
 use Rattle.text.specs.Read.Read.{got, refused}
 use Rattle.text.specs.Bytes.{bytes, nameByte}
 use Rattle.names.specs.Words.{wordAt, findName}
 use Rattle.lines.specs.Lines.{rangedLine, nameLine, upTo}
-use Rattle.text.proofs.Answers.{same-value, same-place, came}
-use Rattle.lines.proofs.Loops.{up-enough}
+use Rattle.text.proofs.Answers.{same-value, came}
 use Rattle.text.proofs.Later.{moved, later, pick-map, runAt-later}
-use Rattle.lines.proofs.LinesLater.{then-moved, rangedLine-later, nameLine-later, up-later}
+use Rattle.lines.proofs.LinesLater.{then-moved, rangedLine-later, nameLine-later}
 use Rattle.lines.proofs.Prefix.{rangedLine-kept, nameLine-kept, word-kept}
 use Rattle.tilco.specs.Inference.{Mark}
 use Rattle.one_reading.specs.OneReading.{knownLine, reading}
 use Rattle.readings.specs.Readings.{readings}
 use Rattle.one_reading.proofs.Lines.{three-lines, reading-is, reading-ahead}
-use Rattle.readings.proofs.Turns.{every, Passed, passed-none, passed-one, readings-short, readings-every}
-
--- An answer that comes after the marks ms and after d bytes.
-abbrev pub after : List Mark → ℕ → Read (List Mark) → Read (List Mark)
-after ms d = moved (λ ns. ms ++ ns) d
+use Rattle.readings.proofs.Turns.{readings-short, readings-every}
+use Rattle.readings.proofs.Entries.{Entry, Whole, AllRead, every-cut, every-end, every-joined, parts-read}
+use Rattle.readings.proofs.Entries.AllRead.{no-text, text-read}
 
 module _ (names : List (List ℕ)) where
   -- A line with a declared name, after a text.
@@ -65,78 +61,51 @@ module _ (names : List (List ℕ)) where
         let d = rangedLine-kept r x (l .third) (bytes "value=") 11 14 0 1 (l .value-line) in
         sym (reading-is names W (r ++ x) p a b d) ∙ ap (λ k. got k q) (l .is)
 
-    module _ (r x : List ℕ) where
-      -- The loop over the whole stands at p and has read the marks t.
-      abbrev Past : List Mark → ℕ → Type 0
-      Past t p = Passed (reading names W (r ++ x)) (r ++ x) t p
+    -- So a reading is an entry of its text.
+    pub reading-entry : Entry (reading names W)
+    reading-entry = record { after-text = reading-later; before-text = reading-kept; ahead = λ r p e. reading-ahead names W r p e }
 
-      -- it stands where r ends
-      stops : {t u : List Mark} {p q : ℕ} → p ≤ length r → length r ≤ p → Past t p → got t p ≡ got u q → (q ≡ length r) × Past u (length r)
-      stops {t} {u} {p} h k z e =
-          let i : p ≡ length r = omega arith in
-          (omega (arith, same-place e), subst (λ y. Past y (length r)) (same-value e) (subst (Past t) i z))
-
-      -- it comes there reading by reading
-      passes : (n : ℕ) (t : List Mark) (p : ℕ) {u : List Mark} {q : ℕ} → p ≤ length r → length r ≤ p + n → Past t p
-          → upTo (reading names W r) (length r) n t p ≡ got u q → (q ≡ length r) × Past u (length r)
-      unfolding upTo
-      passes zero t p h k z e = stops h (omega arith) z e
-      passes (suc n) t p {u} {q} h k z e = go (ltb p (length r)) refl (λ t′ p′ i j y f. passes n t′ p′ i j y f)
-        where
-          go : (b : Bool) → ltb p (length r) ≡ b
-              → ((t′ : List Mark) (p′ : ℕ) → p′ ≤ length r → length r ≤ p′ + n → Past t′ p′
-              → upTo (reading names W r) (length r) n t′ p′ ≡ got u q → (q ≡ length r) × Past u (length r))
-              → (q ≡ length r) × Past u (length r)
-          go true b rest =
-              let l = length-append r x in
-              let d = came (reading names W r p) (λ m y. upTo (reading names W r) (length r) n (t ++ (m ∷ [])) y) (rw b at e) in
-              let w = reading-ahead names W r p (d .first) in
-              let one = passed-one (reading names W (r ++ x)) (r ++ x) z (omega (arith, ltb-true p (length r) b)) (reading-kept r x p (d .first))
-              (record { ahead = w .ahead; inside = omega (arith, w .inside) }) in
-              rest (t ++ (d .value ∷ [])) (d .place) (w .inside) (omega (arith, w .ahead)) one (d .then)
-          go false b rest = stops h (ltb-false p (length r) b) z (rw b at e)
-
-      -- What follows accepted readings is read as by itself.
-      every-cut : (ms : List Mark) (q : ℕ) → every (reading names W r) r ≡ got ms q → every (reading names W (r ++ x)) (r ++ x) ≡ after ms (length r) (every (reading names W x) x)
-      every-cut ms q e =
-          let l = length-append r x in
-          let z = passes (length r) [] 0 (omega arith) (omega arith) (passed-none (reading names W (r ++ x)) (r ++ x)) e .1 in
-          let here : length r + 0 ≡ length r = omega arith in
-          let joint : every (reading names W (r ++ x)) (r ++ x) ≡ upTo (reading names W (r ++ x)) (length r + length x) (z .left) (ms ++ []) (length r + 0) = rw (here, append-nil ms, ← l) (z .same) in
-          let follows = up-later (length r) (reading names W (r ++ x)) (reading names W x) (reading-later r x) ms (length x) (z .left) [] 0 in
-          let enough = up-enough (reading names W x) (length x) (λ p m y f. reading-ahead names W x p f .ahead) (z .left) (length x) [] 0 (omega (arith, z .enough)) (omega arith) in
-          joint ∙ follows ∙ ap (after ms (length r)) enough
-
-      -- After an accepted text, any further text is read as by itself: its marks follow, and its refusal is later by the text's length.
-      pub readings-cut : (ms : List Mark) (q : ℕ) → readings names W r ≡ got ms q → length (r ++ x) ≤ 32768
-          → readings names W (r ++ x) ≡ after ms (length r) (readings names W x)
-      readings-cut ms q e h =
-          let short : length x ≤ 32768 = omega (arith, length-append r x) in
-          readings-short names W (r ++ x) h ∙ every-cut ms q (readings-every names W r e) ∙ ap (after ms (length r)) (sym (readings-short names W x short))
+    -- After an accepted text, any further text is read as by itself: its marks follow, and its refusal is later by the text's length.
+    pub readings-cut : (r x : List ℕ) (ms : List Mark) (q : ℕ) → readings names W r ≡ got ms q → length (r ++ x) ≤ 32768
+        → readings names W (r ++ x) ≡ moved (λ ns. ms ++ ns) (length r) (readings names W x)
+    readings-cut r x ms q e h =
+        let short : length x ≤ 32768 = omega (arith, length-append r x) in
+        readings-short names W (r ++ x) h ∙ every-cut (reading names W) reading-entry r x ms q (readings-every names W r e) ∙ ap (moved (λ ns. ms ++ ns) (length r)) (sym (readings-short names W x short))
 
     -- An accepted text is read up to its end.
     pub readings-end : (r : List ℕ) (ms : List Mark) (q : ℕ) → readings names W r ≡ got ms q → q ≡ length r
-    readings-end r ms q e = passes r [] (length r) [] 0 (omega arith) (omega arith) (passed-none (reading names W (r ++ [])) (r ++ [])) (readings-every names W r e) .0
+    readings-end r ms q e = every-end (reading names W) reading-entry r ms q (readings-every names W r e)
 
 -- Texts each of which is accepted, with the marks of each.
 pub data AllAccepted (names : List (List ℕ)) (W : ℕ) : List (List ℕ) → List (List Mark) → Type 0 where
   none : AllAccepted names W [] []
-  one : {r : List ℕ} {ms : List Mark} {q : ℕ} {rs : List (List ℕ)} {mss : List (List Mark)} → readings names W r ≡ got ms q → AllAccepted names W rs mss
+  one : {r : List ℕ} {ms : List Mark} {rs : List (List ℕ)} {mss : List (List Mark)} → readings names W r ≡ got ms (length r) → AllAccepted names W rs mss
       → AllAccepted names W (r ∷ rs) (ms ∷ mss)
 
-module _ {names : List (List ℕ)} {W : ℕ} where
-  -- All the readings of such texts, in one text.
-  every-joined : {rs : List (List ℕ)} {mss : List (List Mark)} → AllAccepted names W rs mss → every (reading names W (flatten rs)) (flatten rs) ≡ got (flatten mss) (length (flatten rs))
+module _ (names : List (List ℕ)) (W : ℕ) where
+  each-accepted : {rs : List (List ℕ)} {mss : List (List Mark)} → AllRead (reading names W) rs mss → length (flatten rs) ≤ 32768 → AllAccepted names W rs mss
+  unfolding flatten
+  each-accepted no-text h = none
+  each-accepted (text-read {r} {u} {q} {rs} e more) h =
+      let l = length-append r (flatten rs) in
+      let z : got u q ≡ got u (length r) = ap (got u) (every-end (reading names W) (reading-entry names W) r u q e) in
+      one (readings-short names W r (omega arith) ∙ e ∙ z) (each-accepted more (omega arith))
+
+  -- An accepted text in parts, accepted up to the end of each part: each part is accepted, and their marks in turn are the text's.
+  pub parts-accepted : (parts : List (List ℕ)) {ms : List Mark} → readings names W (flatten parts) ≡ got ms (length (flatten parts)) → length (flatten parts) ≤ 32768
+      → ((n : ℕ) → n < length parts → (ns : List Mark) × (readings names W (flatten (take n parts)) ≡ got ns (length (flatten (take n parts)))))
+      → (mss : List (List Mark)) × AllAccepted names W parts mss × (flatten mss ≡ ms)
   unfolding upTo flatten
-  every-joined none = refl
-  every-joined (one {r} {ms} {q} {rs} e more) =
-      every-cut names W r (flatten rs) ms q (readings-every names W r e) ∙ rw (every-joined more, length-append r (flatten rs))
+  parts-accepted parts {ms} e h f =
+      let z = parts-read (reading names W) (reading-entry names W) [] parts (record { entries = []; place = 0; reads = refl }) up-to in
+      (z .0, each-accepted (z .1) h, same-value (sym (every-joined (reading names W) (reading-entry names W) (z .1)) ∙ readings-every names W (flatten parts) e))
+    where
+      whole : (r : List ℕ) {ns : List Mark} {q : ℕ} → readings names W r ≡ got ns q → Whole (reading names W) r
+      whole r {ns} {q} d = record { entries = ns; place = q; reads = readings-every names W r d }
 
-  -- Texts that are each accepted are accepted as one text, if that is short enough: with the marks of each in turn.
-  pub readings-joined : {rs : List (List ℕ)} {mss : List (List Mark)} → AllAccepted names W rs mss → length (flatten rs) ≤ 32768
-      → readings names W (flatten rs) ≡ got (flatten mss) (length (flatten rs))
-  readings-joined {rs} a h = readings-short names W (flatten rs) h ∙ every-joined a
-
-  -- However long a text is, where it is cut into accepted texts changes none of the marks, nor their order.
-  pub cuts-agree : {rs qs : List (List ℕ)} {mss nss : List (List Mark)} → AllAccepted names W rs mss → AllAccepted names W qs nss → flatten rs ≡ flatten qs → flatten mss ≡ flatten nss
-  cuts-agree {rs} {qs} a b e = same-value (sym (every-joined a) ∙ ap (λ s. every (reading names W s) s) e ∙ every-joined b)
+      up-to : (n : ℕ) → n ≤ length parts → Whole (reading names W) (flatten (take n parts))
+      up-to n l = go (decLt n (length parts))
+        where
+          go : Dec (n < length parts) → Whole (reading names W) (flatten (take n parts))
+          go (yes i) = whole (flatten (take n parts)) (f n i .1)
+          go (no i) = subst (λ ps. Whole (reading names W) (flatten ps)) (sym (take-all n parts (omega arith))) (whole (flatten parts) e)

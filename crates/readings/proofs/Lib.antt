@@ -4,4 +4,5 @@ pub mod Numbers
 pub mod Outcomes
 pub mod Bounds
 pub mod Stays
+pub mod Entries
 pub mod Cuts
