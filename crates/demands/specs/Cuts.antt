@@ -2,7 +2,7 @@
 -- Assumes nothing. `s` is the sheet's text and k its contents, R a readings text.
 use mathlib.Core.Path.{_≡_}
 use mathlib.Core.List.{List, [], _∷_, _++_, flatten, List·Memᴰ}
-use Prim.Native.Nat.{ℕ, _<_}
+use Prim.Native.Nat.{ℕ, _≤_, _<_}
 use lib.ListN.{length, take}
 use Rattle.text.specs.Bytes.{bytes}
 use Rattle.tilco.specs.Inference.{Mark}
@@ -23,7 +23,7 @@ pub data Boundary (names : List (List ℕ)) (W : ℕ) (R : List ℕ) : ℕ → T
 -- R is cut into these parts, "one or more": joined they are R, and each begins at a boundary.
 pub record CutInto (s : List ℕ) (k : Contents) (R : List ℕ) (parts : List (List ℕ)) : Type 0 where
   pub joined : flatten parts ≡ R
-  pub some : 0 < length parts
+  pub some : 1 ≤ length parts
   pub begin : (n : ℕ) → n < length parts → Boundary (namesIn s k) (k .window) R (length (flatten (take n parts)))
 
 -- A call of add: the texts that it is given.
