@@ -4,6 +4,7 @@ pub mod Demand2
 pub mod Demand3
 pub mod Cases
 pub mod NotDropped
+pub mod OneWord
 pub mod Values
 pub mod Sense
 pub mod Derives
