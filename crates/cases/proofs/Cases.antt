@@ -1,14 +1,16 @@
--- The proved cases P1 to P10, from their texts to the listing, in one theorem.
+-- The proved cases P1 to P10, from their texts to the listing and to the histories, in one theorem.
 -- Assumes nothing.
 use mathlib.Core.Path.{refl}
 use mathlib.Core.List.{List, [], _∷_}
-use Rattle.text.specs.Bytes.{peek, classOf, nameByte, starts, run, runAt, runEnd}
+use lib.Count.{ones, onesIn}
+use lib.Dec.{T}
+use Rattle.ticks.specs.Ticks.{bit, tally}
+use Rattle.text.specs.Bytes.{bytes, peek, classOf, nameByte, starts, run, runAt, runEnd}
 use Rattle.names.specs.Words.{namesAt, sameText, findName, isWord, nameAt}
 use Rattle.text.specs.Numbers.{digits, number}
 use Rattle.lines.specs.Lines.{inLine, line, numberLine, rangedLine, nameLine, inTurn, upTo}
 use Rattle.tilco.specs.Lists.{All}
-use Rattle.tilco.specs.Cases.{Case, Holds, cases}
-use Rattle.tilco.proofs.Cases.{cases-hold}
+use Rattle.tilco.specs.Table.{words}
 use Rattle.intervals.specs.Interval.{signed, endAt, spanOf, endAfter, closeAt, commaAt, interval}
 use Rattle.formula.specs.Grammar.{declared, times, timedPart, more, level, second, kept, worded, plainIn, inside, plain, rule}
 use Rattle.sheet_head.specs.SheetHead.{signalLine, head}
@@ -17,30 +19,33 @@ use Rattle.one_reading.specs.OneReading.{knownLine, reading}
 use Rattle.readings.specs.Readings.{readings}
 use Rattle.writing.specs.Writes.{lastDigits, decimalText}
 use Rattle.listing_lines.specs.LineTexts.{lineText}
-use Rattle.listing_signals.specs.Signals.{signalText}
-use Rattle.listing.specs.Listing.{headText}
+use Rattle.listing_signals.specs.Signals.{signs, signalText, signalsText}
+use Rattle.listing.specs.Listing.{headText, listingText}
 use Rattle.sheet_opening.specs.SheetIn.{fits, sheetIn}
-use Rattle.cases.specs.Texts.{TextCase, textCases, Settled}
-use Rattle.cases.proofs.ReadAs.{ReadAs, read-settles}
+use Rattle.settling.proofs.OneListing.{prints-one}
+use Rattle.cases.specs.Texts.{TextCase, p7, p8, textCases, InHistories, Settled}
+use Rattle.cases.proofs.Tested.{textsPass, passed-prints}
+use Rattle.cases.proofs.Histories.{ReadAs, p7-read, p8-read, p7-holds, p8-holds, of-read}
 
--- Each entry of the texts' table is read as the case at the same place of the other.
-abbrev AllReadAs : List TextCase → List Case → Type 0
-AllReadAs [] [] = Unit {0}
-AllReadAs [] (c ∷ cs) = ⊥
-AllReadAs (e ∷ es) [] = ⊥
-AllReadAs (e ∷ es) (c ∷ cs) = ReadAs e c × AllReadAs es cs
+-- A case's texts pass the test.
+abbrev Passes : TextCase → Type 0
+Passes e = T (textsPass (bytes (e .sheet)) (bytes (e .readings)) (bytes (e .listing)))
 
--- By computation: the sheet, its readings and the listing.
-all-read-as : AllReadAs textCases cases
-unfolding peek classOf nameByte starts run runAt runEnd namesAt sameText findName isWord nameAt digits number inLine line numberLine rangedLine nameLine inTurn upTo signed endAt spanOf endAfter closeAt commaAt interval declared times timedPart more level second kept worded plainIn inside plain rule signalLine head ruleTo ruleLine rules sheetOf knownLine reading readings lastDigits decimalText lineText signalText headText fits sheetIn
-all-read-as = ((refl, refl, refl), ((refl, refl, refl), ((refl, refl, refl), ((refl, refl, refl), ((refl, refl, refl), ((refl, refl, refl), ((refl, refl, refl), ((refl, refl, refl), ((refl, refl, refl), ((refl, refl, refl), ((refl, refl, refl), tt)))))))))))
+-- By computation: each sheet and its readings are read, the table is closed, and its listing is the one expected. P7's and P8's sheets are read as
+-- their second halves want them.
+computed : All Passes textCases × ReadAs p7-read (sheetIn (bytes (p7 .sheet))) × ReadAs p8-read (sheetIn (bytes (p8 .sheet)))
+unfolding ones onesIn bit tally words peek classOf nameByte starts run runAt runEnd namesAt sameText findName isWord nameAt digits number inLine line numberLine rangedLine nameLine inTurn upTo signed endAt spanOf endAfter closeAt commaAt interval declared times timedPart more level second kept worded plainIn inside plain rule signalLine head ruleTo ruleLine rules sheetOf knownLine reading readings lastDigits decimalText lineText signs signalText signalsText headText listingText fits sheetIn
+computed = ((tt, (tt, (tt, (tt, (tt, (tt, (tt, (tt, (tt, (tt, (tt, tt))))))))))), refl, refl)
 
-all-settle : (es : List TextCase) (cs : List Case) → AllReadAs es cs → All Holds cs → All Settled es
-all-settle [] [] a h = tt
-all-settle [] (c ∷ cs) a h = absurd a
-all-settle (e ∷ es) [] a h = absurd a
-all-settle (e ∷ es) (c ∷ cs) a h = (read-settles e c (h .0) (a .0), all-settle es cs (a .1) (h .1))
+all-said : All InHistories textCases
+all-said = (λ k i h o. tt, (λ k i h o. tt, (λ k i h o. tt, (λ k i h o. tt, (λ k i h o. tt, (λ k i h o. tt, (λ k i h o. tt, (of-read p7 p7-read (computed .1) p7-holds, (of-read p8 p8-read (computed .2) p8-holds, (λ k i h o. tt, (λ k i h o. tt, tt)))))))))))
 
--- P1 (both rule orders) to P10 settle: for its sheet and readings each entry's listing is what is printed.
+all-settle : (es : List TextCase) → All Passes es → All InHistories es → All Settled es
+all-settle [] p a = tt
+all-settle (e ∷ es) p a =
+    let i = passed-prints (bytes (e .sheet)) (bytes (e .readings)) (bytes (e .listing)) (p .0) in
+    ((i, λ l o. prints-one o i, a .0), all-settle es (p .1) (a .1))
+
+-- P1 (both rule orders) to P10 settle: for its sheet and readings each entry's listing is what is printed, and every history is as said.
 pub cases-settle : All Settled textCases
-cases-settle = all-settle textCases cases all-read-as cases-hold
+cases-settle = all-settle textCases (computed .0) all-said

@@ -1,21 +1,46 @@
--- The proved cases P1 to P10 (01, "Proved cases") as one table of texts: a sheet, readings, and what `settle` prints for them.
+-- The proved cases P1 to P10 (01, "Proved cases") as one table of texts: a sheet, readings, what `settle` prints for them, and what is so in every history.
 -- Assumes nothing.
 use mathlib.Core.Path.{_≡_}
+use mathlib.Core.Bool.{true}
 use mathlib.Core.List.{List, [], _∷_}
 use Prim.Native.Nat.{ℕ}
 use Prim.Native.String.{String, _++_}
+use lib.IntN.{pos}
 use Rattle.text.specs.Bytes.{bytes}
+use Rattle.tilco.specs.Meaning.{History, Obeys}
+use Rattle.sheet.specs.Sheet.{Contents, meant}
+use Rattle.sheet_opening.specs.Results.{accepted}
+use Rattle.sheet_opening.specs.SheetIn.{sheetIn}
 use Rattle.settling.specs.Prints.{Prints}
 
--- The text of a sheet, the text of its readings, and the listing.
+-- What is so in every history, although the listing does not tell it: nothing more; the signal of this number, from 0 in sheet order, is true at this
+-- tick; or that no history exists.
+pub data Although : Type 0 where
+  nothingMore : Although
+  trueAt : ℕ → ℕ → Although
+  noHistory : Although
+
+-- What that says of one history.
+abbrev pub SaidOf : Although → History → Type 0
+SaidOf nothingMore h = Unit {0}
+SaidOf (trueAt x t) h = h x (pos t) ≡ true
+SaidOf noHistory h = ⊥
+
+-- The text of a sheet, the text of its readings, the listing, and what is so in every history.
 pub record TextCase : Type 0 where
   pub sheet : String
   pub readings : String
   pub listing : String
+  pub histories : Although
 
 -- A case of these texts.
 abbrev case : String → String → String → TextCase
-case s r l = record { sheet = s; readings = r; listing = l }
+case s r l = record { sheet = s; readings = r; listing = l; histories = nothingMore }
+
+-- The case with what is so in every history.
+infixl 20 _although_
+abbrev _although_ : TextCase → Although → TextCase
+_although_ e a = record { sheet = e .sheet; readings = e .readings; listing = e .listing; histories = a }
 
 -- P1 the sheet and readings of the listing program give its listing, with the rules in the other order too.
 abbrev p1-head : String
@@ -80,18 +105,20 @@ p6 =
     "answer=0\nrows=4\nfacts=3\nclash=0\nsignal=a\nmarks=000\n"
 
 -- P7 window 1, `a|b` and `a|!b`: a unsettled, although true in every history.
-abbrev p7 : TextCase
+abbrev pub p7 : TextCase
 p7 =
     case "window=1\nsignals=2\nsignal=a\nsignal=b\nrules=2\nrule=a|b\nrule=a|!b\n"
     ""
     "answer=0\nrows=5\nfacts=0\nclash=0\nsignal=a\nmarks=?\nsignal=b\nmarks=?\n"
+    although trueAt 0 0
 
 -- P8 window 1, `a|b`, `a|!b`, `!a|b`, `!a|!b`: no clash, although no history exists.
-abbrev p8 : TextCase
+abbrev pub p8 : TextCase
 p8 =
     case "window=1\nsignals=2\nsignal=a\nsignal=b\nrules=4\nrule=a|b\nrule=a|!b\nrule=!a|b\nrule=!a|!b\n"
     ""
     "answer=0\nrows=10\nfacts=0\nclash=0\nsignal=a\nmarks=?\nsignal=b\nmarks=?\n"
+    although noHistory
 
 -- P9 window 1, no rules, a true and false at 0: clash, two facts.
 abbrev p9 : TextCase
@@ -112,8 +139,13 @@ p10 =
 abbrev pub textCases : List TextCase
 textCases = p1 (p1-first ++ p1-second) ∷ p1 (p1-second ++ p1-first) ∷ p2 ∷ p3 ∷ p4 ∷ p5 ∷ p6 ∷ p7 ∷ p8 ∷ p9 ∷ p10 ∷ []
 
--- The listing is what `settle` prints for the sheet and the readings, and nothing else is.
+-- Every history that obeys the sheet is as said.
+abbrev pub InHistories : TextCase → Type 0
+InHistories e = (k : Contents) → sheetIn (bytes (e .sheet)) ≡ accepted k → (h : History) → Obeys (meant k) h → SaidOf (e .histories) h
+
+-- The listing is what `settle` prints for the sheet and the readings, nothing else is, and the histories are as said.
 abbrev pub Settled : TextCase → Type 0
 Settled e =
     Prints (bytes (e .sheet)) (bytes (e .readings)) (bytes (e .listing))
     × ((l : List ℕ) → Prints (bytes (e .sheet)) (bytes (e .readings)) l → l ≡ bytes (e .listing))
+    × InHistories e

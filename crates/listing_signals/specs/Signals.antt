@@ -7,14 +7,16 @@ use mathlib.Core.Logic.{_↔_}
 use Prim.Native.Nat.{ℕ, zero, suc, _*_, _<_, _≤_}
 use lib.ListN.{length}
 use Rattle.text.specs.Bytes.{byte, bytes}
-use Rattle.tilco.specs.Cases.{signOf}
 use Rattle.tilco.specs.Inference.{Marks, Clash}
-use Rattle.tilco.specs.Table.{Stands, Answer, Asked}
+use Rattle.tilco.specs.Table.{Stands, Answer, Unsettled, True, False, Contradiction, Asked}
 use Rattle.listing_lines.specs.LineTexts.{lineText}
 
 -- "One sign a tick: 1, 0, ? unsettled, and x in every place when clash is 1."
 abbrev pub signByte : Answer → ℕ
-signByte a = byte (signOf a)
+signByte Unsettled = byte "?"
+signByte True = byte "1"
+signByte False = byte "0"
+signByte Contradiction = byte "x"
 
 -- The signs of a signal's answers at n ticks from t on.
 unfoldable pub signs : (ℕ → Answer) → ℕ → ℕ → List ℕ

@@ -2,8 +2,8 @@
 pub mod Demand1
 pub mod Demand2
 pub mod Demand3
-pub mod Cases
 pub mod NotDropped
+pub mod OneWord
 pub mod Values
 pub mod Sense
 pub mod Derives
@@ -16,4 +16,3 @@ pub mod Lists
 pub mod At
 pub mod Rows
 pub mod Place
-pub mod Compute

@@ -7,4 +7,3 @@ pub mod Lowering
 pub mod Table
 pub mod Calls
 pub mod Short
-pub mod Cases

@@ -1,10 +1,10 @@
--- A closing that the checker computes, for windows up to 64 ticks: what it reaches is derived, and a computed test says that it is all.
--- It serves the worked cases only. Assumes nothing.
+-- A step of the proof: a closing that the checker computes, for windows up to 64 ticks. What it reaches is derived, and a test says that it is all.
+-- Assumes nothing.
 use mathlib.Core.Path.{_≡_, refl, sym, _∙_, ap, subst}
 use mathlib.Core.Bool.{Bool, true, false, not, _&&_, _||_}
 use mathlib.Core.List.{List, [], _∷_, _++_, List·Memᴰ, List·Memᴰ·head, List·Memᴰ·tail, List·Memᴰ·cases-cons, List·Memᴰ·not-nil}
 use mathlib.Core.Logic.{_⊎_, inl, inr, ⊎-elim, _↔_}
-use Prim.Native.Nat.{ℕ, zero, suc, _+_, _-_, _*_, _^_, _<_, _≤_}
+use Prim.Native.Nat.{ℕ, zero, suc, _+_, _-_, _^_, _<_, _≤_}
 use native.Mathlib.Nat.{zero-add}
 use native.Mathlib.Decide.{ℕ-discrete, decLt}
 use native.Mathlib.Omega.{arith}
@@ -13,16 +13,15 @@ use lib.Dec.{T, eqb, eqb→eq, leb, ltb, leb→le, ltb→lt, le→leb, lt→ltb}
 use lib.ListN.{length, getD, set}
 use lib.Pow.{pow-pos}
 use lib.Seq.{getD-set-same, getD-set-other, set-out}
-use Rattle.ticks.specs.Ticks.{bit, Has, block, Small}
+use Rattle.ticks.specs.Ticks.{bit, Has, block}
 use Rattle.ticks.proofs.Bits.{has-below, or-out}
 use Rattle.ticks.proofs.Shifts.{one-only}
-use Rattle.ticks.proofs.Tables.{in-to, in-from, block-apart}
+use Rattle.ticks.proofs.Tables.{block-apart}
 use Rattle.tilco.specs.Lists.{All, tab}
 use Rattle.tilco.specs.Inference.{Node, signal, notOf, gate, look, Program, node, Mark, mark, Marks, Shifted, down-left, down-right, up-left, up-right, look-down, look-up, not-down, not-up, up-both, rest-right, rest-left, Derives, top, one, two}
-use Rattle.tilco.specs.Table.{Stands}
 use Rattle.tilco.proofs.Lists.{all-append, all-left, all-right, all-of, all-at, all-weaker}
 use Rattle.tilco.proofs.At.{At, at-getD, at-self}
 use Rattle.tilco.proofs.Closing.{SettledAt, finished}
 
 -- ---- tests
 
@@ -82,16 +81,6 @@ module _ (f : ℕ → Bool) where
 
 abbrev pub Plain : List ℕ → Marks
 Plain U (mark r t v) = Has (getD U (block r v) 0) t
-
-block-one : (r : ℕ) (v : Bool) → block r v * 1 + 0 ≡ block r v
-block-one r v = omega arith
-
-pub plain-of : (U : List ℕ) (m : Mark) → Stands 1 U m → Plain U m
-plain-of U (mark r t v) i = subst (λ (k : ℕ). Has (getD U k 0) t) (block-one r v) (in-from 64 1 U (block r v * 1) 0 t t (omega (arith, i .within)) (omega arith) i)
-
-pub of-plain : (U : List ℕ) → Small 64 U → (m : Mark) → Plain U m → Stands 1 U m
-of-plain U s (mark r t v) i =
-    in-to 64 1 U (block r v * 1) 0 t t (has-below (getD U (block r v) 0) 64 t (s (block r v)) i) (omega arith) (omega arith) (subst (λ (k : ℕ). Has (getD U k 0) t) (sym (block-one r v)) i)
 
 abbrev pub stands : List ℕ → Mark → Bool
 stands U (mark r t v) = eqb (bit (getD U (block r v) 0) t) 1
