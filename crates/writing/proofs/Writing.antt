@@ -22,6 +22,10 @@ stored e = record { next = refl; holds = e }
 pub no-room : {w b : ℕ} {m m₁ : List ℕ} → length m ≤ b → m₁ ≡ m → Wrote (w ∷ []) b m m₁ (b + 1)
 no-room {w} {b} {m} h e = stored (e ∙ sym (set-out m b w h))
 
+-- Nothing is written.
+pub nothing : {b : ℕ} {m : List ℕ} → Wrote [] b m m b
+nothing {b} = record { next = sym (add-zero b); holds = refl }
+
 -- The buffer keeps its length.
 pub as-long : {ws : List ℕ} {b : ℕ} {m m₁ : List ℕ} {u : ℕ} → Wrote ws b m m₁ u → length m₁ ≡ length m
 as-long {ws} {b} {m} h = ap length (h .holds) ∙ length-sets m b ws
