@@ -4,8 +4,8 @@ use borrow.Author.Needs.{needs}
 use borrow.Fn.Kinds.{In}
 use borrow.Fn.PlainCycle.{Measures, is, falls, and}
 use native.Mathlib.Omega.{arith}
-use Rattle.writing.proofs.Writing.{like, and-then, counted-like, counted-first, counted-rest}
-use Rattle.writing.proofs.Decimals.{decimal-one, decimal-more}
+use Rattle.writing.proofs.Writing.{like, and-then, counted-like, counted-first}
+use Rattle.writing.proofs.Decimals.{decimal-one, decimal-more, decimal-longer}
 use Rattle.writing.proofs.decimal.Reads as decimal
 use Rattle.writing.proofs.decimal.Kinds as decimal-kinds
 use Rattle.writing.proofs.+decimal.Lts-decimal as decimal-lts
@@ -45,7 +45,7 @@ module _ (t : ℕ) where
   decimal-decimal-requires c κs = (omega arith, counted-first _ (counted-like (c .before .before .before .pre .1) (decimal-more _ (omega arith) (omega arith))))
 
   decimal-push-requires-2 : decimal-lts.Need-push-requires-2 decimal-calls decimal-at decimal.Post
-  decimal-push-requires-2 c κs = counted-rest (counted-like (c .before .before .before .before .before .before .before .pre .1) (decimal-more _ (omega arith) (omega arith))) (c .before .before .before .decimal .ensures)
+  decimal-push-requires-2 c κs = record { below = omega (arith, decimal-longer (c .before .before .before .before .before .before .before .args .n) (omega arith) (omega arith), c .before .before .before .before .before .before .before .pre .1 .below, c .before .before .before .decimal .ensures .next) }
 
   decimal-same-length-2 : decimal-lts.Need-same-length-2 decimal-calls decimal-at decimal.Post
   decimal-same-length-2 c = search needs
