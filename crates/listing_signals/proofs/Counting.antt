@@ -1,4 +1,4 @@
--- The places of signs and signals can be counted after a part too: what is written is as long, whatever the marks are.
+-- The places of what follows a sign or a signal can be counted: what was written is as long, whatever the marks are.
 -- Assumes nothing.
 use mathlib.Core.Path.{ap}
 use mathlib.Core.List.{List, [], _∷_}

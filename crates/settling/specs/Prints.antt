@@ -24,7 +24,7 @@ pub data Prints (s r : List ℕ) : List ℕ → Type 0 where
       → Answers (Standing (meant k) U) (length (k .places)) (k .window) f
       → Prints s r (listingText (namesIn s k) (k .window) (rowCount (meant k)) (factsOf (meant k) U) clash f)
 
--- Such a text is written from the buffer's first place on, as far as there is room, and its length is answered: n, of which there is at most 8,192.
+-- Such a text is written from the buffer's first place on as far as there is room; its length, at most 8,192, is answered.
 pub record PrintedWhole (s r m m′ : List ℕ) (n : ℕ) : Type 0 where
   pub text : List ℕ
   pub prints : Prints s r text

@@ -31,7 +31,7 @@ fn settle_table(
     }
 }
 
-// What settle prints for a sheet and readings: it is written from the buffer's first place on as far as there is room, and its length is answered.
+// What settle prints for a sheet and readings, written from the buffer's first place on as far as there is room; its length is answered.
 pub fn settle(s: &[u8], readings: &[u8], out: &mut [u8]) -> usize
     ensures { λ n. ⌜ PrintedWhole (now (s .entry)) (now (readings .entry)) (now (out .entry)) (now (out .exit)) n ⌝ }
 {

@@ -1,6 +1,6 @@
 -- What a writer answers, and what it leaves in a lent buffer; the digits of a number.
 -- Assumes nothing. m is the buffer before, m′ after, b the first place to be written.
--- The answer does not hang on the room, so a writer that is lent no room measures its text.
+-- The answer is the same whatever the room is, so a writer that is lent a buffer of no room measures its text.
 use mathlib.Core.Path.{_≡_}
 use mathlib.Core.List.{List, [], _∷_, _++_}
 use Prim.Native.Nat.{ℕ, zero, suc, _+_, _/_, _%_, _^_, _<_}
@@ -9,12 +9,12 @@ use lib.ListN.{length}
 use lib.Seq.{sets}
 use Rattle.text.specs.Bytes.{byte, pick}
 
--- The place after ws is answered, and the entries of ws for which there is room stand from b on: past its end `sets` changes nothing.
+-- The place after ws is answered, and the entries of ws for which there is room stand from b on: `sets` changes nothing past the buffer's end.
 pub record Wrote (ws : List ℕ) (b : ℕ) (m m′ : List ℕ) (u : ℕ) : Type 0 where
   pub next : u ≡ b + length ws
   pub holds : m′ ≡ sets m b ws
 
--- The places of ws, from b on, and the place after it can be counted.
+-- The places of ws from b on, and the place after it, can be counted in 64 bits.
 pub record Counted (b : ℕ) (ws : List ℕ) : Type 0 where
   pub below : b + length ws < 2 ^ 64
 
