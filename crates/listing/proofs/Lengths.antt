@@ -1,36 +1,29 @@
--- How long a listing is at the most, so that a buffer with room for it can be lent.
+-- How long a listing is at the most, so that its places can be counted and a buffer with room for it can be lent.
 -- Assumes nothing.
-use mathlib.Core.Path.{_≡_, refl, ap}
 use mathlib.Core.Bool.{Bool}
 use mathlib.Core.List.{List, [], _∷_, _++_}
-use Prim.Native.Nat.{ℕ, zero, suc, _+_, _*_, _≤_}
+use Prim.Native.Nat.{ℕ, suc, _+_, _*_, _≤_}
 use native.Mathlib.Omega.{arith}
 use lib.ListN.{length, length-append}
 use Rattle.text.specs.Bytes.{bytes}
 use Rattle.tilco.specs.Lists.{All}
 use Rattle.tilco.specs.Table.{Answer}
-use Rattle.writing.specs.Writes.{decimalText}
+use Rattle.writing.specs.Writes.{Wrote, Counted, decimalText}
 use Rattle.writing.proofs.Decimals.{decimal-few}
-use Rattle.listing_lines.specs.LineTexts.{lineText, numberText}
+use Rattle.listing_lines.specs.LineTexts.{numberText}
 use Rattle.listing_signals.specs.Signals.{signs, signalText, signalsText}
+use Rattle.listing_signals.proofs.Lengths.{line-length, signs-length, signal-length}
 use Rattle.listing.specs.Listing.{oneIf, headText, listingText, refusalText}
-
-line-length : (key value : List ℕ) → length (lineText key value) ≡ length key + length value + 1
-unfolding lineText
-line-length key value = omega (arith, length-append key (value ++ bytes "\n"), length-append value (bytes "\n"))
 
 number-most : (key : List ℕ) (n : ℕ) → length (numberText key n) ≤ length key + 21
 number-most key n = omega (arith, line-length key (decimalText n), decimal-few n)
 
-signs-length : (f : ℕ → Answer) (t n : ℕ) → length (signs f t n) ≡ n
-unfolding signs
-signs-length f t zero = refl
-signs-length f t (suc n) = ap suc (signs-length f (suc t) n)
+-- A line with a number can be counted near the start of the buffer, and ends near it.
+pub number-counted : (key : List ℕ) (n : ℕ) {b : ℕ} → b + length key ≤ 8192 → Counted b (numberText key n)
+number-counted key n h = record { below = omega (arith, number-most key n) }
 
-signal-length : (name marks : List ℕ) → length (signalText name marks) ≡ length name + length marks + 15
-unfolding signalText
-signal-length name marks =
-    omega (arith, length-append (lineText (bytes "signal=") name) (lineText (bytes "marks=") marks), line-length (bytes "signal=") name, line-length (bytes "marks=") marks)
+pub number-ends : (key : List ℕ) (n : ℕ) {b : ℕ} {m m₁ : List ℕ} {u : ℕ} → Wrote (numberText key n) b m m₁ u → u ≤ b + length key + 21
+number-ends key n w = omega (arith, number-most key n)
 
 -- A signal takes at most 95 bytes.
 signals-most : (W : ℕ) (f : ℕ → ℕ → Answer) (x : ℕ) (names : List (List ℕ)) → W ≤ 64 → All (λ w. length w ≤ 16) names → length (signalsText W f x names) ≤ 95 * length names

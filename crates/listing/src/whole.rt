@@ -1,13 +1,12 @@
 // The listing of a closed table, and that of a refusal, from the buffer's first place on.
 use listing_lines::write_number_line;
 use listing_signals::write_signals;
-use writing::Next;
 ghost use mathlib.Core.Path.{_≡_};
 ghost use Prim.Native.Nat.{ℕ};
 ghost use lib.ListN.{length};
 ghost use Rattle.names.specs.Words.{namesAt};
 ghost use Rattle.tilco.specs.Table.{Stands, Answer};
-ghost use Rattle.writing.specs.Writes.{Wrote};
+ghost use Rattle.writing.specs.Writes.{Counted, Wrote};
 ghost use Rattle.listing_signals.specs.Signals.{Listable, Answers};
 ghost use Rattle.listing.specs.Listing.{oneIf, headText, listingText, refusalText};
 
@@ -19,18 +18,12 @@ fn one_if(yes: bool) -> usize
 }
 
 // The lines before those of the signals.
-fn write_head(rows: usize, facts: usize, clash: bool, out: &mut [u8]) -> Next
+fn write_head(rows: usize, facts: usize, clash: bool, out: &mut [u8]) -> usize
     ensures { λ r. ⌜ Wrote (headText rows facts clash) 0 (now (out .entry)) (now (out .exit)) r ⌝ }
 {
-    let Next::Place(a) = write_number_line(b"answer=", 0, out, 0) else {
-        return Next::Full;
-    };
-    let Next::Place(b) = write_number_line(b"rows=", rows, out, a) else {
-        return Next::Full;
-    };
-    let Next::Place(c) = write_number_line(b"facts=", facts, out, b) else {
-        return Next::Full;
-    };
+    let a = write_number_line(b"answer=", 0, out, 0);
+    let b = write_number_line(b"rows=", rows, out, a);
+    let c = write_number_line(b"facts=", facts, out, b);
     let digit = one_if(clash);
     write_number_line(b"clash=", digit, out, c)
 }
@@ -46,22 +39,18 @@ pub fn write_listing(
     facts: usize,
     clash: bool,
     out: &mut [u8],
-) -> Next
-    requires { ⌜ Listable (length (now places)) window n (now table) clash ⌝ }
+) -> usize
+    requires { ⌜ Listable (length (now places)) window n (now table) clash × ((f : ℕ → ℕ → Answer) → Counted 0 (listingText (namesAt (now s) (now places)) window rows facts clash f)) ⌝ }
     ensures { λ r. ⌜ ((f : ℕ → ℕ → Answer) → Answers (Stands n (now (table .entry))) (length (now (places .entry))) window f → Wrote (listingText (namesAt (now (s .entry)) (now (places .entry))) window rows facts clash f) 0 (now (out .entry)) (now (out .exit)) r) ⌝ }
 {
-    let Next::Place(signals) = write_head(rows, facts, clash, out) else {
-        return Next::Full;
-    };
+    let signals = write_head(rows, facts, clash, out);
     write_signals(s, places, window, n, table, clash, out, signals)
 }
 
 // The listing of a refusal: its number and its place.
-pub fn write_refusal(number: usize, place: usize, out: &mut [u8]) -> Next
+pub fn write_refusal(number: usize, place: usize, out: &mut [u8]) -> usize
     ensures { λ r. ⌜ Wrote (refusalText number place) 0 (now (out .entry)) (now (out .exit)) r ⌝ }
 {
-    let Next::Place(next) = write_number_line(b"answer=", number, out, 0) else {
-        return Next::Full;
-    };
+    let next = write_number_line(b"answer=", number, out, 0);
     write_number_line(b"place=", place, out, next)
 }

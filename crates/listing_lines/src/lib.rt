@@ -1,48 +1,42 @@
-// Lines of the listing: a key, a value, and LF. Assumes nothing of the buffer or the place.
+// Lines of the listing: a key, a value, and LF. Assumes that the places of a line can be counted.
 use names::word_end;
-use writing::Next;
 use writing::decimal;
 use writing::push;
 use writing::push_text;
 ghost use Rattle.text.specs.Bytes.{bytes};
 ghost use Rattle.names.specs.Words.{wordAt};
-ghost use Rattle.writing.specs.Writes.{Wrote, decimalText};
+ghost use Rattle.writing.specs.Writes.{Counted, Wrote, decimalText};
 ghost use Rattle.listing_lines.specs.LineTexts.{lineText};
 
 // The line of a key and a number.
-pub fn write_number_line(key: &[u8], n: usize, out: &mut [u8], used: usize) -> Next
+pub fn write_number_line(key: &[u8], n: usize, out: &mut [u8], used: usize) -> usize
+    requires { ⌜ Counted used (lineText (now key) (decimalText n)) ⌝ }
     ensures { λ r. ⌜ Wrote (lineText (now (key .entry)) (decimalText n)) used (now (out .entry)) (now (out .exit)) r ⌝ }
 {
-    let Next::Place(value) = push_text(key, out, used) else {
-        return Next::Full;
-    };
-    let Next::Place(end) = decimal(n, out, value) else {
-        return Next::Full;
-    };
+    let value = push_text(key, out, used);
+    let end = decimal(n, out, value);
     push(b'\n', out, end)
 }
 
 // The word at a place of the text.
-fn write_word(s: &[u8], at: usize, out: &mut [u8], used: usize) -> Next
+fn write_word(s: &[u8], at: usize, out: &mut [u8], used: usize) -> usize
+    requires { ⌜ Counted used (wordAt (now s) at) ⌝ }
     ensures { λ r. ⌜ Wrote (wordAt (now (s .entry)) at) used (now (out .entry)) (now (out .exit)) r ⌝ }
 {
     if at < s.len() {
         let e = word_end(s, at);
         push_text(&s[at..e], out, used)
     } else {
-        push_text(b"", out, used)
+        used
     }
 }
 
 // The line of a signal's name, which stands at a place of the text.
-pub fn write_name_line(s: &[u8], at: usize, out: &mut [u8], used: usize) -> Next
+pub fn write_name_line(s: &[u8], at: usize, out: &mut [u8], used: usize) -> usize
+    requires { ⌜ Counted used (lineText (bytes "signal=") (wordAt (now s) at)) ⌝ }
     ensures { λ r. ⌜ Wrote (lineText (bytes "signal=") (wordAt (now (s .entry)) at)) used (now (out .entry)) (now (out .exit)) r ⌝ }
 {
-    let Next::Place(value) = push_text(b"signal=", out, used) else {
-        return Next::Full;
-    };
-    let Next::Place(end) = write_word(s, at, out, value) else {
-        return Next::Full;
-    };
+    let value = push_text(b"signal=", out, used);
+    let end = write_word(s, at, out, value);
     push(b'\n', out, end)
 }

@@ -15,7 +15,6 @@ use Rattle.tilco.proofs.Demand1.{asked-one}
 use Rattle.table.specs.Values.{valueSays}
 use Rattle.table.specs.declared.Value.{Value}
 use Rattle.writing.specs.Writes.{Wrote}
-use Rattle.writing.specs.declared.Next.{Next}
 use Rattle.writing.proofs.Writing.{like}
 use Rattle.listing_signals.specs.Signals.{Listable, signByte, signs, signalText, signalsText}
 
@@ -25,8 +24,8 @@ fewer {k} {n = n} j U h l a =
     let m : 2 * j * n ≤ 2 * k * n = mul-le-mul-right n (omega arith) in
     record { rows = omega (arith, a .rows); ticks = omega (arith, a .ticks); clashes = a .clashes }
 
-pub signs-start : (f : ℕ → Answer) (W : ℕ) → signs f 0 W ≡ signs f 0 (W - 0)
-signs-start f W = let e : W ≡ W - 0 = omega arith in ap (signs f 0) e
+pub signs-start : (f : ℕ → Answer) (W : ℕ) → signs f 0 (W - 0) ≡ signs f 0 W
+signs-start f W = let e : W - 0 ≡ W = omega arith in ap (signs f 0) e
 
 module _ (f : ℕ → Answer) (t W : ℕ) where
   pub signs-next : t < W → signs f t (W - t) ≡ signByte (f t) ∷ signs f (t + 1) (W - (t + 1))
@@ -47,7 +46,7 @@ module _ (s ps : List ℕ) (W : ℕ) (f : ℕ → ℕ → Answer) (x : ℕ) wher
   signals-end h = rw (drop-of-length-le ps h)
 
 -- A sign written is the sign of the answer.
-pub signed : {x y b : ℕ} {m m₁ : List ℕ} {r : Next} → x ≡ y → Wrote (x ∷ []) b m m₁ r → Wrote (y ∷ []) b m m₁ r
+pub signed : {x y b : ℕ} {m m₁ : List ℕ} {u : ℕ} → x ≡ y → Wrote (x ∷ []) b m m₁ u → Wrote (y ∷ []) b m m₁ u
 signed e h = like (ap (λ (z : ℕ). z ∷ []) (sym e)) h
 
 -- The sign of a cell is that of the one answer allowed for it.

@@ -1,17 +1,17 @@
-// The marks of signals, one sign a tick. The table has the signals' rows, its words cover the window, and `clash` is told rightly.
+// The marks of signals, one sign a tick. The table has the signals' rows, its words cover the window, `clash` is told rightly, and the places of
+// a text can be counted, whatever the marks are.
 use listing_lines::write_name_line;
 use table::Value;
 use table::value_at;
-use writing::Next;
 use writing::push;
 use writing::push_text;
 ghost use mathlib.Core.Path.{_≡_};
-ghost use Prim.Native.Nat.{ℕ, _+_, _≤_};
+ghost use Prim.Native.Nat.{ℕ, _+_};
 ghost use lib.ListN.{length};
 ghost use Rattle.text.specs.Bytes.{bytes};
 ghost use Rattle.names.specs.Words.{wordAt, namesAt};
 ghost use Rattle.tilco.specs.Table.{Stands, Answer, Asked};
-ghost use Rattle.writing.specs.Writes.{Wrote};
+ghost use Rattle.writing.specs.Writes.{Counted, Wrote};
 ghost use Rattle.listing_lines.specs.LineTexts.{lineText};
 ghost use Rattle.listing_signals.specs.Signals.{Listable, AnswersAt, Answers, signByte, signs, signalText, signalsText};
 
@@ -38,21 +38,18 @@ fn write_signs(
     clash: bool,
     out: &mut [u8],
     used: usize,
-) -> Next
-    requires { ⌜ Listable (signal + 1) window n (now table) clash × (used ≤ length (now out)) ⌝ }
+) -> usize
+    requires { ⌜ Listable (signal + 1) window n (now table) clash × ((f : ℕ → Answer) → Counted used (signs f 0 window)) ⌝ }
     ensures { λ r. ⌜ ((f : ℕ → Answer) → AnswersAt (Stands n (now (table .entry))) signal window f → Wrote (signs f 0 window) used (now (out .entry)) (now (out .exit)) r) ⌝ }
 {
     let mut at = used;
     let mut t = 0;
     while t < window {
         let sign = sign_at(table, n, signal, t, clash);
-        let Next::Place(next) = push(sign, out, at) else {
-            return Next::Full;
-        };
-        at = next;
+        at = push(sign, out, at);
         t += 1;
     }
-    Next::Place(at)
+    at
 }
 
 // The line of a signal's marks.
@@ -64,16 +61,12 @@ fn write_marks_line(
     clash: bool,
     out: &mut [u8],
     used: usize,
-) -> Next
-    requires { ⌜ Listable (signal + 1) window n (now table) clash ⌝ }
+) -> usize
+    requires { ⌜ Listable (signal + 1) window n (now table) clash × ((f : ℕ → Answer) → Counted used (lineText (bytes "marks=") (signs f 0 window))) ⌝ }
     ensures { λ r. ⌜ ((f : ℕ → Answer) → AnswersAt (Stands n (now (table .entry))) signal window f → Wrote (lineText (bytes "marks=") (signs f 0 window)) used (now (out .entry)) (now (out .exit)) r) ⌝ }
 {
-    let Next::Place(value) = push_text(b"marks=", out, used) else {
-        return Next::Full;
-    };
-    let Next::Place(end) = write_signs(table, n, signal, window, clash, out, value) else {
-        return Next::Full;
-    };
+    let value = push_text(b"marks=", out, used);
+    let end = write_signs(table, n, signal, window, clash, out, value);
     push(b'\n', out, end)
 }
 
@@ -88,13 +81,11 @@ fn write_signal(
     clash: bool,
     out: &mut [u8],
     used: usize,
-) -> Next
-    requires { ⌜ Listable (signal + 1) window n (now table) clash ⌝ }
+) -> usize
+    requires { ⌜ Listable (signal + 1) window n (now table) clash × ((f : ℕ → Answer) → Counted used (signalText (wordAt (now s) name) (signs f 0 window))) ⌝ }
     ensures { λ r. ⌜ ((f : ℕ → Answer) → AnswersAt (Stands n (now (table .entry))) signal window f → Wrote (signalText (wordAt (now (s .entry)) name) (signs f 0 window)) used (now (out .entry)) (now (out .exit)) r) ⌝ }
 {
-    let Next::Place(marks) = write_name_line(s, name, out, used) else {
-        return Next::Full;
-    };
+    let marks = write_name_line(s, name, out, used);
     write_marks_line(table, n, signal, window, clash, out, marks)
 }
 
@@ -108,19 +99,16 @@ pub fn write_signals(
     clash: bool,
     out: &mut [u8],
     used: usize,
-) -> Next
-    requires { ⌜ Listable (length (now places)) window n (now table) clash × (used ≤ length (now out)) ⌝ }
+) -> usize
+    requires { ⌜ Listable (length (now places)) window n (now table) clash × ((f : ℕ → ℕ → Answer) → Counted used (signalsText window f 0 (namesAt (now s) (now places)))) ⌝ }
     ensures { λ r. ⌜ ((f : ℕ → ℕ → Answer) → Answers (Stands n (now (table .entry))) (length (now (places .entry))) window f → Wrote (signalsText window f 0 (namesAt (now (s .entry)) (now (places .entry)))) used (now (out .entry)) (now (out .exit)) r) ⌝ }
 {
     let mut at = used;
     let mut x = 0;
     while x < places.len() {
         let name = places[x] as usize;
-        let Next::Place(next) = write_signal(s, name, table, n, x, window, clash, out, at) else {
-            return Next::Full;
-        };
-        at = next;
+        at = write_signal(s, name, table, n, x, window, clash, out, at);
         x += 1;
     }
-    Next::Place(at)
+    at
 }

@@ -1,11 +1,13 @@
--- Two texts that settle may print for one sheet and readings are one.
+-- Two texts that settle may print for one sheet and readings are one, and so are two outcomes of settle for one buffer.
 -- Assumes nothing.
 use mathlib.Core.Path.{_≡_, refl, sym, ap, ap₂, _∙_, subst}
 use mathlib.Core.Bool.{Bool}
 use mathlib.Core.List.{List, [], _∷_, _++_}
 use Prim.Native.Nat.{ℕ, zero, suc, _+_, _<_}
 use native.Mathlib.Omega.{arith}
+use native.Mathlib.Nat.{zero-add}
 use lib.ListN.{length}
+use lib.Seq.{sets}
 use Rattle.names.proofs.Names.{names-many}
 use Rattle.tilco.specs.Lowering.{rowCount}
 use Rattle.tilco.specs.Table.{Standing, factsOf, Answer}
@@ -19,8 +21,9 @@ use Rattle.opening.proofs.Tables.{accepted-one, accepted-refused}
 use Rattle.operations.proofs.Determined.{adds-one}
 use Rattle.listing_signals.specs.Signals.{signByte, signs, signalText, signalsText, Answers}
 use Rattle.listing.specs.Listing.{headText, listingText, refusalText}
-use Rattle.settling.specs.Prints.{Prints}
+use Rattle.settling.specs.Prints.{Prints, PrintedWhole}
 use Rattle.settling.specs.Prints.Prints.{no-sheet, not-added, listed}
+use Rattle.settling.proofs.Printing.{printed-whole}
 
 -- ---- the same answers give the same listing
 
@@ -91,3 +94,13 @@ module _ {s r : List ℕ} where
       ∙ ap (λ (X : List ℕ). listingOf s k X clash g) (o .0)
       ∙ ap (λ (x : Bool). listingOf s k U′ x g) (gain-facts (o .1))
       ∙ ap (λ (z : Contents). listingOf s z U′ clash′ g) i
+
+  -- Two outcomes for one buffer coincide, in the answer and in every byte,
+  pub printed-one : {m m₁ m₂ : List ℕ} {n₁ n₂ : ℕ} → PrintedWhole s r m m₁ n₁ → PrintedWhole s r m m₂ n₂ → (n₁ ≡ n₂) × (m₁ ≡ m₂)
+  printed-one {m} x y =
+      let e = prints-one (x .prints) (y .prints) in
+      (x .long ∙ ap length e ∙ sym (y .long), x .holds ∙ ap (sets m 0) e ∙ sym (y .holds))
+
+  -- and there is one for each buffer where there is a text.
+  pub printed-some : {l : List ℕ} → Prints s r l → (m : List ℕ) → PrintedWhole s r m (sets m 0 l) (length l)
+  printed-some {l} p m = printed-whole p (record { next = sym (zero-add (length l)); holds = refl })

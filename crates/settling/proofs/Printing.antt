@@ -19,8 +19,7 @@ use Rattle.tilco.proofs.Order.{row-count}
 use Rattle.sheet.specs.Sheet.{Contents, meant}
 use Rattle.sheet.proofs.Wholes.{sheet-head}
 use Rattle.sheet_head.proofs.ShortNames.{head-names-short}
-use Rattle.writing.specs.Writes.{Wrote}
-use Rattle.writing.specs.declared.Next.{Next}
+use Rattle.writing.specs.Writes.{Wrote, Counted}
 use Rattle.adding.specs.declared.Adding.{Adding}
 use Rattle.adding.specs.declared.Adding.the-variants as adding
 use Rattle.sheet_opening.specs.Results.{accepted, refused}
@@ -34,9 +33,8 @@ use Rattle.opening.proofs.Tables.{accepted-one, InSheet, in-sheet, one-word}
 use Rattle.operations.proofs.Opened.{fitting}
 use Rattle.listing_signals.specs.Signals.{Listable, Answers}
 use Rattle.listing.specs.Listing.{listingText, refusalText}
-use Rattle.settling.specs.Prints.{Prints, Printed, lengthOf, PrintedWhole, Begun}
+use Rattle.settling.specs.Prints.{Prints, PrintedWhole, Begun}
 use Rattle.settling.specs.Prints.Prints.{no-sheet, not-added, listed}
-use Rattle.writing.proofs.Writing.{fitted, placed}
 use Rattle.listing.proofs.Lengths.{listing-most, refusal-most}
 use Rattle.listing_signals.proofs.Answered.{answers-there}
 
@@ -48,6 +46,25 @@ take-empty (suc n) (suc m) h = ap (λ (l : List ℕ). 0 ∷ l) (take-empty n m (
 
 pub take-empty-length : (n m : ℕ) → n ≤ m → n ≡ length (take n (replicate {A = ℕ} m 0))
 take-empty-length n m h = sym (ap length (take-empty n m h) ∙ length-replicate {A = ℕ} n 0)
+
+-- The listing of a sheet that was opened fits a buffer of 8,192 bytes, whatever its numbers and marks are,
+listing-fits : (s : List ℕ) {k : Contents} → sheetIn s ≡ accepted k → (rows facts : ℕ) (clash : Bool) (f : ℕ → ℕ → Answer) → length (listingText (namesIn s k) (k .window) rows facts clash f) ≤ 8192
+listing-fits s {k} e rows facts clash f =
+    let z = in-sheet s e in
+    let short = head-names-short s (sheet-head s (z .reads) .2) in
+    listing-most (namesIn s k) (k .window) rows facts clash f short (omega (arith, names-many s (k .places), z .sizes .signals-high)) (z .sizes .window-high)
+
+-- and so does whatever is printed.
+pub prints-most : {s r l : List ℕ} → Prints s r l → length l ≤ 8192
+prints-most (no-sheet {n = n} {p} e) = refusal-most n p
+prints-most (not-added {n = n} {p} e a) = refusal-most n p
+prints-most {s} (listed {k = k} {U} {clash = clash} {f} e a q) = listing-fits s e (rowCount (meant k)) (factsOf (meant k) U) clash f
+
+-- So what is written of such a text, its length too, is what settle promises.
+pub printed-whole : {s r l m m′ : List ℕ} {n : ℕ} → Prints s r l → Wrote l 0 m m′ n → PrintedWhole s r m m′ n
+printed-whole {l = l} {n = n} p w =
+    let k : n ≡ length l = w .next ∙ zero-add (length l) in
+    record { text = l; prints = p; long = k; most = omega (arith, k, prints-most p); holds = w .holds }
 
 -- What an accepted add says of the table that it makes of an empty one.
 pub record Made (k : Contents) (U : List ℕ) (new : ℕ) (clash : Bool) : Type 0 where
@@ -83,9 +100,13 @@ module _ {s places : List ℕ} {w count : ℕ} {T : List ℕ} (b : Begun s place
   pub window-most : w ≤ 4096
   window-most = omega (arith, b .window-is, known .sizes .window-high)
 
+  -- The places of the listing can be counted.
+  pub listing-counted : (rows facts : ℕ) (clash : Bool) (f : ℕ → ℕ → Answer) → Counted 0 (listingText (namesAt s places) w rows facts clash f)
+  listing-counted rows facts clash f = rw (b .names-are, b .window-is) (record { below = omega (arith, listing-fits s (b .holds) rows facts clash f) })
+
   -- The refusal of the readings is printed.
-  pub prints-refusal : {r U m m′ : List ℕ} {v : Next} {n p : ℕ} → Adds s r T U (refused n p) → Wrote (refusalText n p) 0 m m′ v → Printed s r m m′ v
-  prints-refusal {r} {U} {n = n} {p} a x = (refusalText n p, not-added (b .holds) (subst (λ (t : List ℕ). Adds s r t U (refused n p)) (b .table-is) a), x)
+  pub prints-refusal : {r U m m′ : List ℕ} {v n p : ℕ} → Adds s r T U (refused n p) → Wrote (refusalText n p) 0 m m′ v → PrintedWhole s r m m′ v
+  prints-refusal {r} {U} {n = n} {p} a x = printed-whole (not-added (b .holds) (subst (λ (t : List ℕ). Adds s r t U (refused n p)) (b .table-is) a)) x
 
   module _ {r U : List ℕ} {new : ℕ} {clash : Bool} (a : Adds s r T U (accepted (gain new clash))) (n : ℕ) (e : n ≡ words w) where
     of-empty : Adds s r (blank k) U (accepted (gain new clash))
@@ -123,12 +144,12 @@ module _ {s places : List ℕ} {w count : ℕ} {T : List ℕ} (b : Begun s place
         (subst (λ (i : ℕ). Answers (Stands i U) (length places) w answers) same-words answers-are))
 
     -- The listing is printed.
-    pub prints-listing : {m m′ : List ℕ} {v : Next}
-        → ((f : ℕ → ℕ → Answer) → Answers (Stands n U) (length places) w f → Wrote (listingText (namesAt s places) w count new clash f) 0 m m′ v) → Printed s r m m′ v
+    pub prints-listing : {m m′ : List ℕ} {v : ℕ}
+        → ((f : ℕ → ℕ → Answer) → Answers (Stands n U) (length places) w f → Wrote (listingText (namesAt s places) w count new clash f) 0 m m′ v) → PrintedWhole s r m m′ v
     prints-listing {m} {m′} {v} x =
         let text = listingText (namesIn s k) (k .window) (rowCount (meant k)) (factsOf (meant k) U) clash answers in
         let y : Wrote text 0 m m′ v = subst (λ (l : List ℕ). Wrote l 0 m m′ v) same (x answers answers-are) in
-        (text, listed (b .holds) of-empty answers-in, y)
+        printed-whole (listed (b .holds) of-empty answers-in) y
       where
         same : listingText (namesAt s places) w count new clash answers ≡ listingText (namesIn s k) (k .window) (rowCount (meant k)) (factsOf (meant k) U) clash answers
         same =
@@ -157,21 +178,5 @@ module _ {s places B tops : List ℕ} {w t count : ℕ} (y : Ready s places B to
     table-is = f ∙ ap₂ (λ (i m : ℕ). empty (2 * i * m)) (y .rows) (e ∙ ap words (y .window-is));
   }
 
-pub prints-no-sheet : {s r m m′ : List ℕ} {v : Next} {n p : ℕ} → sheetIn s ≡ refused n p → Wrote (refusalText n p) 0 m m′ v → Printed s r m m′ v
-prints-no-sheet {n = n} {p} e x = (refusalText n p, no-sheet e, x)
-
--- Whatever is printed fits a buffer of 8,192 bytes.
-pub prints-most : {s r l : List ℕ} → Prints s r l → length l ≤ 8192
-prints-most (no-sheet {n = n} {p} e) = refusal-most n p
-prints-most (not-added {n = n} {p} e a) = refusal-most n p
-prints-most {s} (listed {k = k} {U} {clash = clash} {f} e a q) =
-    let z = in-sheet s e in
-    let h = sheet-head s (z .reads) in
-    listing-most (namesIn s k) (k .window) (rowCount (meant k)) (factsOf (meant k) U) clash f (head-names-short s (h .2)) (omega (arith, names-many s (k .places), z .sizes .signals-high)) (z .sizes .window-high)
-
--- So the length that is answered is the text's.
-pub printed-whole : {s r m m′ : List ℕ} {v : Next} {n : ℕ} → 8192 ≤ length m → n ≡ lengthOf v → Printed s r m m′ v → PrintedWhole s r m m′ n
-printed-whole {n = n} room e p =
-    let i = placed (p .2) (omega (arith, prints-most (p .1))) in
-    let k : n ≡ length (p .0) = e ∙ ap lengthOf i ∙ zero-add (length (p .0)) in
-    (p .0, p .1, k, omega (arith, k, prints-most (p .1)), fitted (p .2) i .holds)
+pub prints-no-sheet : {s r m m′ : List ℕ} {v n p : ℕ} → sheetIn s ≡ refused n p → Wrote (refusalText n p) 0 m m′ v → PrintedWhole s r m m′ v
+prints-no-sheet e x = printed-whole (no-sheet e) x

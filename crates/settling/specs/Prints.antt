@@ -9,9 +9,6 @@ use lib.Seq.{sets}
 use Rattle.tilco.specs.Lowering.{rowCount}
 use Rattle.tilco.specs.Table.{Standing, factsOf, Answer}
 use Rattle.sheet.specs.Sheet.{Contents, meant}
-use Rattle.writing.specs.Writes.{Wrote}
-use Rattle.writing.specs.declared.Next.{Next}
-use Rattle.writing.specs.declared.Next.the-variants.{Place, Full}
 use Rattle.sheet_opening.specs.Results.{accepted, refused}
 use Rattle.operations.specs.Results.{gain}
 use Rattle.sheet_opening.specs.SheetIn.{sheetIn, namesIn, blank}
@@ -27,18 +24,13 @@ pub data Prints (s r : List ℕ) : List ℕ → Type 0 where
       → Answers (Standing (meant k) U) (length (k .places)) (k .window) f
       → Prints s r (listingText (namesIn s k) (k .window) (rowCount (meant k)) (factsOf (meant k) U) clash f)
 
--- Such a text is written from the buffer's first place on.
-abbrev pub Printed : List ℕ → List ℕ → List ℕ → List ℕ → Next → Type 0
-Printed s r m m′ v = (l : List ℕ) × Prints s r l × Wrote l 0 m m′ v
-
--- How far a writer from the first place on came.
-abbrev pub lengthOf : Next → ℕ
-lengthOf (Place n) = n
-lengthOf Full = 0
-
--- The text stands at the buffer's start, its length is answered, and nothing else has changed.
-abbrev pub PrintedWhole : List ℕ → List ℕ → List ℕ → List ℕ → ℕ → Type 0
-PrintedWhole s r m m′ n = (l : List ℕ) × Prints s r l × (n ≡ length l) × (n ≤ length m) × (m′ ≡ sets m 0 l)
+-- Such a text is written from the buffer's first place on as far as there is room; its length, at most 8,192, is answered.
+pub record PrintedWhole (s r m m′ : List ℕ) (n : ℕ) : Type 0 where
+  pub text : List ℕ
+  pub prints : Prints s r text
+  pub long : n ≡ length text
+  pub most : n ≤ 8192
+  pub holds : m′ ≡ sets m 0 text
 
 -- The sheet was opened, and T is its empty table.
 pub record Begun (s places : List ℕ) (w count : ℕ) (T : List ℕ) : Type 0 where

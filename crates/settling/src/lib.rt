@@ -6,11 +6,7 @@ use listing::whole::write_refusal;
 use sheet_opening::Opening;
 use sheet_opening::open_sheet;
 use table::words_of;
-use writing::Next;
-ghost use mathlib.Core.Path.{_≡_};
-ghost use Prim.Native.Nat.{_≤_};
-ghost use lib.ListN.{length};
-ghost use Rattle.settling.specs.Prints.{lengthOf, Begun, Printed, PrintedWhole};
+ghost use Rattle.settling.specs.Prints.{Begun, PrintedWhole};
 
 // Adds the readings to the sheet's empty table, and writes the listing.
 fn settle_table(
@@ -21,9 +17,9 @@ fn settle_table(
     readings: &[u8],
     table: &mut [u64],
     out: &mut [u8],
-) -> Next
+) -> usize
     requires { ⌜ Begun (now s) (now places) window count (now table) ⌝ }
-    ensures { λ v. ⌜ Printed (now (s .entry)) (now (readings .entry)) (now (out .entry)) (now (out .exit)) v ⌝ }
+    ensures { λ n. ⌜ PrintedWhole (now (s .entry)) (now (readings .entry)) (now (out .entry)) (now (out .exit)) n ⌝ }
 {
     let a = add(s, readings, table);
     match a {
@@ -35,9 +31,9 @@ fn settle_table(
     }
 }
 
-// Settles the readings against the sheet, and writes the listing from the buffer's first place on.
-fn settle_into(s: &[u8], readings: &[u8], out: &mut [u8]) -> Next
-    ensures { λ v. ⌜ Printed (now (s .entry)) (now (readings .entry)) (now (out .entry)) (now (out .exit)) v ⌝ }
+// What settle prints for a sheet and readings, written from the buffer's first place on as far as there is room; its length is answered.
+pub fn settle(s: &[u8], readings: &[u8], out: &mut [u8]) -> usize
+    ensures { λ n. ⌜ PrintedWhole (now (s .entry)) (now (readings .entry)) (now (out .entry)) (now (out .exit)) n ⌝ }
 {
     let mut places = [0u64; 64];
     let mut rows = [8u64; 1024];
@@ -64,23 +60,4 @@ fn settle_into(s: &[u8], readings: &[u8], out: &mut [u8]) -> Next
         }
         Opening::Refused(k, p) => write_refusal(k, p, out),
     }
-}
-
-// The listing's length, or 0 if there was no room.
-fn length_of(v: Next) -> usize
-    ensures { λ n. ⌜ n ≡ lengthOf v ⌝ }
-{
-    match v {
-        Next::Place(n) => n,
-        Next::Full => 0,
-    }
-}
-
-// What settle prints for a sheet and readings: it stands at the buffer's start, and its length is answered.
-pub fn settle(s: &[u8], readings: &[u8], out: &mut [u8]) -> usize
-    requires { ⌜ 8192 ≤ length (now out) ⌝ }
-    ensures { λ n. ⌜ PrintedWhole (now (s .entry)) (now (readings .entry)) (now (out .entry)) (now (out .exit)) n ⌝ }
-{
-    let v = settle_into(s, readings, out);
-    length_of(v)
 }

@@ -44,6 +44,10 @@ unfolding decimalText
 decimal-more n h l =
     digits-then 19 n h ∙ ap (λ (d : List ℕ). d ++ ((byte "0" + n % 10) ∷ [])) (digits-enough 18 (n / 10) (omega arith))
 
+-- So it has one digit more than its tenth.
+pub decimal-longer : (n : ℕ) → 10 ≤ n → n < 2 ^ 64 → length (decimalText n) ≡ length (decimalText (n / 10)) + 1
+decimal-longer n h l = ap length (decimal-more n h l) ∙ length-append (decimalText (n / 10)) ((byte "0" + n % 10) ∷ [])
+
 digits-most : (k j n : ℕ) → n < 10 ^ suc j → length (lastDigits k n) ≤ suc j
 unfolding lastDigits
 digits-most zero j n h = omega arith

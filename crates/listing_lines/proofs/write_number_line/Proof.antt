@@ -1,66 +1,28 @@
 -- `write_number_line` meets its contract. Assumes nothing.
 use borrow.Author.Needs.{needs}
 use Rattle.listing_lines.specs.LineTexts.{lineText}
-use Rattle.writing.proofs.Writing.{and-then, no-room}
+use Rattle.writing.proofs.Writing.{and-then, counted-first, counted-rest}
 use Rattle.listing_lines.proofs.write_number_line.Statement.{statement}
 use Rattle.listing_lines.proofs.write_number_line.Tie as tie
 
 push-text-requires : tie.Need-push-text-requires
-push-text-requires c κs = search needs
+unfolding lineText
+push-text-requires c κs = counted-first _ (c .before .before .before .pre)
 
-enum-known-value : tie.Need-enum-known-value
-enum-known-value c = search needs
+decimal-requires : tie.Need-decimal-requires
+unfolding lineText
+decimal-requires c κs = counted-first _ (counted-rest (c .before .before .before .before .before .before .before .pre) (c .before .before .before .push-text .ensures))
 
-enum-told : tie.Need-enum-told
-enum-told c = search needs
+push-requires : tie.Need-push-requires
+unfolding lineText
+push-requires c κs = counted-rest (counted-rest (c .before .before .before .before .before .before .before .before .before .before .before .pre) (c .before .before .before .before .before .before .before .push-text .ensures)) (c .before .before .before .decimal .ensures)
 
 same-length : tie.Need-same-length
 same-length c = search needs
 
 returns : tie.Need-returns
 unfolding lineText
-returns c = no-room _ (c .before .before .before .before .push-text .ensures) (c .enum-told .given .1)
-
-decimal-requires : tie.Need-decimal-requires
-decimal-requires c κs = search needs
-
-enum-known-end : tie.Need-enum-known-end
-enum-known-end c = search needs
-
-enum-told-2 : tie.Need-enum-told-2
-enum-told-2 c = search needs
-
-same-length-2 : tie.Need-same-length-2
-same-length-2 c = search needs
-
-returns-2 : tie.Need-returns-2
-unfolding lineText
-returns-2 c = and-then (c .before .before .before .before .before .before .before .before .before .before .before .push-text .ensures) (c .before .before .before .before .before .before .before .value .given .1) (no-room _ (c .before .before .before .before .decimal .ensures) (c .enum-told2 .given .1))
-
-push-requires : tie.Need-push-requires
-push-requires c κs = search needs
-
-same-length-3 : tie.Need-same-length-3
-same-length-3 c = search needs
-
-returns-3 : tie.Need-returns-3
-unfolding lineText
-returns-3 c = and-then (c .before .before .before .before .before .before .before .before .before .before .before .before .before .before .before .before .push-text .ensures) (c .before .before .before .before .before .before .before .before .before .before .before .before .value .given .1) (and-then (c .before .before .before .before .before .before .before .before .before .decimal .ensures) (c .before .before .before .before .before .end .given .1) (c .before .before .push .ensures))
+returns c = and-then (c .before .before .before .before .before .before .before .before .before .before .push-text .ensures) (and-then (c .before .before .before .before .before .before .decimal .ensures) (c .before .before .push .ensures))
 
 pub write-number-line-spec : {M : Type 1} → statement M
-write-number-line-spec =
-    tie.close
-    (tie.spec
-    push-text-requires
-    enum-known-value
-    enum-told
-    same-length
-    returns
-    decimal-requires
-    enum-known-end
-    enum-told-2
-    same-length-2
-    returns-2
-    push-requires
-    same-length-3
-    returns-3)
+write-number-line-spec = tie.close (tie.spec push-text-requires decimal-requires push-requires same-length returns)

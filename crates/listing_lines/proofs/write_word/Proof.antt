@@ -5,7 +5,7 @@ use mathlib.Core.Path.{sym}
 use denote.Ref.{now}
 use Rattle.text.specs.Bytes.{nameByte}
 use Rattle.text.proofs.Runs.{end-reach, run-slice, run-past}
-use Rattle.writing.proofs.Writing.{like}
+use Rattle.writing.proofs.Writing.{nothing, like, counted-like}
 use Rattle.listing_lines.proofs.write_word.Statement.{statement}
 use Rattle.listing_lines.proofs.write_word.Tie as tie
 
@@ -22,13 +22,7 @@ part-push-text-end : tie.Need-part-push-text-end
 part-push-text-end c = let w = end-reach nameByte (now (c .before .before .before .before .args .s)) (c .before .before .before .before .args .at) (omega arith) in omega (arith, w .ahead, w .inside, c .word-end .ensures)
 
 push-text-requires : tie.Need-push-text-requires
-push-text-requires c κs = search needs
-
-slice-aggregate-push-text : tie.Need-slice-aggregate-push-text
-slice-aggregate-push-text c = search needs
-
-push-text-requires-2 : tie.Need-push-text-requires-2
-push-text-requires-2 c κs = search needs
+push-text-requires c κs = counted-like (c .before .before .before .before .before .before .pre) (sym (run-slice nameByte _ _ _ (c .before .before .word-end .ensures)))
 
 same-length : tie.Need-same-length
 same-length c = search needs
@@ -36,11 +30,8 @@ same-length c = search needs
 returns : tie.Need-returns
 returns c = like (sym (run-slice nameByte _ _ _ (c .before .before .before .before .before .word-end .ensures))) (c .before .before .push-text .ensures)
 
-same-length-2 : tie.Need-same-length-2
-same-length-2 c = search needs
-
 returns-2 : tie.Need-returns-2
-returns-2 c = like (run-past nameByte _ _ (c .before .before .before .before .before .if1 .left)) (c .before .before .push-text2 .ensures)
+returns-2 c = like (run-past nameByte _ _ (c .if1 .left)) nothing
 
 pub write-word-spec : {M : Type 1} → statement M
 write-word-spec =
@@ -51,9 +42,6 @@ write-word-spec =
     part-push-text-start
     part-push-text-end
     push-text-requires
-    slice-aggregate-push-text
-    push-text-requires-2
     same-length
     returns
-    same-length-2
     returns-2)

@@ -45,7 +45,7 @@ array-share-prefix-out : tie.Need-array-share-prefix-out
 array-share-prefix-out c = search needs
 
 slice-aggregate-write-all : tie.Need-slice-aggregate-write-all
-slice-aggregate-write-all c = simp length-take (omega (arith, c .before .before .settle .ensures .3))
+slice-aggregate-write-all c = simp length-take (omega (arith, c .before .before .settle .ensures .most))
 
 write-all-requires : tie.Need-write-all-requires
 write-all-requires c κs = search needs

@@ -1,5 +1,5 @@
 -- `settle_table` meets its contract. Assumes nothing.
-use Rattle.settling.proofs.Printing.{as-added, as-refused, window-most, prints-refusal, listable, prints-listing}
+use Rattle.settling.proofs.Printing.{as-added, as-refused, window-most, prints-refusal, listable, listing-counted, prints-listing}
 use borrow.Author.Needs.{needs}
 use Rattle.settling.proofs.settle_table.Statement.{statement}
 use Rattle.settling.proofs.settle_table.Tie as tie
@@ -14,7 +14,7 @@ words-of-requires : tie.Need-words-of-requires
 words-of-requires c κs = window-most (c .before .before .before .before .before .before .before .before .before .before .before .before .pre)
 
 write-listing-requires : tie.Need-write-listing-requires
-write-listing-requires c κs = listable (c .before .before .before .before .before .before .before .before .before .before .before .before .before .before .before .pre) (as-added (c .before .before .before .before .before .before .before .before .add .ensures) (c .before .before .before .before .a .given .1)) _ (c .before .before .words-of .ensures)
+write-listing-requires c κs = (listable (c .before .before .before .before .before .before .before .before .before .before .before .before .before .before .before .pre) (as-added (c .before .before .before .before .before .before .before .before .add .ensures) (c .before .before .before .before .a .given .1)) _ (c .before .before .words-of .ensures), λ f. listing-counted (c .before .before .before .before .before .before .before .before .before .before .before .before .before .before .before .pre) _ _ _ f)
 
 enum-known-a-2 : tie.Need-enum-known-a-2
 enum-known-a-2 c = search needs

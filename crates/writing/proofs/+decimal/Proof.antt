@@ -4,8 +4,8 @@ use borrow.Author.Needs.{needs}
 use borrow.Fn.Kinds.{In}
 use borrow.Fn.PlainCycle.{Measures, is, falls, and}
 use native.Mathlib.Omega.{arith}
-use Rattle.writing.proofs.Writing.{and-then, no-room, like}
-use Rattle.writing.proofs.Decimals.{decimal-one, decimal-more}
+use Rattle.writing.proofs.Writing.{like, and-then, counted-like, counted-first}
+use Rattle.writing.proofs.Decimals.{decimal-one, decimal-more, decimal-longer}
 use Rattle.writing.proofs.decimal.Reads as decimal
 use Rattle.writing.proofs.decimal.Kinds as decimal-kinds
 use Rattle.writing.proofs.+decimal.Lts-decimal as decimal-lts
@@ -33,37 +33,25 @@ module _ (t : ℕ) where
   decimal-cast-last c = search needs
 
   decimal-push-requires : decimal-lts.Need-push-requires decimal-calls decimal-at decimal.Post
-  decimal-push-requires c κs = search needs
+  decimal-push-requires c κs = counted-like (c .before .before .before .pre .1) (decimal-one _ (omega arith))
 
   decimal-same-length : decimal-lts.Need-same-length decimal-calls decimal-at decimal.Post
   decimal-same-length c = search needs
 
   decimal-returns : decimal-lts.Need-returns decimal-calls decimal-at decimal.Post
-  decimal-returns c = like (decimal-one _ (c .before .before .before .before .if1 .taken)) (c .before .before .push .ensures)
+  decimal-returns c = like (decimal-one _ (omega arith)) (c .before .before .push .ensures)
 
   decimal-decimal-requires : decimal-lts.Need-decimal-requires decimal-calls decimal-at decimal.Post
-  decimal-decimal-requires c κs = search needs
+  decimal-decimal-requires c κs = (omega arith, counted-first _ (counted-like (c .before .before .before .pre .1) (decimal-more _ (omega arith) (omega arith))))
 
-  decimal-enum-known-next : decimal-lts.Need-enum-known-next decimal-calls decimal-at decimal.Post
-  decimal-enum-known-next c = search needs
-
-  decimal-enum-told : decimal-lts.Need-enum-told decimal-calls decimal-at decimal.Post
-  decimal-enum-told c = search needs
+  decimal-push-requires-2 : decimal-lts.Need-push-requires-2 decimal-calls decimal-at decimal.Post
+  decimal-push-requires-2 c κs = record { below = omega (arith, decimal-longer (c .before .before .before .before .before .before .before .args .n) (omega arith) (omega arith), c .before .before .before .before .before .before .before .pre .1 .below, c .before .before .before .decimal .ensures .next) }
 
   decimal-same-length-2 : decimal-lts.Need-same-length-2 decimal-calls decimal-at decimal.Post
   decimal-same-length-2 c = search needs
 
   decimal-returns-2 : decimal-lts.Need-returns-2 decimal-calls decimal-at decimal.Post
-  decimal-returns-2 c = like (decimal-more _ (omega arith) (omega arith)) (no-room _ (c .before .before .before .before .decimal .ensures) (c .enum-told .given .1))
-
-  decimal-push-requires-2 : decimal-lts.Need-push-requires-2 decimal-calls decimal-at decimal.Post
-  decimal-push-requires-2 c κs = search needs
-
-  decimal-same-length-3 : decimal-lts.Need-same-length-3 decimal-calls decimal-at decimal.Post
-  decimal-same-length-3 c = search needs
-
-  decimal-returns-3 : decimal-lts.Need-returns-3 decimal-calls decimal-at decimal.Post
-  decimal-returns-3 c = like (decimal-more _ (omega arith) (omega arith)) (and-then (c .before .before .before .before .before .before .before .before .before .decimal .ensures) (c .before .before .before .before .before .next .given .1) (c .before .before .push2 .ensures))
+  decimal-returns-2 c = like (decimal-more _ (omega arith) (omega arith)) (and-then (c .before .before .before .before .before .before .decimal .ensures) (c .before .before .push2 .ensures))
 
 pub +decimal-spec : {M : Type 1} → statement M
 +decimal-spec =
@@ -79,10 +67,6 @@ pub +decimal-spec : {M : Type 1} → statement M
     (decimal-same-length t)
     (decimal-returns t)
     (decimal-decimal-requires t)
-    (decimal-enum-known-next t)
-    (decimal-enum-told t)
-    (decimal-same-length-2 t)
-    (decimal-returns-2 t)
     (decimal-push-requires-2 t)
-    (decimal-same-length-3 t)
-    (decimal-returns-3 t))
+    (decimal-same-length-2 t)
+    (decimal-returns-2 t))

@@ -1,41 +1,30 @@
--- `push_text` meets its contract. The invariant: the first i bytes of the text stand in the buffer, and nothing else has changed.
--- Assumes nothing.
+-- `push_text` meets its contract. The invariant: the bytes from i on are left to be written. Assumes nothing.
 use borrow.Author.Needs.{needs}
 use native.Mathlib.Omega.{arith}
 use mathlib.Core.Path.{_≡_, refl}
-use Prim.Native.Nat.{_+_, _-_, _≤_}
-use lib.ListN.{length, take}
-use lib.Seq.{sets}
-use Rattle.writing.proofs.Writing.{one-more, too-long, all-stored}
+use Prim.Native.Nat.{_-_}
+use lib.ListN.{length, drop, drop-of-length-le}
+use denote.Ref.{now}
+use Rattle.text.proofs.Places.{drop-in}
+use Rattle.writing.proofs.Writing.{counted-like, counted-first}
+use Rattle.writing.proofs.Leaves.{Leaves, left-all, left-rest, left-none, counted-left}
 use Rattle.writing.proofs.push_text.Statement.{statement}
 use Rattle.writing.proofs.push_text.Tie as tie
 
 abbrev Inv-loop : tie.InvT-loop
-Inv-loop text out₀ used i₀ out i = (i ≤ length text) × (used + length text ≤ length out₀) × (length out ≡ length out₀) × (out ≡ sets out₀ used (take i text))
+Inv-loop text out₀ used at₀ i₀ out at i = (length out ≡ length out₀) × Leaves text used out₀ (drop i text) at out
 
 abbrev μ-loop : tie.MeasureT-loop
-μ-loop text out₀ used i₀ out i = length text - i
-
-returns : tie.Need-returns Inv-loop μ-loop
-returns c = too-long (omega arith)
-
-sub-if2 : tie.Need-sub-if2 Inv-loop μ-loop
-sub-if2 c = search needs
-
-returns-2 : tie.Need-returns-2 Inv-loop μ-loop
-returns-2 c = too-long (omega arith)
+μ-loop text out₀ used at₀ i₀ out at i = length text - i
 
 loop-holds : tie.Need-loop-holds Inv-loop μ-loop
-loop-holds c = (omega arith, omega arith, refl, refl)
+loop-holds c = (refl, left-all refl)
 
-shared-slice-read-out : tie.Need-shared-slice-read-out Inv-loop μ-loop
-shared-slice-read-out c = search needs
+shared-slice-read-push : tie.Need-shared-slice-read-push Inv-loop μ-loop
+shared-slice-read-push c = search needs
 
-add-out : tie.Need-add-out Inv-loop μ-loop
-add-out c = search needs
-
-slice-write-out : tie.Need-slice-write-out Inv-loop μ-loop
-slice-write-out c = search needs
+push-requires : tie.Need-push-requires Inv-loop μ-loop
+push-requires c κs = counted-first _ (counted-like (counted-left (c .before .before .before .before .before .before .pre) (c .before .before .before .loop .inv .1)) (drop-in (now (c .before .before .before .before .before .before .args .text)) (c .before .before .before .loop .i) 0 (omega arith)))
 
 add-i : tie.Need-add-i Inv-loop μ-loop
 add-i c = search needs
@@ -44,16 +33,13 @@ loop-less : tie.Need-loop-less Inv-loop μ-loop
 loop-less c = search needs
 
 loop-again : tie.Need-loop-again Inv-loop μ-loop
-loop-again c = (omega arith, omega arith, search needs, one-more _ _ _ _ (omega arith) (c .before .before .loop .inv .3))
-
-add-next : tie.Need-add-next Inv-loop μ-loop
-add-next c = search needs
+loop-again c = (search needs, left-rest _ (c .before .before .before .before .before .before .loop .inv .1) (c .before .before .push .ensures) (drop-in (now (c .before .before .before .before .before .before .before .before .before .args .text)) (c .before .before .before .before .before .before .loop .i) 0 (omega arith)))
 
 same-length : tie.Need-same-length Inv-loop μ-loop
 same-length c = search needs
 
-returns-3 : tie.Need-returns-3 Inv-loop μ-loop
-returns-3 c = all-stored _ _ _ _ (omega arith) (omega arith) (c .before .loop .inv .3)
+returns : tie.Need-returns Inv-loop μ-loop
+returns c = left-none (c .before .loop .inv .1) (drop-of-length-le (now (c .before .before .before .before .args .text)) {i = c .before .loop .i} (omega arith))
 
 pub push-text-spec : {M : Type 1} → statement M
 push-text-spec =
@@ -61,16 +47,11 @@ push-text-spec =
     (tie.spec
     Inv-loop
     μ-loop
-    returns
-    sub-if2
-    returns-2
     loop-holds
-    shared-slice-read-out
-    add-out
-    slice-write-out
+    shared-slice-read-push
+    push-requires
     add-i
     loop-less
     loop-again
-    add-next
     same-length
-    returns-3)
+    returns)
