@@ -12,18 +12,21 @@ use Rattle.text.specs.Read.{Read}
 use Rattle.text.specs.Read.Read.{got, refused as unread}
 use Rattle.text.proofs.Answers.{not-both}
 use Rattle.ticks.specs.Ticks.{Small}
+use Rattle.ticks.proofs.Tables.{empty-small}
 use Rattle.tilco.specs.Inference.{Mark, mark, Clash}
 use Rattle.tilco.specs.Table.{words, Stands, Standing, tableWords, factsOf, Answer, Unsettled, True, False, Contradiction, Asked, clashes, holds, fails, neither}
 use Rattle.sheet.specs.Sheet.{Contents, meant}
 use Rattle.readings.specs.Readings.{readings}
 use Rattle.sheet_opening.specs.Results.{Result, accepted, refused}
 use Rattle.operations.specs.Results.{Gain, gain}
-use Rattle.sheet_opening.specs.SheetIn.{sheetIn, namesIn}
+use Rattle.sheet_opening.specs.SheetIn.{sheetIn, namesIn, blank}
 use Rattle.opening.specs.Opening.{Opens}
 use Rattle.opening.specs.Opening.Opens.{both, not-the-sheet, not-the-length, not-inside}
 use Rattle.operations.specs.Operations.{counted, Adds, Asks}
 use Rattle.operations.specs.Operations.Adds.{not-opened, not-read, added}
 use Rattle.operations.specs.Operations.Asks.{not-opened as not-asked, out-of-range, asked}
+use Rattle.settling.specs.Prints.{Prints}
+use Rattle.settling.specs.Prints.Prints.{no-sheet, not-added, listed}
 use Rattle.demands.specs.Refusals.{SheetAccepted, TakenUp, ReadingsAccepted, SheetRefused}
 use Rattle.demands.specs.Cuts.{Given, RunCalls}
 use Rattle.demands.specs.Cuts.RunCalls.{done, call}
@@ -131,3 +134,17 @@ module _ (s T : List ℕ) (x t : ℕ) where
       go : (R : Result Contents) → Opens s T R → (a : Result Answer) × Asks s T x t a
       go (accepted k) o = in-range o (decLt x (length (k .places))) (decLt t (k .window))
       go (refused n p) o = (refused n p, not-asked o)
+
+-- ---- settle
+
+-- For every sheet and readings there is a text that settle prints.
+pub prints-some : (s r : List ℕ) → (l : List ℕ) × Prints s r l
+prints-some s r = go (sheetIn s) refl
+  where
+    of-answer : {k : Contents} {U : List ℕ} → sheetIn s ≡ accepted k → (a : Result Gain) → Adds s r (blank k) U a → (l : List ℕ) × Prints s r l
+    of-answer {k} {U} e (accepted (gain new clash)) x = (_, listed {f = λ y t. asked-some s U y t (words (k .window)) .0} e x (λ y h t i. asked-some s U y t (words (k .window)) .1))
+    of-answer e (refused n p) x = (_, not-added e x)
+
+    go : (R : Result Contents) → sheetIn s ≡ R → (l : List ℕ) × Prints s r l
+    go (accepted k) e = let x = add-some s r (blank k) (empty-small 64 (tableWords (meant k))) in of-answer e (x .1) (x .2)
+    go (refused n p) e = (_, no-sheet e)

@@ -24,6 +24,7 @@ use Rattle.operations.specs.Results.{Gain, gain}
 use Rattle.operations.specs.Operations.{checked, Adds, Asks}
 use Rattle.operations.specs.Operations.Adds.{added}
 use Rattle.settling.specs.Prints.{Prints}
+use Rattle.settling.proofs.OneListing.{prints-one}
 use Rattle.demands.specs.Refusals.{SheetAccepted, TakenUp, ReadingsAccepted, SheetRefused, AddRefused, AskRefused, Unchanged}
 use Rattle.demands.specs.Runs.{FromBlank, newIn, valued, AgreesWith}
 use Rattle.demands.specs.Cuts.{CutInto, Given, RunCalls, InCalls}
@@ -31,7 +32,7 @@ use Rattle.demands.specs.Shuffles.{Parted, InParts, SaidAlike}
 use Rattle.demands.specs.Listings.{lineOf, signAt, shown}
 use Rattle.operations.proofs.Determined.{adds-one, asks-one}
 use Rattle.demands.proofs.Refusals.{sheet-in, in-sheet-text, readings-in, taken-up, check-accepts, check-refusals, add-refusals, ask-accepts, ask-refusals}
-use Rattle.demands.proofs.Answered.{check-some, add-some, add-accepts, ask-some, calls-some}
+use Rattle.demands.proofs.Answered.{check-some, add-some, add-accepts, ask-some, calls-some, prints-some}
 use Rattle.demands.proofs.Cuts.{part-accepted, parts-as-one, parts-add-up}
 use Rattle.demands.proofs.Histories.{value-holds, no-contradiction, no-clash-told}
 use Rattle.demands.proofs.Parting.{in-parts}
@@ -49,6 +50,8 @@ pub record Demand1 : Type 0 where
   pub add-no-other : (s r T U U′ : List ℕ) (a a′ : Result Gain) → Adds s r T U a → Adds s r T U′ a′ → (U ≡ U′) × (a ≡ a′)
   pub ask-answers : (s T : List ℕ) (x t : ℕ) → (a : Result Answer) × Asks s T x t a
   pub ask-no-other : (s T : List ℕ) (x t : ℕ) (a a′ : Result Answer) → Asks s T x t a → Asks s T x t a′ → a ≡ a′
+  pub settle-answers : (s r : List ℕ) → (l : List ℕ) × Prints s r l
+  pub settle-no-other : (s r l l′ : List ℕ) → Prints s r l → Prints s r l′ → l ≡ l′
   -- "A refusal comes exactly in its listed case, gives its number and place, adds no facts and changes no mark in the table."
   pub check-refuses : (s : List ℕ) (n p : ℕ) → checked s ≡ refused n p ↔ SheetRefused s n p
   pub add-refuses : (s r T U : List ℕ) (n p : ℕ) → Adds s r T U (refused n p) ↔ (AddRefused s r T n p × Unchanged T U)
@@ -64,6 +67,8 @@ demand-1 = record {
   add-no-other = λ s r T U U′ a a′ x y. adds-one x y;
   ask-answers = ask-some;
   ask-no-other = λ s T x t a a′ y z. asks-one y z;
+  settle-answers = prints-some;
+  settle-no-other = λ s r l l′ x y. prints-one x y;
   check-refuses = λ s n p. check-refusals s;
   add-refuses = λ s r T U n p. add-refusals;
   ask-refuses = λ s T x t n p. ask-refusals;
