@@ -67,8 +67,9 @@ enum {
 /* Checks a sheet: writes how many rows it has. Refusals 1 to 9. */
 uint64_t mikhakun_check(const uint8_t *sheet, size_t sheet_len, uint64_t *rows, uint64_t *place);
 
-/* Adds readings to the table and closes it: it then has exactly what follows from the sheet, the readings and what it held. Writes how many
- * facts (marks of declared signals) are new, and 1 for a clash, 0 for none. Refusals 1 to 9, 15, 16, 10 to 14, in this order. */
+/* Adds readings to the table and closes it: it then has exactly what the published inference rules lead to from the sheet, the readings and
+ * what it held. Writes how many facts (marks of declared signals) are new, and 1 for a clash, 0 for none. Refusals 1 to 9, 15, 16, 10 to 14, in
+ * this order. */
 uint64_t mikhakun_add(const uint8_t *sheet, size_t sheet_len, const uint8_t *readings, size_t readings_len,
                       uint64_t *table, size_t words, uint64_t *new_facts, uint64_t *clash, uint64_t *place);
 

@@ -1,8 +1,8 @@
-//! Settles what follows from a sheet of timed rules and readings.
+//! Settles what the published inference rules lead to from a sheet of timed rules and readings.
 //!
-//! A sheet says what must be true of its signals, tick by tick. Given readings, [`add`] settles which signals must be true or false, at which
-//! ticks of the window, in every history that obeys the sheet. These are safe functions over the proved reader, a static library: its three
-//! operations each take the sheet's text, and keep nothing between calls but the [`Table`] that they are lent.
+//! A sheet says what must be true of its signals, tick by tick. Given readings, [`add`] settles signals as true or false at ticks of the
+//! window; each value holds in every history that obeys the sheet and agrees with the readings. These are safe functions over the proved
+//! reader, a static library: its three operations each take the sheet's text, and keep nothing between calls but the [`Table`] that they are lent.
 //!
 //! ```
 //! use mikhakun::{add, ask, check, Table, Value};
