@@ -7,12 +7,12 @@ use Prim.Native.Nat.{ℕ, zero, suc, _<_}
 use native.Mathlib.Omega.{arith}
 use lib.ListN.{length, take, drop, length-append}
 use Rattle.text.specs.Read.{Read}
-use Rattle.text.specs.Read.Read.{got, refused as unread}
+use Rattle.text.specs.Read.Read.{got}
 use Rattle.text.proofs.Answers.{not-both}
 use Rattle.tilco.specs.Lists.{total}
 use Rattle.tilco.specs.Inference.{Mark}
 use Rattle.tilco.specs.Table.{factsOf, Taken}
-use Rattle.tilco.specs.Calls.{Call, Some}
+use Rattle.tilco.specs.Calls.{Some}
 use Rattle.sheet.specs.Sheet.{Contents, meant}
 use Rattle.readings.specs.Readings.{readings}
 use Rattle.readings.proofs.Cuts.{AllAccepted, parts-accepted}

@@ -26,13 +26,14 @@ use Rattle.operations.specs.Operations.Adds.{added}
 use Rattle.settling.specs.Prints.{Prints}
 use Rattle.settling.proofs.OneListing.{prints-one}
 use Rattle.demands.specs.Refusals.{SheetAccepted, TakenUp, ReadingsAccepted, SheetRefused, AddRefused, AskRefused, Unchanged}
-use Rattle.demands.specs.Runs.{FromBlank, newIn, valued, AgreesWith}
+use Rattle.demands.specs.Runs.{FromBlank, newIn, valued, ReadIn, AgreesWith}
 use Rattle.demands.specs.Cuts.{CutInto, Given, RunCalls, InCalls}
 use Rattle.demands.specs.Shuffles.{Parted, InParts, SaidAlike}
 use Rattle.demands.specs.Listings.{lineOf, signAt, shown}
 use Rattle.operations.proofs.Determined.{adds-one, asks-one}
 use Rattle.demands.proofs.Refusals.{sheet-in, in-sheet-text, readings-in, taken-up, check-accepts, check-refusals, add-refusals, ask-accepts, ask-refusals}
 use Rattle.demands.proofs.Answered.{check-some, add-some, add-accepts, ask-some, calls-some, prints-some}
+use Rattle.demands.proofs.LastTable.{last-exactly}
 use Rattle.demands.proofs.Cuts.{part-accepted, parts-as-one, parts-add-up}
 use Rattle.demands.proofs.Histories.{value-holds, no-contradiction, no-clash-told}
 use Rattle.demands.proofs.Parting.{in-parts}
@@ -99,6 +100,9 @@ pub record Demand2 : Type 0 where
   -- "After an accepted call that adds readings, a mark stands in the table exactly if a finite chain of the published inference rules leads to it
   -- from the sheet, the readings and the marks already there."
   pub after-add : {s r T U : List ℕ} {g : Gain} → Adds s r T U (accepted g) → Led s r T U
+  -- After calls on the empty table, one of which at least is accepted, from the sheet and all the readings.
+  pub after-calls : {s : List ℕ} {k : Contents} {rs : List (List ℕ)} {U : List ℕ} {answers : List (Result Gain)} {r : List ℕ} {ms : List Mark} → FromBlank s k rs U answers
+      → List·Memᴰ r rs → ReadingsAccepted s k r ms → (m : Mark) → Standing (meant k) U m ↔ Leads (meant k) (ReadIn s k rs) m
   -- "A question is answered from the marks."
   pub answered : (s T : List ℕ) (x t : ℕ) (a : Answer)
       → Asks s T x t (accepted a) ↔ ((k : Contents) × TakenUp s T k × (x < length (k .places)) × (t < k .window) × Asked (Standing (meant k) T) x t a)
@@ -107,6 +111,7 @@ pub demand-2 : Demand2
 demand-2 = record {
   rules-mean = record { always = always-means; sometime = sometime-means; since = since-means; until = until-means };
   after-add = led;
+  after-calls = λ x i y. last-exactly x i y;
   answered = λ s T x t a. ask-accepts;
 }
   where

@@ -1,19 +1,22 @@
 -- The last table of calls of add from the table without a mark: which calls end in one table, and that the new facts reported add up.
 -- Assumes nothing. s is the sheet's text and k its contents.
-use mathlib.Core.Path.{_≡_, sym, _∙_, subst}
-use mathlib.Core.List.{List, flatten, List·Memᴰ}
-use mathlib.Core.Logic.{_↔_, ⊎-elim}
+use mathlib.Core.Path.{_≡_, sym, _∙_}
+use mathlib.Core.List.{List, List·Memᴰ}
+use mathlib.Core.Logic.{_↔_}
 use Prim.Native.Nat.{ℕ}
 use Rattle.tilco.specs.Lists.{total}
 use Rattle.tilco.specs.Inference.{Mark}
 use Rattle.tilco.specs.Table.{Standing, tableWords, factsOf, Taken, Leads}
 use Rattle.tilco.specs.Calls.{Some}
+use Rattle.tilco.proofs.Derives.{monotone}
 use Rattle.tilco.proofs.Demand3.{table-only, table-every, reports-add-up, cuts-change-nothing}
 use Rattle.sheet.specs.Sheet.{Contents, meant}
 use Rattle.sheet_opening.specs.Results.{Result}
 use Rattle.operations.specs.Results.{Gain}
-use Rattle.demands.specs.Runs.{FromBlank, newIn}
+use Rattle.demands.specs.Refusals.{ReadingsAccepted}
+use Rattle.demands.specs.Runs.{FromBlank, newIn, ReadIn}
 use Rattle.demands.proofs.Refusals.{in-sheet-text}
+use Rattle.demands.proofs.Texts.{marks-read, read-marks, read-some}
 use Rattle.demands.proofs.Runs.{AsCalls, as-calls, calls, marksIn, window-some, blank-opens}
 use Rattle.sheet_opening.specs.SheetIn.{blank}
 
@@ -22,9 +25,12 @@ pub as-run : {s : List ℕ} {k : Contents} {rs : List (List ℕ)} {U : List ℕ}
 as-run {s} {k} x = let e = in-sheet-text s (x .sheet) in as-calls s k e (blank-opens s k e) (x .run)
 
 module _ {s : List ℕ} {k : Contents} {rs : List (List ℕ)} {U : List ℕ} {answers : List (Result Gain)} (x : FromBlank s k rs U answers) where
-  -- The table has exactly what the rules lead to from the readings.
-  pub last-exactly : Some (calls s k rs) → (m : Mark) → Standing (meant k) U m ↔ Leads (meant k) (Taken (marksIn s k rs)) m
-  last-exactly c m = (table-only (meant k) (tableWords (meant k)) (as-run x .run) m, table-every (meant k) (tableWords (meant k)) (as-run x .run) c m)
+  -- Where one of the texts is accepted, the table has exactly what the rules lead to from the readings.
+  pub last-exactly : {r : List ℕ} {ms : List Mark} → List·Memᴰ r rs → ReadingsAccepted s k r ms → (m : Mark) → Standing (meant k) U m ↔ Leads (meant k) (ReadIn s k rs) m
+  last-exactly i y m = (
+    λ z. monotone (marks-read s k rs) (table-only (meant k) (tableWords (meant k)) (as-run x .run) m z),
+    λ d. table-every (meant k) (tableWords (meant k)) (as-run x .run) (read-some s k rs i y) m (monotone (read-marks s k rs) d),
+  )
 
   -- The new facts reported add up to its facts.
   pub news-add-up : total newIn answers ≡ factsOf (meant k) U

@@ -8,18 +8,16 @@ use native.Mathlib.Decide.{decLt}
 use native.Mathlib.Nat.{zero-add}
 use native.Mathlib.Omega.{arith}
 use borrow.Author.Tests.{ne-eqb}
-use lib.Dec.{eqb}
 use lib.IntN.{pos}
 use lib.ListN.{length, getD, drop, List·getD-eq-default}
 use lib.Seq.{getD-append-add}
-use Rattle.text.specs.Bytes.{byte, bytes, nameByte, letter, digit, run, runAt, InLine}
-use Rattle.names.specs.Words.{wordAt, namesAt}
+use Rattle.text.specs.Bytes.{byte, bytes, nameByte, run, runAt, InLine}
+use Rattle.names.specs.Words.{namesAt}
 use Rattle.names.proofs.Names.{names-many}
 use Rattle.tilco.specs.Lists.{All}
-use Rattle.tilco.specs.Inference.{mark}
 use Rattle.tilco.specs.Meaning.{History, Obeys}
 use Rattle.tilco.specs.Lowering.{rowCount}
-use Rattle.tilco.specs.Table.{Standing, factsOf, Reading, Answer, Unsettled, True, False, Contradiction, Asked}
+use Rattle.tilco.specs.Table.{Standing, factsOf, Answer, Unsettled, True, False, Contradiction, Asked}
 use Rattle.sheet.specs.Sheet.{Contents, meant}
 use Rattle.writing.specs.Writes.{lastDigits, decimalText}
 use Rattle.writing.proofs.Decimals.{digits-one, digits-then}
@@ -29,14 +27,14 @@ use Rattle.listing.specs.Listing.{oneIf, headText, listingText, refusalText}
 use Rattle.settling.specs.Prints.{Prints}
 use Rattle.settling.specs.Prints.Prints.{no-sheet, not-added, listed}
 use Rattle.grammar.proofs.Lines.{in-line-by, in-line-then}
-use Rattle.sheet_opening.specs.Results.{Result, accepted}
+use Rattle.sheet_opening.specs.Results.{accepted}
 use Rattle.sheet_opening.specs.SheetIn.{namesIn}
 use Rattle.opening.proofs.Tables.{accepted-one}
-use Rattle.operations.specs.Results.{Gain, gain}
+use Rattle.operations.specs.Results.{gain}
 use Rattle.demands.specs.Refusals.{SheetAccepted}
-use Rattle.demands.specs.Runs.{RunTexts, FromBlank, AgreesWith, valued}
+use Rattle.demands.specs.Runs.{AgreesWith, valued}
 use Rattle.demands.specs.Runs.RunTexts.{done, call}
-use Rattle.demands.specs.Listings.{onFirst, linesOf, lineOf, signAt, shown}
+use Rattle.demands.specs.Listings.{linesOf, lineOf, signAt, shown}
 use Rattle.demands.proofs.Refusals.{sheet-in, in-sheet-text}
 use Rattle.demands.proofs.Histories.{told-holds, no-clash-told}
 

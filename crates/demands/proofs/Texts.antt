@@ -5,16 +5,19 @@ use mathlib.Core.List.{List, [], _∷_, _++_, flatten, List·Memᴰ, List·Mem�
 use mathlib.Core.Logic.{⊎-elim}
 use Prim.Native.Nat.{ℕ}
 use Rattle.text.specs.Read.{Read}
-use Rattle.text.specs.Read.Read.{got, refused as unread}
 use Rattle.tilco.specs.Inference.{Mark}
 use Rattle.tilco.specs.Table.{Taken}
 use Rattle.tilco.specs.Calls.{Call, readingsOf, Some}
 use Rattle.tilco.specs.Calls as tilco
 use Rattle.sheet.specs.Sheet.{Contents}
+use Rattle.text.specs.Read.Read.{got, refused as unread}
 use Rattle.readings.specs.Readings.{readings}
 use Rattle.readings.proofs.Cuts.{AllAccepted}
 use Rattle.readings.proofs.Cuts.AllAccepted.{none, one}
 use Rattle.sheet_opening.specs.SheetIn.{namesIn}
+use Rattle.demands.specs.Refusals.{ReadingsAccepted}
+use Rattle.demands.specs.Runs.{ReadIn}
+use Rattle.demands.proofs.Refusals.{readings-in, in-readings}
 use Rattle.demands.proofs.Runs.{callOf, calls, marksIn}
 
 -- ---- calls by what is among them
@@ -50,6 +53,11 @@ some-call [] x = absurd x
 some-call (tilco.add R ∷ cs) x = (R, List·Memᴰ·head refl)
 some-call (tilco.refused ∷ cs) x = let y = some-call cs x in (y .0, List·Memᴰ·tail (y .1))
 
+-- An accepted call is of an accepted text.
+got-call : (R : Read (List Mark)) {ms : List Mark} → callOf R ≡ tilco.add ms → (q : ℕ) × (R ≡ got ms q)
+got-call (got ns q) {ms} e = let z : ns ≡ ms = cc in (q, ap (λ (l : List Mark). got l q) z)
+got-call (unread n p) e = absurd (subst (λ (c : Call). Some (c ∷ [])) (sym e) tt)
+
 module _ (s : List ℕ) (k : Contents) where
   -- ---- the same texts
 
@@ -81,3 +89,22 @@ module _ (s : List ℕ) (k : Contents) where
   unfolding flatten
   marks-of-all none = refl
   marks-of-all (one {r} {ms} {rs} e more) = ap (λ (R : Read (List Mark)). readingsOf (callOf R ∷ calls s k rs)) e ∙ ap (λ (ns : List Mark). ms ++ ns) (marks-of-all more)
+
+  -- ---- the readings
+
+  -- The marks of the accepted texts are the readings,
+  pub marks-read : (rs : List (List ℕ)) (m : Mark) → Taken (marksIn s k rs) m → ReadIn s k rs m
+  marks-read rs m i =
+      let x = taken-call (calls s k rs) i in
+      let y = call-text rs (x .1) in
+      record { text = y .0; among = y .1; marks = x .0; reads = readings-in s k (y .0) (got-call (readings (namesIn s k) (k .window) (y .0)) (y .2) .1); is = x .2 }
+
+  read-call : (rs : List (List ℕ)) {r : List ℕ} {ms : List Mark} → List·Memᴰ r rs → ReadingsAccepted s k r ms → List·Memᴰ (tilco.add ms) (calls s k rs)
+  read-call rs {r} i y = subst (λ (R : Read (List Mark)). List·Memᴰ (callOf R) (calls s k rs)) (in-readings s k r y) (text-call rs i)
+
+  pub read-marks : (rs : List (List ℕ)) (m : Mark) → ReadIn s k rs m → Taken (marksIn s k rs) m
+  read-marks rs m x = call-taken (calls s k rs) (read-call rs (x .among) (x .reads)) (x .is)
+
+  -- and with an accepted text there is an accepted call.
+  pub read-some : (rs : List (List ℕ)) {r : List ℕ} {ms : List Mark} → List·Memᴰ r rs → ReadingsAccepted s k r ms → Some (calls s k rs)
+  read-some rs i y = call-some (calls s k rs) (read-call rs i y)

@@ -3,10 +3,9 @@
 use mathlib.Core.Bool.{Bool, true, false}
 use mathlib.Core.List.{List, [], _∷_, List·Memᴰ}
 use Prim.Native.Nat.{ℕ}
-use Rattle.tilco.specs.Lists.{All}
 use Rattle.tilco.specs.Inference.{Mark}
 use Rattle.tilco.specs.Meaning.{History}
-use Rattle.tilco.specs.Table.{Agrees, Answer, True, False}
+use Rattle.tilco.specs.Table.{Taken, Agrees, Answer, True, False}
 use Rattle.sheet.specs.Sheet.{Contents}
 use Rattle.sheet_opening.specs.Results.{Result, accepted, refused}
 use Rattle.operations.specs.Results.{Gain, gain}
@@ -35,6 +34,14 @@ abbrev pub valued : Bool → Answer
 valued true = True
 valued false = False
 
--- The history agrees with the readings of each accepted text.
+-- The readings: the mark is one of an accepted text's.
+pub record ReadIn (s : List ℕ) (k : Contents) (rs : List (List ℕ)) (m : Mark) : Type 0 where
+  pub text : List ℕ
+  pub among : List·Memᴰ text rs
+  pub marks : List Mark
+  pub reads : ReadingsAccepted s k text marks
+  pub is : Taken marks m
+
+-- The history agrees with the readings.
 abbrev pub AgreesWith : List ℕ → Contents → List (List ℕ) → History → Type 0
-AgreesWith s k rs h = (r : List ℕ) (ms : List Mark) → List·Memᴰ r rs → ReadingsAccepted s k r ms → All (Agrees h) ms
+AgreesWith s k rs h = (m : Mark) → ReadIn s k rs m → Agrees h m

@@ -1,6 +1,6 @@
 -- The lines of a readings text up to a place are the lines of the text that ends there.
 -- Assumes nothing. r is the text up to the place and x what follows it; `names` are the declared names and W is the window.
-use mathlib.Core.Path.{_≡_, sym, _∙_}
+use mathlib.Core.Path.{sym, _∙_}
 use mathlib.Core.List.{List, _++_}
 use Prim.Native.Nat.{ℕ, _+_, _≤_, _<_}
 use native.Mathlib.Omega.{arith}
