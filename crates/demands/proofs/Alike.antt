@@ -1,16 +1,19 @@
 -- A sheet's text with its rules' lines shuffled is alike: accepted, with the same window and names and the same rules in some order.
 -- Assumes nothing.
-use mathlib.Core.Path.{_≡_, sym, ap, _∙_}
+use mathlib.Core.Path.{_≡_, refl, sym, ap, _∙_}
 use mathlib.Core.List.{List, List·Permᴰ, Permᴰ·symm}
 use Prim.Native.Nat.{ℕ}
 use native.Mathlib.Omega.{arith}
 use Rattle.names.specs.Words.{namesAt}
 use Rattle.text.proofs.Answers.{same-value}
+use lib.ListN.{length}
 use Rattle.tilco.specs.Formula.{hiddens, Sheet, withRules}
 use Rattle.tilco.specs.Lowering.{rowCount}
 use Rattle.tilco.proofs.Lists.{total-stays}
 use Rattle.tilco.proofs.Demand3.{shuffle-keeps-rows}
-use Rattle.sheet_head.specs.SheetHead.{Head}
+use Rattle.text.specs.Read.Read.{got}
+use Rattle.sheet_head.specs.SheetHead.{Head, headOf, head}
+use Rattle.grammar.proofs.HeadLines.{reached-head}
 use Rattle.sheet.specs.Sheet.{Contents, meant, ruleLines, sheetText}
 use Rattle.sheet.proofs.Wholes.{sheet-head}
 use Rattle.sheet_head.proofs.HeadPrefix.{head-kept, head-names-kept}
@@ -46,16 +49,19 @@ module _ {h : List ℕ} {bodies bodies′ : List (List ℕ)} (y : Parted h bodie
   abbrev known : InSheet (sheetText h bodies) k
   known = in-sheet (sheetText h bodies) e
 
+  abbrev headed : head h ≡ got (headOf (y .window) (y .places) (length bodies)) (length h)
+  headed = reached-head h (y .lines)
+
   abbrev found : ShuffledFrom k (known .place) (sheetText h bodies′)
-  found = shuffled h (y .reads) p (y .in-lines) (y .counts) (known .reads)
+  found = shuffled h headed p (y .in-lines) refl (known .reads)
 
   -- As many rows.
   rows-stay : rowCount (meant k) ≡ rowCount (meant (found .sheet))
   rows-stay = shuffle-keeps-rows (meant k) (found .sheet .rules) (found .rules) ∙ ap rowCount (sym (shuffled-meant found))
 
   -- The head's names stand where the sheet's do.
-  places-are : y .says .places ≡ k .places
-  places-are = let x = sheet-head (sheetText h bodies) (known .reads) in ap (λ (d : Head). d .places) (same-value (sym (head-kept h (ruleLines bodies) (y .reads)) ∙ x .2))
+  places-are : y .places ≡ k .places
+  places-are = let x = sheet-head (sheetText h bodies) (known .reads) in ap (λ (d : Head). d .places) (same-value (sym (head-kept h (ruleLines bodies) headed) ∙ x .2))
 
   -- Shuffled texts are alike,
   pub shuffled-alike : Alike (sheetText h bodies) (sheetText h bodies′) k (found .sheet)
@@ -63,7 +69,7 @@ module _ {h : List ℕ} {bodies bodies′ : List (List ℕ)} (y : Parted h bodie
     first = e;
     second = in-fits (sheetText h bodies′) (found .reads) (omega (arith, known .hidden, total-stays hiddens (found .rules))) (omega (arith, known .rows, rows-stay));
     names =
-        ap (namesAt (sheetText h bodies)) (sym places-are) ∙ head-names-kept h (ruleLines bodies) (y .reads) ∙ sym (head-names-kept h (ruleLines bodies′) (y .reads))
+        ap (namesAt (sheetText h bodies)) (sym places-are) ∙ head-names-kept h (ruleLines bodies) headed ∙ sym (head-names-kept h (ruleLines bodies′) headed)
         ∙ ap (namesAt (sheetText h bodies′)) (places-are ∙ sym (found .places));
     rules = found .rules;
     means = shuffled-meant found;

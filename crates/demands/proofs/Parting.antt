@@ -27,6 +27,8 @@ use Rattle.sheet_head.proofs.Heads.{head-is, head-past}
 use Rattle.sheet_opening.specs.Results.{accepted}
 use Rattle.sheet_opening.specs.SheetIn.{sheetIn}
 use Rattle.opening.proofs.Tables.{in-sheet}
+use Rattle.grammar.specs.SheetLines.{Next, Reached}
+use Rattle.grammar.proofs.HeadLines.{head-reached}
 use Rattle.demands.specs.Shuffles.{InParts}
 use Rattle.demands.proofs.Narrow.{rangedLine-narrow, nameLine-narrow}
 use Rattle.demands.proofs.RuleTexts.{RuleTexts, rule-texts}
@@ -94,9 +96,10 @@ module _ (s : List ℕ) {d : Head} {p : ℕ} (headed : head s ≡ got d p) (insi
         head-text = take p s;
         bodies = r .bodies;
         parted = record {
-          says = d;
-          reads = head-narrow (take p s) (ruleLines (r .bodies)) (ap head joined ∙ headed ∙ ap (got d) (sym n));
-          counts = r .many;
+          window = d .window;
+          places = d .places;
+          lines = subst (λ (m : ℕ). Reached (take p s) (Next.rule (d .window) (d .places) m []) (length (take p s))) (r .many)
+              (head-reached (take p s) (head-narrow (take p s) (ruleLines (r .bodies)) (ap head joined ∙ headed ∙ ap (got d) (sym n))));
           in-lines = r .in-lines;
         };
         whole = sym joined;

@@ -1,26 +1,25 @@
 -- Sheets' texts with their rules' lines shuffled, and what is said alike of them (demand 3: shuffling rules).
 -- Assumes nothing. `s` and s′ are sheets' texts, k and k′ their contents, U and U′ tables.
 use mathlib.Core.Path.{_≡_}
-use mathlib.Core.List.{List}
+use mathlib.Core.List.{List, []}
 use mathlib.Core.Logic.{_↔_}
 use Prim.Native.Nat.{ℕ}
 use lib.ListN.{length}
-use Rattle.text.specs.Read.Read.{got}
 use Rattle.tilco.specs.Lists.{All}
 use Rattle.tilco.specs.Inference.{Clash}
 use Rattle.tilco.specs.Table.{Standing, factsOf, Answer}
-use Rattle.sheet_head.specs.SheetHead.{Head, head}
+use Rattle.grammar.specs.SheetLines.{Next, Reached}
 use Rattle.sheet.specs.Sheet.{Contents, meant, sheetText}
 use Rattle.sheet_opening.specs.Results.{Result}
 use Rattle.operations.specs.Results.{Gain}
 use Rattle.text.specs.Bytes.{InLine}
 use Rattle.operations.specs.Operations.{Asks}
 
--- h is the text of a head, to its end, and it counts the rules with these texts, each of which is within its line.
+-- h is the text of a head: all its lines are right, and it counts the rules with these texts, each of which is within its line.
 pub record Parted (h : List ℕ) (bodies : List (List ℕ)) : Type 0 where
-  pub says : Head
-  pub reads : head h ≡ got says (length h)
-  pub counts : says .count ≡ length bodies
+  pub window : ℕ
+  pub places : List ℕ
+  pub lines : Reached h (Next.rule window places (length bodies) []) (length h)
   pub in-lines : All InLine bodies
 
 -- A sheet's text in such parts.

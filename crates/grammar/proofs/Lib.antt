@@ -16,6 +16,7 @@ pub mod OneFault
 pub mod RuleFaults
 pub mod Lines
 pub mod LineKinds
+pub mod HeadLines
 pub mod SheetLines
 pub mod ReadingLines
 pub mod Prefixes

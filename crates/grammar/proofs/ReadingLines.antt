@@ -24,7 +24,7 @@ use Rattle.grammar.specs.Lines.{LineAt, after, Number, SignalName}
 use Rattle.grammar.specs.ReadingLines.{Next, key, Ranged, Formed, More, Right, Reached, Unknown, OutOfRange, Fault, ReadingsFault}
 use Rattle.grammar.proofs.Lines.{in-line-by, value-one, value-at, same-word}
 use Rattle.grammar.proofs.LineKinds.{RangedIs, ranged-is, ranged-reads, in-signal, NamedIs, named-is}
-use Rattle.grammar.proofs.SheetLines.{then-then}
+use Rattle.grammar.proofs.HeadLines.{then-then}
 
 -- ---- the line of a signal
 
