@@ -2,7 +2,7 @@
 -- Assumes of add's table that its words have 64 bits.
 use mathlib.Core.Path.{_≡_, refl, sym, ap, _∙_, subst}
 use mathlib.Core.Bool.{Bool, true, false, true≢false}
-use mathlib.Core.List.{List, [], _∷_}
+use mathlib.Core.List.{List, [], _∷_, map}
 use mathlib.Core.Logic.{_⊎_, inl, inr, ⊎-elim, _↔_}
 use Prim.Native.Nat.{ℕ, _-_, _<_}
 use native.Mathlib.Decide.{ℕ-discrete, decLt}
@@ -28,7 +28,9 @@ use Rattle.operations.specs.Operations.Asks.{not-opened as not-asked, out-of-ra
 use Rattle.settling.specs.Prints.{Prints}
 use Rattle.settling.specs.Prints.Prints.{no-sheet, not-added, listed}
 use Rattle.demands.specs.Refusals.{SheetAccepted, TakenUp, ReadingsAccepted, SheetRefused}
-use Rattle.demands.specs.Cuts.{Given, RunCalls}
+use Rattle.demands.specs.Runs.{RunTexts, FromBlank}
+use Rattle.demands.specs.Runs.RunTexts.{done as none, call as next}
+use Rattle.demands.specs.Cuts.{Given, given, RunCalls}
 use Rattle.demands.specs.Cuts.RunCalls.{done, call}
 use Rattle.demands.proofs.Deciding.{stands-told, inside-told, clash-told}
 use Rattle.demands.proofs.Refusals.{sheet-in, check-refusals, readings-in, in-readings, taken-up, up-taken}
@@ -96,7 +98,14 @@ calls-some (c ∷ cs) T small =
     let y = calls-some cs (x .0) (adds-small small (x .2)) in
     (y .0, x .1 ∷ y .1, call (x .2) (y .2))
 
--- It is accepted exactly if the sheet, the table and the readings are.
+with-sheet : (s : List ℕ) (rs : List (List ℕ)) {T U : List ℕ} {answers : List (Result Gain)} → RunCalls T (map (given s) rs) U answers → RunTexts s T rs U answers
+with-sheet s [] done = none
+with-sheet s (r ∷ rs) (call a x) = next a (with-sheet s rs x)
+
+pub run-some : (s : List ℕ) (k : Contents) → SheetAccepted s k → (rs : List (List ℕ)) → (U : List ℕ) × (answers : List (Result Gain)) × FromBlank s k rs U answers
+run-some s k e rs = let x = calls-some (map (given s) rs) (blank k) (empty-small 64 (tableWords (meant k))) in (x .0, x .1, record { sheet = e; run = with-sheet s rs (x .2) })
+
+-- A call is accepted exactly if the sheet, the table and the readings are.
 pub add-accepts : (s r T : List ℕ) → Small 64 T → ((U : List ℕ) × (g : Gain) × Adds s r T U (accepted g)) ↔ ((k : Contents) × (ms : List Mark) × TakenUp s T k × ReadingsAccepted s k r ms)
 add-accepts s r T small = (λ x. of-answer (x .2), λ x. let y = add-some s r T small in answer (x .2) (x .3) (y .1) (y .2))
   where

@@ -32,8 +32,8 @@ use Rattle.demands.specs.Shuffles.{Parted, InParts, SaidAlike}
 use Rattle.demands.specs.Listings.{lineOf, signAt, shown}
 use Rattle.operations.proofs.Determined.{adds-one, asks-one}
 use Rattle.demands.proofs.Refusals.{sheet-in, in-sheet-text, readings-in, taken-up, check-accepts, check-refusals, add-refusals, ask-accepts, ask-refusals}
-use Rattle.demands.proofs.Answered.{check-some, add-some, add-accepts, ask-some, calls-some, prints-some}
-use Rattle.demands.proofs.LastTable.{last-exactly}
+use Rattle.demands.proofs.Answered.{check-some, add-some, add-accepts, ask-some, calls-some, run-some, prints-some}
+use Rattle.demands.proofs.LastTable.{last-exactly, news-add-up, by-readings}
 use Rattle.demands.proofs.Cuts.{part-accepted, parts-as-one, parts-add-up}
 use Rattle.demands.proofs.Histories.{value-holds, no-contradiction, no-clash-told}
 use Rattle.demands.proofs.Parting.{in-parts}
@@ -153,6 +153,12 @@ pub record Demand3 : Type 0 where
   pub parts : {s R : List ℕ} {k : Contents} {ms : List Mark} {parts : List (List ℕ)} → SheetAccepted s k → ReadingsAccepted s k R ms → CutInto s k R parts
       → (r : List ℕ) → List·Memᴰ r parts → (ns : List Mark) × ReadingsAccepted s k r ns
   pub calls : (k : Contents) (cs : List Given) → (U : List ℕ) × (answers : List (Result Gain)) × RunCalls (blank k) cs U answers
+  -- However readings are put into texts, with an accepted one at least: the same readings end in one table. And after any calls the facts reported add up.
+  pub same-readings : {s : List ℕ} {k : Contents} {rs rs′ : List (List ℕ)} {U U′ : List ℕ} {answers answers′ : List (Result Gain)} {r r′ : List ℕ} {ms ms′ : List Mark}
+      → FromBlank s k rs U answers → FromBlank s k rs′ U′ answers′ → List·Memᴰ r rs → ReadingsAccepted s k r ms → List·Memᴰ r′ rs′ → ReadingsAccepted s k r′ ms′
+      → ((m : Mark) → ReadIn s k rs m ↔ ReadIn s k rs′ m) → U ≡ U′
+  pub adds-up : {s : List ℕ} {k : Contents} {rs : List (List ℕ)} {U : List ℕ} {answers : List (Result Gain)} → FromBlank s k rs U answers → total newIn answers ≡ factsOf (meant k) U
+  pub runs : (s : List ℕ) (k : Contents) → SheetAccepted s k → (rs : List (List ℕ)) → (U : List ℕ) × (answers : List (Result Gain)) × FromBlank s k rs U answers
   -- "Shuffle the rules, and every signal's values, the fact total and the clash answer stay." Every accepted sheet is a head and lines of rules.
   pub shuffled : {h : List ℕ} {bodies bodies′ : List (List ℕ)} {k : Contents} → Parted h bodies → List·Permᴰ bodies bodies′ → SheetAccepted (sheetText h bodies) k
       → Shuffled (sheetText h bodies) (sheetText h bodies′) k
@@ -169,6 +175,9 @@ demand-3 = record {
   cut = λ x y c run i. record { same = parts-as-one x y c run i; adds-up = parts-add-up x y c run i };
   parts = part-accepted;
   calls = λ k cs. calls-some cs (blank k) (empty-small 64 (tableWords (meant k)));
+  same-readings = λ x x′ i y i′ y′ same. by-readings x x′ i y i′ y′ same;
+  adds-up = news-add-up;
+  runs = run-some;
   shuffled = λ {h} {bodies} {bodies′} y p x.
       let e = in-sheet-text (sheetText h bodies) x in
       let z = shuffled-alike y p e in

@@ -37,6 +37,13 @@ module _ {s : List ℕ} {k : Contents} {rs : List (List ℕ)} {U : List ℕ} {an
   news-add-up = sym (as-run x .sum) ∙ reports-add-up (meant k) (tableWords (meant k)) (as-run x .run) (window-some s k (in-sheet-text s (x .sheet)))
 
   module _ {rs′ : List (List ℕ)} {U′ : List ℕ} {answers′ : List (Result Gain)} (x′ : FromBlank s k rs′ U′ answers′) where
-    -- Two runs whose accepted texts hold the same marks end in one table.
+    -- Two runs whose accepted texts hold the same marks end in one table,
     pub by-marks : Some (calls s k rs) → Some (calls s k rs′) → ((m : Mark) → Taken (marksIn s k rs) m ↔ Taken (marksIn s k rs′) m) → U ≡ U′
     by-marks c c′ same = cuts-change-nothing (meant k) (window-some s k (in-sheet-text s (x .sheet))) (tableWords (meant k)) (as-run x .run) c (as-run x′ .run) c′ same
+
+    -- and so do two with the same readings, where a text of each is accepted.
+    pub by-readings : {r r′ : List ℕ} {ms ms′ : List Mark} → List·Memᴰ r rs → ReadingsAccepted s k r ms → List·Memᴰ r′ rs′ → ReadingsAccepted s k r′ ms′
+        → ((m : Mark) → ReadIn s k rs m ↔ ReadIn s k rs′ m) → U ≡ U′
+    by-readings i y i′ y′ same =
+        by-marks (read-some s k rs i y) (read-some s k rs′ i′ y′)
+        (λ m. (λ z. read-marks s k rs′ m (same m .0 (marks-read s k rs m z)), λ z. read-marks s k rs m (same m .1 (marks-read s k rs′ m z))))
