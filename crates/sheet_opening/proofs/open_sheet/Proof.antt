@@ -4,6 +4,7 @@ use mathlib.Core.Path.{sym, ap, subst}
 use lib.ListN.{length-take}
 use Rattle.text.proofs.Answers.{is-refusal}
 use Rattle.sheet_head.specs.SheetHead.{headSays}
+use Rattle.rule_rows.specs.Rules.{allLoweredSays}
 use Rattle.sheet.proofs.Answers.{when-headed, when-no-head}
 use Rattle.sheet.proofs.Wholes.{sheet-long, refused-head}
 use Rattle.sheet_opening.specs.Ready.{SheetOpens}
@@ -89,7 +90,7 @@ same-length-10 : tie.Need-same-length-10
 same-length-10 c = search needs
 
 returns-5 : tie.Need-returns-5
-returns-5 c = not-fitting (begun (c .before .before .before .before .before .before .before .before .before .before .before .before .before .before .before .before .before .before .before .head .ensures) (c .before .before .before .before .before .before .before .before .before .before .before .before .before .before .before .h .given .1) (c .before .before .before .before .before .before .before .before .before .before .before .before .before .before .before .before .before .before .before .before .before .if1 .left) (omega arith)) (c .before .before .before .before .before .before .before .before .before .before .lower-rules .ensures) (c .before .before .before .before .r .given .1) (c .before .before .if2 .left) (c .enum-told2 .given .1)
+returns-5 c = not-fitting (begun (c .before .before .before .before .before .before .before .before .before .before .before .before .before .before .before .before .before .before .before .head .ensures) (c .before .before .before .before .before .before .before .before .before .before .before .before .before .before .before .h .given .1) (c .before .before .before .before .before .before .before .before .before .before .before .before .before .before .before .before .before .before .before .before .before .if1 .left) (omega arith)) (c .before .before .before .before .before .before .before .before .before .before .lower-rules .ensures) (c .before .before .before .before .r .given .1) (c .before .before .if2 .left) (ap allLoweredSays (c .enum-told2 .given .1))
 
 same-length-11 : tie.Need-same-length-11
 same-length-11 c = search needs
