@@ -8,7 +8,7 @@ use Prim.Native.Nat.{ℕ, _+_, _<_, _≤_}
 use native.Mathlib.Omega.{arith}
 use lib.ListN.{length, length-append, length-map}
 use Rattle.text.specs.Read.{Read}
-use Rattle.text.specs.Read.Read.{refused}
+use Rattle.text.specs.Read.Read.{got, refused}
 use Rattle.names.specs.Words.{namesAt}
 use Rattle.text.proofs.Answers.{same-value}
 use Rattle.tilco.specs.Lists.{total, laid}
@@ -17,6 +17,7 @@ use Rattle.tilco.specs.Lowering.{lowered, size}
 use Rattle.sheet.specs.Sheet.{rules}
 use Rattle.sheet.specs.Reading.{Rules}
 use Rattle.sheet.proofs.Ruled.{rules-many}
+use Rattle.rule_rows.specs.Rules.{allLoweredSays}
 use Rattle.rule_rows.specs.declared.rules.AllLowered.{AllLowered}
 use Rattle.rule_rows.specs.declared.rules.AllLowered.the-variants.{Next, Full}
 use Rattle.rule_rows.proofs.Spelled.{definings-length}
@@ -73,7 +74,7 @@ module _ (s places : List ℕ) (k first : ℕ) (g : Legible s places k first) wh
       omega (arith, o, tops-many (w .all) n, rules-many (namesAt s places) s k first (g .within) (w .reads), g .most, w .hidden)
 
   module _ (m m′ ts ts′ : List ℕ) (a : Lent m ts) where
-    sized : {h q : ℕ} (w : Rules R h q) → h ≤ 32 → (r : AllLowered) → Tried (spelledAll (w .all) n) (n + h) m m′ ts ts′ r → Sized (w .all) n h m′ ts′ r
+    sized : {h q : ℕ} (w : Rules R h q) → h ≤ 32 → (r : AllLowered) → Tried (spelledAll (w .all) n) (n + h) m m′ ts ts′ (allLoweredSays r) → Sized (w .all) n h m′ ts′ (allLoweredSays r)
     sized w f (Next at used) (went l o) = fits (record { rows = m; tops = ts; lent = a; few = f; done = o })
     sized w f Full (full o) = over (⊎-elim (λ i. inr (omega (arith, i, a .long))) (λ i. inl (too-many w (omega (arith, i, a .wide)))) o)
 
@@ -81,27 +82,27 @@ module _ (s places : List ℕ) (k first : ℕ) (g : Legible s places k first) wh
     pub stands : {h : ℕ} → h ≤ 32 → ((h′ q : ℕ) → Rules R h′ q → h′ ≡ h) → (r : RuleLines) → RulesRead R n (n + h) m m′ ts ts′ r → RulesStand R n m′ ts′ r
     stands f same (lines.Read h′ q r) (read w t) =
         let e = same h′ q w in
-        stand w (sized w (omega (arith, e)) r (subst (λ (i : ℕ). Tried (spelledAll (w .all) n) (n + i) m m′ ts ts′ r) (sym e) t))
+        stand w (sized w (omega (arith, e)) r (subst (λ (i : ℕ). Tried (spelledAll (w .all) n) (n + i) m m′ ts ts′ (allLoweredSays r)) (sym e) t))
     stands f same (lines.Refused i p) (not-read e) = refused-at e
 
 -- ---- the answer of a sheet's rules, case by case
 
-of-place : {ws : List Written} {n h : ℕ} {m′ ts′ : List ℕ} {at used : ℕ} → Sized ws n h m′ ts′ (Next at used) → InPlace ws n h at used m′ ts′
+of-place : {ws : List Written} {n h : ℕ} {m′ ts′ : List ℕ} {at used : ℕ} → Sized ws n h m′ ts′ (got at used) → InPlace ws n h at used m′ ts′
 of-place (fits k) = k
 
-of-over : {ws : List Written} {n h : ℕ} {m′ ts′ : List ℕ} → Sized ws n h m′ ts′ Full → (32 < h) ⊎ (1024 < n + h + total size (spelledAll ws n))
+of-over : {ws : List Written} {n h : ℕ} {m′ ts′ : List ℕ} → Sized ws n h m′ ts′ (refused 9 0) → (32 < h) ⊎ (1024 < n + h + total size (spelledAll ws n))
 of-over (over o) = o
 
-module _ {ws : List Written} {n h : ℕ} {m′ ts′ : List ℕ} {r : AllLowered} (x : Sized ws n h m′ ts′ r) where
+module _ {ws : List Written} {n h : ℕ} {m′ ts′ : List ℕ} {r : Read ℕ} (x : Sized ws n h m′ ts′ r) where
   -- they are lowered
-  pub when-placed : {at used : ℕ} → r ≡ Next at used → InPlace ws n h at used m′ ts′
+  pub when-placed : {at used : ℕ} → r ≡ got at used → InPlace ws n h at used m′ ts′
   when-placed e = of-place (subst (Sized ws n h m′ ts′) e x)
 
   -- they are over their size
-  pub when-over : r ≡ Full → (32 < h) ⊎ (1024 < n + h + total size (spelledAll ws n))
+  pub when-over : r ≡ refused 9 0 → (32 < h) ⊎ (1024 < n + h + total size (spelledAll ws n))
   when-over e = of-over (subst (Sized ws n h m′ ts′) e x)
 
-of-stand : {R : Read (List Written)} {n : ℕ} {m′ ts′ : List ℕ} {h q : ℕ} {r : AllLowered} → RulesStand R n m′ ts′ (lines.Read h q r) → (w : Rules R h q) × Sized (w .all) n h m′ ts′ r
+of-stand : {R : Read (List Written)} {n : ℕ} {m′ ts′ : List ℕ} {h q : ℕ} {r : AllLowered} → RulesStand R n m′ ts′ (lines.Read h q r) → (w : Rules R h q) × Sized (w .all) n h m′ ts′ (allLoweredSays r)
 of-stand (stand w x) = (w, x)
 
 of-no-rules : {R : Read (List Written)} {n : ℕ} {m′ ts′ : List ℕ} {i p : ℕ} → RulesStand R n m′ ts′ (lines.Refused i p) → R ≡ refused i p
@@ -109,7 +110,7 @@ of-no-rules (refused-at e) = e
 
 module _ {R : Read (List Written)} {n : ℕ} {m′ ts′ : List ℕ} {l : RuleLines} (x : RulesStand R n m′ ts′ l) where
   -- the rules were read
-  pub when-stand : {h q : ℕ} {r : AllLowered} → l ≡ lines.Read h q r → (w : Rules R h q) × Sized (w .all) n h m′ ts′ r
+  pub when-stand : {h q : ℕ} {r : AllLowered} → l ≡ lines.Read h q r → (w : Rules R h q) × Sized (w .all) n h m′ ts′ (allLoweredSays r)
   when-stand e = of-stand (subst (RulesStand R n m′ ts′) e x)
 
   -- a rule is refused

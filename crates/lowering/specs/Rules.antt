@@ -7,15 +7,15 @@ use mathlib.Core.List.{List}
 use Prim.Native.Nat.{ℕ, _+_, _<_, _≤_}
 use lib.ListN.{length}
 use Rattle.text.specs.Read.{Read}
-use Rattle.text.specs.Read.Read.{refused}
+use Rattle.text.specs.Read.Read.{got, refused}
 use Rattle.tilco.specs.Lists.{total}
 use Rattle.tilco.specs.Formula.{Written}
 use Rattle.tilco.specs.Lowering.{size}
 use Rattle.sheet.specs.Reading.{Rules}
 use Rattle.rows.specs.Words.{Blank}
-use Rattle.rule_rows.specs.Rules.{LowersAll}
+use Rattle.rule_rows.specs.Rules.{LowersAll, allLoweredSays}
 use Rattle.rule_rows.specs.declared.rules.AllLowered.{AllLowered}
-use Rattle.rule_rows.specs.declared.rules.AllLowered.the-variants.{Next, Full}
+use Rattle.rule_rows.specs.declared.rules.AllLowered.the-variants.{Next}
 use Rattle.rule_lines.specs.declared.RuleLines.{RuleLines}
 use Rattle.rule_lines.specs.declared.RuleLines.the-variants as lines
 use Rattle.rule_lines.specs.InTurn.{spelledAll}
@@ -34,12 +34,12 @@ pub record InPlace (ws : List Written) (n h at used : ℕ) (m′ ts′ : List �
   pub few : h ≤ 32
   pub done : LowersAll (spelledAll ws n) (n + h) rows m′ 0 tops ts′ (Next at used)
 
--- They are, or they are over their size. "At most 32 hidden signals and 1,024 rows."
-pub data Sized (ws : List Written) (n h : ℕ) (m′ ts′ : List ℕ) : AllLowered → Type 0 where
-  fits : {at used : ℕ} → InPlace ws n h at used m′ ts′ → Sized ws n h m′ ts′ (Next at used)
-  over : (32 < h) ⊎ (1024 < n + h + total size (spelledAll ws n)) → Sized ws n h m′ ts′ Full
+-- They are, or they are over their size. "Over 32 hidden signals or 1,024 rows": 9 at 0.
+pub data Sized (ws : List Written) (n h : ℕ) (m′ ts′ : List ℕ) : Read ℕ → Type 0 where
+  fits : {at used : ℕ} → InPlace ws n h at used m′ ts′ → Sized ws n h m′ ts′ (got at used)
+  over : (32 < h) ⊎ (1024 < n + h + total size (spelledAll ws n)) → Sized ws n h m′ ts′ (refused 9 0)
 
 -- What each case of a sheet's rules says.
 pub data RulesStand (R : Read (List Written)) (n : ℕ) (m′ ts′ : List ℕ) : RuleLines → Type 0 where
-  stand : {h q : ℕ} {r : AllLowered} (w : Rules R h q) → Sized (w .all) n h m′ ts′ r → RulesStand R n m′ ts′ (lines.Read h q r)
+  stand : {h q : ℕ} {r : AllLowered} (w : Rules R h q) → Sized (w .all) n h m′ ts′ (allLoweredSays r) → RulesStand R n m′ ts′ (lines.Read h q r)
   refused-at : {k p : ℕ} → R ≡ refused k p → RulesStand R n m′ ts′ (lines.Refused k p)

@@ -4,9 +4,10 @@ use lines::name_line;
 use lines::ranged_line;
 use names::find_name;
 ghost use mathlib.Core.Path.{_≡_};
-ghost use Prim.Native.Nat.{_≤_};
+ghost use Prim.Native.Nat.{ℕ, _≤_};
 ghost use lib.ListN.{length};
-ghost use Rattle.text.specs.Read.{numberOf, placeOf};
+ghost use Rattle.text.specs.Read.{Refusal};
+ghost use Rattle.text.specs.Read.Read.{refused};
 ghost use Rattle.lines.specs.Lines.{says};
 ghost use Rattle.names.specs.Words.{namesAt};
 ghost use Rattle.one_reading.specs.declared.Reading.the-variants.{Refused};
@@ -40,12 +41,13 @@ pub fn known_line(s: &[u8], places: &[u64], r: &[u8], at: usize) -> Step
     }
 }
 
-// A line's refusal as the reading's; 0 and 0 for a line that was read.
+// A line's refusal as the reading's. A line that was read does not come here.
 fn refused_line(l: Step) -> Reading
-    ensures { λ v. ⌜ v ≡ Refused (numberOf (says l)) (placeOf (says l)) ⌝ }
+    requires { ⌜ Refusal (says l) ⌝ }
+    ensures { λ v. ⌜ ((n p : ℕ) → says l ≡ refused n p → v ≡ Refused n p) ⌝ }
 {
     match l {
-        Step::Got(_, _) => Reading::Refused(0, 0),
+        Step::Got(n, p) => Reading::Refused(n, p),
         Step::Refused(n, p) => Reading::Refused(n, p),
     }
 }

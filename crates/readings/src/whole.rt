@@ -5,10 +5,11 @@ use lines::Step;
 use one_reading::Reading;
 use one_reading::reading_at;
 ghost use mathlib.Core.Path.{_≡_};
-ghost use Prim.Native.Nat.{_*_, _≤_};
+ghost use Prim.Native.Nat.{ℕ, _*_, _≤_};
 ghost use lib.ListN.{length};
 ghost use Rattle.lines.specs.declared.Step.the-variants.{Refused};
-ghost use Rattle.text.specs.Read.{numberOf, placeOf};
+ghost use Rattle.text.specs.Read.{Refusal};
+ghost use Rattle.text.specs.Read.Read.{refused};
 ghost use Rattle.names.specs.Words.{namesAt};
 ghost use Rattle.one_reading.specs.OneReading.{readingOf};
 ghost use Rattle.readings.specs.Readings.{readings};
@@ -21,17 +22,18 @@ pub enum Outcome {
     Refused(usize, usize),
 }
 
-// A reading's refusal as the text's; 0 and 0 for a reading that was taken.
+// A reading's refusal as the text's. A reading that was taken does not come here.
 fn refused_reading(a: Reading) -> Step
-    ensures { λ v. ⌜ v ≡ Refused (numberOf (readingOf a)) (placeOf (readingOf a)) ⌝ }
+    requires { ⌜ Refusal (readingOf a) ⌝ }
+    ensures { λ v. ⌜ ((n p : ℕ) → readingOf a ≡ refused n p → v ≡ Refused n p) ⌝ }
 {
     match a {
         Reading::Taken {
-            tick: _,
+            tick,
             signal: _,
             value: _,
-            next: _,
-        } => Step::Refused(0, 0),
+            next,
+        } => Step::Refused(tick, next),
         Reading::Refused(n, p) => Step::Refused(n, p),
     }
 }

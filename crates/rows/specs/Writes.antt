@@ -6,6 +6,8 @@ use mathlib.Core.List.{List, _++_, map}
 use Prim.Native.Nat.{ℕ, suc, _+_, _≤_, _<_}
 use lib.ListN.{length}
 use lib.Seq.{sets}
+use Rattle.text.specs.Read.{Read}
+use Rattle.text.specs.Read.Read.{got, refused}
 use Rattle.tilco.specs.Lists.{tab}
 use Rattle.tilco.specs.Inference.{Node, gate, look}
 use Rattle.tilco.specs.Lowering.{BTL, joined, topOf, rowsOf}
@@ -25,10 +27,19 @@ gates u i b n = tab (λ j. gate u (joined i b j) (i + suc j)) n
 unfoldable pub lastGate : ℕ → ℕ → ℕ → ℕ
 lastGate i b n = joined i b n
 
+-- What each case of a writer's answer says: the top row, and the rows then used; or that there is no room, 9 at 0.
+abbrev pub loweredSays : Lowered → Read ℕ
+loweredSays (Top row used) = got row used
+loweredSays Full = refused 9 0
+
 -- The words ws with the top row t: they stand from b on and nothing else has changed; or they do not fit.
+abbrev pub WroteAs : List ℕ → ℕ → ℕ → List ℕ → List ℕ → Read ℕ → Type 0
+WroteAs ws t b m m′ (got row used) = (row ≡ t) × (used ≡ b + length ws) × (used ≤ length m) × (m′ ≡ sets m b ws)
+WroteAs ws t b m m′ (refused n p) = (length m < b + length ws) × (length m′ ≡ length m) × (n ≡ 9) × (p ≡ 0)
+
+-- So says the writer's answer.
 unfoldable pub Wrote : List ℕ → ℕ → ℕ → List ℕ → List ℕ → Lowered → Type 0
-Wrote ws t b m m′ (Top row used) = (row ≡ t) × (used ≡ b + length ws) × (used ≤ length m) × (m′ ≡ sets m b ws)
-Wrote ws t b m m′ Full = (length m < b + length ws) × (length m′ ≡ length m)
+Wrote ws t b m m′ r = WroteAs ws t b m m′ (loweredSays r)
 
 -- The rows of a lowered formula.
 unfoldable pub Lowers : BTL → ℕ → List ℕ → List ℕ → Lowered → Type 0

@@ -18,6 +18,7 @@ use Rattle.sheet_head.proofs.Signals.{up-to}
 use Rattle.sheet.proofs.Ruled.{Passed, passed-none, passed-one, passed-all}
 use Rattle.text.specs.Read.{Read}
 use Rattle.names.specs.Words.{namesAt}
+use Rattle.rule_rows.specs.Rules.{allLoweredSays}
 use Rattle.rule_rows.specs.declared.rules.AllLowered.{AllLowered}
 use Rattle.rule_rows.specs.declared.rules.AllLowered.the-variants.{Next}
 use Rattle.rule_rows.proofs.Spelled.{held-definings, held-spelled}
@@ -48,7 +49,7 @@ pub record Underway (s places : List ℕ) (m first b : ℕ) (l ts : List ℕ) (i
   pub row : x ≡ length places + total hiddens ws
   pub long : length l′ ≡ length l
   pub wide : length ts′ ≡ length ts
-  pub done : Tried (spelledAll ws (length places)) b l l′ ts ts′ r
+  pub done : Tried (spelledAll ws (length places)) b l l′ ts ts′ (allLoweredSays r)
 
 module _ (s places : List ℕ) (m first b : ℕ) (l ts : List ℕ) where
   -- none is at first
@@ -86,7 +87,7 @@ module _ (s places : List ℕ) (m first b : ℕ) (l ts : List ℕ) where
           row = omega (arith, w .next, z .row, t);
           long = e ∙ z .long;
           wide = f ∙ z .wide;
-          done = subst (λ (cs : List BTL). Tried cs b l l″ ts ts″ r′) (ap (λ (cs : List BTL). spelledAll ws n ++ cs) same ∙ sym (spelled-more ws v n)) d;
+          done = subst (λ (cs : List BTL). Tried cs b l l″ ts ts″ (allLoweredSays r′)) (ap (λ (cs : List BTL). spelledAll ws n ++ cs) same ∙ sym (spelled-more ws v n)) d;
         }
 
     -- all are

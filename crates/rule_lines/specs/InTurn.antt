@@ -7,14 +7,14 @@ use mathlib.Core.List.{List, _++_}
 use Prim.Native.Nat.{ℕ, _+_, _<_, _≤_}
 use lib.ListN.{length}
 use Rattle.text.specs.Read.{Read}
-use Rattle.text.specs.Read.Read.{refused}
+use Rattle.text.specs.Read.Read.{got, refused}
 use Rattle.tilco.specs.Lists.{All, total, laid}
 use Rattle.tilco.specs.Formula.{Written, hiddens, spelled}
 use Rattle.tilco.specs.Lowering.{BTL, size, lows}
 use Rattle.sheet.specs.Reading.{Rules}
-use Rattle.rule_rows.specs.Rules.{LowersAll}
+use Rattle.rule_rows.specs.Rules.{LowersAll, allLoweredSays}
 use Rattle.rule_rows.specs.declared.rules.AllLowered.{AllLowered}
-use Rattle.rule_rows.specs.declared.rules.AllLowered.the-variants.{Next, Full}
+use Rattle.rule_rows.specs.declared.rules.AllLowered.the-variants.{Next}
 use Rattle.rule_lines.specs.declared.RuleLines.{RuleLines}
 use Rattle.rule_lines.specs.declared.RuleLines.the-variants as lines
 
@@ -29,22 +29,22 @@ pub record Legible (s places : List ℕ) (m p : ℕ) : Type 0 where
 abbrev pub spelledAll : List Written → ℕ → List BTL
 spelledAll ws n = lows (laid hiddens spelled ws n)
 
--- The formulas cs are lowered, from row b and from the first top on; or there is no room for their rows or for their tops.
-pub data Tried (cs : List BTL) (b : ℕ) (m m′ ts ts′ : List ℕ) : AllLowered → Type 0 where
-  went : {at used : ℕ} → length cs ≤ length ts → LowersAll cs b m m′ 0 ts ts′ (Next at used) → Tried cs b m m′ ts ts′ (Next at used)
-  full : (length m < b + total size cs) ⊎ (length ts < length cs) → Tried cs b m m′ ts ts′ Full
+-- The formulas cs are lowered, from row b and from the first top on; or there is no room for their rows or for their tops: 9 at 0.
+pub data Tried (cs : List BTL) (b : ℕ) (m m′ ts ts′ : List ℕ) : Read ℕ → Type 0 where
+  went : {at used : ℕ} → length cs ≤ length ts → LowersAll cs b m m′ 0 ts ts′ (Next at used) → Tried cs b m m′ ts ts′ (got at used)
+  full : (length m < b + total size cs) ⊎ (length ts < length cs) → Tried cs b m m′ ts ts′ (refused 9 0)
 
 -- What is lowered has its rows in the buffer and its tops among the tops.
-abbrev pub RoomIn : List ℕ → List ℕ → AllLowered → Type 0
-RoomIn m ts (Next at used) = (at ≤ length ts) × (used ≤ length m)
-RoomIn m ts Full = Unit {0}
+abbrev pub RoomIn : List ℕ → List ℕ → Read ℕ → Type 0
+RoomIn m ts (got at used) = (at ≤ length ts) × (used ≤ length m)
+RoomIn m ts (refused n p) = Unit {0}
 
 -- The formulas ds follow: where r says how far some were lowered, r′ says it of them and of ds.
 abbrev pub Follows : List BTL → List ℕ → List ℕ → List ℕ → List ℕ → AllLowered → AllLowered → Type 0
 Follows ds m m′ ts ts′ r r′ =
-    (cs : List BTL) (b : ℕ) (m₀ ts₀ : List ℕ) → Tried cs b m₀ m ts₀ ts r → Tried (cs ++ ds) b m₀ m′ ts₀ ts′ r′
+    (cs : List BTL) (b : ℕ) (m₀ ts₀ : List ℕ) → Tried cs b m₀ m ts₀ ts (allLoweredSays r) → Tried (cs ++ ds) b m₀ m′ ts₀ ts′ (allLoweredSays r′)
 
 -- What each case of reading the rules' lines says, with their rows from row b on.
 pub data RulesRead (R : Read (List Written)) (n b : ℕ) (m m′ ts ts′ : List ℕ) : RuleLines → Type 0 where
-  read : {h q : ℕ} {r : AllLowered} (w : Rules R h q) → Tried (spelledAll (w .all) n) b m m′ ts ts′ r → RulesRead R n b m m′ ts ts′ (lines.Read h q r)
+  read : {h q : ℕ} {r : AllLowered} (w : Rules R h q) → Tried (spelledAll (w .all) n) b m m′ ts ts′ (allLoweredSays r) → RulesRead R n b m m′ ts ts′ (lines.Read h q r)
   refused-at : {k p : ℕ} → R ≡ refused k p → RulesRead R n b m m′ ts ts′ (lines.Refused k p)

@@ -12,6 +12,7 @@ ghost use Rattle.names.specs.Words.{namesAt};
 ghost use Rattle.tilco.specs.Lowering.{lows};
 ghost use Rattle.arena.specs.Readings.{formAt, definingsAt, Arena};
 ghost use Rattle.sheet.specs.Sheet.{rules as rulesOf};
+ghost use Rattle.rule_rows.specs.Rules.{allLoweredSays};
 ghost use Rattle.rule_lines.specs.InTurn.{Legible, RoomIn, Follows, RulesRead};
 
 // How many hidden signals the rules have, the place after their lines, and how far they are lowered. Or a refusal's number and place.
@@ -34,7 +35,7 @@ fn lower_next(
     lowered: AllLowered,
 ) -> AllLowered
     requires { ⌜ Arena (node + 1) (now arena) × (length (definingsAt (now arena) node) ≡ hidden) ⌝ }
-    requires { ⌜ (length (now out) ≤ 1024) × RoomIn (now out) (now tops) lowered ⌝ }
+    requires { ⌜ (length (now out) ≤ 1024) × RoomIn (now out) (now tops) (allLoweredSays lowered) ⌝ }
     ensures { λ r. ⌜ Follows (lows (formAt (now (arena .entry)) node ∷ definingsAt (now (arena .entry)) node)) (now (out .entry)) (now (out .exit)) (now (tops .entry)) (now (tops .exit)) lowered r ⌝ }
 {
     let AllLowered::Next { at, used } = lowered else {

@@ -6,9 +6,10 @@ use lines::ranged_line;
 use names::find_name;
 ghost use mathlib.Core.Path.{_≡_};
 ghost use mathlib.Core.List.{[]};
-ghost use Prim.Native.Nat.{_≤_};
+ghost use Prim.Native.Nat.{ℕ, _≤_};
 ghost use lib.ListN.{length};
-ghost use Rattle.text.specs.Read.{numberOf, placeOf};
+ghost use Rattle.text.specs.Read.{Refusal};
+ghost use Rattle.text.specs.Read.Read.{refused};
 ghost use Rattle.lines.specs.Lines.{says, inTurn};
 ghost use Rattle.sheet_head.specs.declared.Heading.the-variants.{Refused};
 ghost use Rattle.sheet_head.specs.SheetHead.{signalLine, placesOf, Headed};
@@ -60,12 +61,13 @@ pub fn signals_at(s: &[u8], places: &mut [u64], n: usize, at: usize) -> Step
     Step::Got(n, p)
 }
 
-// A line's refusal as the head's; 0 and 0 for a line that was read.
+// A line's refusal as the head's. A line that was read does not come here.
 fn refused_line(l: Step) -> Heading
-    ensures { λ v. ⌜ v ≡ Refused (numberOf (says l)) (placeOf (says l)) ⌝ }
+    requires { ⌜ Refusal (says l) ⌝ }
+    ensures { λ v. ⌜ ((n p : ℕ) → says l ≡ refused n p → v ≡ Refused n p) ⌝ }
 {
     match l {
-        Step::Got(_, _) => Heading::Refused(0, 0),
+        Step::Got(n, p) => Heading::Refused(n, p),
         Step::Refused(n, p) => Heading::Refused(n, p),
     }
 }

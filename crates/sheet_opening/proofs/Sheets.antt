@@ -27,9 +27,9 @@ use Rattle.sheet.proofs.Accepted.{sheet-fits, sheet-declared}
 use Rattle.sheet_head.proofs.Heads.{head-past}
 use Rattle.sheet.proofs.Ruled.{rules-many}
 use Rattle.sheet.proofs.Wholes.{refused-rule, refused-more, sheet-is}
-use Rattle.rule_rows.specs.Rules.{LowersAll}
+use Rattle.rule_rows.specs.Rules.{LowersAll, allLoweredSays}
 use Rattle.rule_rows.specs.declared.rules.AllLowered.{AllLowered}
-use Rattle.rule_rows.specs.declared.rules.AllLowered.the-variants.{Next, Full}
+use Rattle.rule_rows.specs.declared.rules.AllLowered.the-variants.{Next}
 use Rattle.rule_rows.proofs.InTurn.{tops-length, went-all}
 use Rattle.rule_rows.proofs.Sheets.{sheet-used, sheet-row}
 use Rattle.rule_lines.specs.InTurn.{Legible}
@@ -151,13 +151,13 @@ module _ {s T : List ℕ} {w n m p : ℕ} (o : Begun s T w n m p) where
         reads = sheet-is s (o .short) (o .head-is) (found .reads) end
 
         -- the sheet is over its size
-        pub not-fitting : l ≡ Full → SheetOpens s T B ts (opening.Refused 9 0)
+        pub not-fitting : allLoweredSays l ≡ unread 9 0 → SheetOpens s T B ts (opening.Refused 9 0)
         not-fitting f =
             refused-at (in-over s reads (⊎-elim (λ i. inl (omega (arith, i, found .hidden))) (λ i. inr (omega (arith, i, found .hidden, row-count (meant held)))) (when-over (when-stand x e .1) f)))
 
         readied : (t count : ℕ) → l ≡ Next t count → Ready s places B ts w t count
         readied t count f =
-            let a : InPlace (held .rules) (length places) h t count B ts = when-placed (when-stand x e .1) f in
+            let a : InPlace (held .rules) (length places) h t count B ts = when-placed (when-stand x e .1) (ap allLoweredSays f) in
             let few : total hiddens (held .rules) ≤ 32 = omega (arith, a .few, found .hidden) in
             let d : LowersAll (lows (formulas (meant held))) (signalRows (meant held)) (a .rows) B 0 (a .tops) ts (Next t count)
             = subst (λ (i : ℕ). LowersAll (lows (formulas (meant held))) (length places + i) (a .rows) B 0 (a .tops) ts (Next t count)) (found .hidden) (a .done) in

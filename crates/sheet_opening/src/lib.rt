@@ -5,8 +5,10 @@ use rule_rows::rules::AllLowered;
 use sheet_head::Heading;
 use sheet_head::head;
 ghost use mathlib.Core.Path.{_≡_};
+ghost use Prim.Native.Nat.{ℕ};
 ghost use lib.ListN.{length};
-ghost use Rattle.text.specs.Read.{numberOf, placeOf};
+ghost use Rattle.text.specs.Read.{Refusal};
+ghost use Rattle.text.specs.Read.Read.{refused};
 ghost use Rattle.sheet_head.specs.SheetHead.{headSays};
 ghost use Rattle.rows.specs.Words.{Blank};
 ghost use Rattle.sheet_opening.specs.declared.Opening.the-variants.{Refused};
@@ -23,17 +25,18 @@ pub enum Opening {
     Refused(usize, usize),
 }
 
-// The head's refusal as the opening's; 0 and 0 for a head that was read.
+// The head's refusal as the opening's. A head that was read does not come here.
 fn refused_head(h: Heading) -> Opening
-    ensures { λ v. ⌜ v ≡ Refused (numberOf (headSays h)) (placeOf (headSays h)) ⌝ }
+    requires { ⌜ Refusal (headSays h) ⌝ }
+    ensures { λ v. ⌜ ((n p : ℕ) → headSays h ≡ refused n p → v ≡ Refused n p) ⌝ }
 {
     match h {
         Heading::Lines {
-            window: _,
+            window,
             signals: _,
             rules: _,
-            first: _,
-        } => Opening::Refused(0, 0),
+            first,
+        } => Opening::Refused(window, first),
         Heading::Refused(n, p) => Opening::Refused(n, p),
     }
 }

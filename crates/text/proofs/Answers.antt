@@ -1,10 +1,10 @@
 -- Answers of readers: what a case of one says, and where a value that was read came from.
 -- Assumes nothing.
-use mathlib.Core.Path.{_≡_, refl, sym, ap, _∙_}
+use mathlib.Core.Path.{_≡_, refl, sym, ap, _∙_, subst}
 use mathlib.Core.Bool.{Bool, true, false}
 use Prim.Native.Nat.{ℕ}
 use native.Mathlib.Omega.{arith}
-use Rattle.text.specs.Read.{Read, andThen, numberOf, placeOf}
+use Rattle.text.specs.Read.{Read, andThen, Refusal}
 use Rattle.text.specs.Read.Read.{got, refused}
 use Rattle.text.specs.Bytes.{pick}
 
@@ -22,10 +22,9 @@ module _ {A : Type 0} {a b : A} {p q : ℕ} (e : got a p ≡ got b q) where
 pub answered : {X A : Type 0} (f : X → Read A) {a x : X} {R : Read A} → f a ≡ R → a ≡ x → R ≡ f x
 answered f h g = sym h ∙ ap f g
 
--- A refusal keeps its number and place where another answer k takes it over.
-pub taken-over : {X Y A : Type 0} (f : X → Read A) (k : ℕ → ℕ → Y) {a x : X} {v : Y} → v ≡ k (numberOf (f a)) (placeOf (f a)) → a ≡ x
-    → v ≡ k (numberOf (f x)) (placeOf (f x))
-taken-over f k h g = h ∙ ap (λ z. k (numberOf (f z)) (placeOf (f z))) g
+-- An answer whose case says a refusal is one.
+pub is-refusal : {X A : Type 0} (f : X → Read A) {a x : X} → a ≡ x → Refusal (f x) → Refusal (f a)
+is-refusal f e h = subst (λ z. Refusal (f z)) (sym e) h
 
 -- A refusal is the answer of all that would have gone on.
 pub hand-on : {A B : Type 0} (K : A → ℕ → Read B) {R : Read A} {n p : ℕ} → R ≡ refused n p → refused n p ≡ andThen R K

@@ -12,12 +12,7 @@ abbrev pub andThen : {A B : Type 0} → Read A → (A → ℕ → Read B) → Re
 andThen (got a q) k = k a q
 andThen (refused n p) k = refused n p
 
--- A refusal's number, and 0 where a value was read.
-abbrev pub numberOf : {A : Type 0} → Read A → ℕ
-numberOf (got a q) = 0
-numberOf (refused n p) = n
-
--- A refusal's place, and 0 where a value was read.
-abbrev pub placeOf : {A : Type 0} → Read A → ℕ
-placeOf (got a q) = 0
-placeOf (refused n p) = p
+-- It is a refusal, and no value was read.
+abbrev pub Refusal : {A : Type 0} → Read A → Type 0
+Refusal (got a q) = ⊥
+Refusal (refused n p) = Unit {0}

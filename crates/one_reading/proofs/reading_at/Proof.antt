@@ -2,9 +2,8 @@
 use borrow.Author.Needs.{needs}
 use mathlib.Core.Path.{ap, _∙_}
 use Rattle.lines.specs.Lines.{says}
-use Rattle.text.proofs.Answers.{answered, taken-over}
+use Rattle.text.proofs.Answers.{answered, is-refusal}
 use Rattle.lines.proofs.KeyedLines.{ranged-past}
-use Rattle.one_reading.specs.declared.Reading.the-variants.{Refused}
 use Rattle.one_reading.specs.OneReading.{readingOf}
 use Rattle.one_reading.proofs.Lines.{known-past, refused-first, refused-second, refused-third, reading-is}
 use Rattle.one_reading.proofs.reading_at.Statement.{statement}
@@ -26,12 +25,12 @@ enum-told : tie.Need-enum-told
 enum-told c = search needs
 
 refused-line-requires : tie.Need-refused-line-requires
-refused-line-requires c κs = search needs
+refused-line-requires c κs = is-refusal says (c .enum-told .given .1) tt
 
 returns : tie.Need-returns
 returns c =
     let e = c .before .enum-told .given .1 in
-    ap readingOf (taken-over says Refused (c .refused-line .ensures) e) ∙ refused-first _ _ _ _ (answered says (c .before .before .before .ranged-line .ensures) e)
+    ap readingOf (c .refused-line .ensures _ _ (ap says e)) ∙ refused-first _ _ _ _ (answered says (c .before .before .before .ranged-line .ensures) e)
 
 known-line-requires : tie.Need-known-line-requires
 known-line-requires c κs =
@@ -45,13 +44,13 @@ enum-told-2 : tie.Need-enum-told-2
 enum-told-2 c = search needs
 
 refused-line-requires-2 : tie.Need-refused-line-requires-2
-refused-line-requires-2 c κs = search needs
+refused-line-requires-2 c κs = is-refusal says (c .enum-told2 .given .1) tt
 
 returns-2 : tie.Need-returns-2
 returns-2 c =
     let a = answered says (c .before .before .before .before .before .before .before .ranged-line .ensures) (c .before .before .before .before .before .a .given .1) in
     let e = c .before .enum-told2 .given .1 in
-    ap readingOf (taken-over says Refused (c .refused-line2 .ensures) e) ∙ refused-second _ _ _ _ a (answered says (c .before .before .before .known-line .ensures) e)
+    ap readingOf (c .refused-line2 .ensures _ _ (ap says e)) ∙ refused-second _ _ _ _ a (answered says (c .before .before .before .known-line .ensures) e)
 
 slice-aggregate-ranged-line-2 : tie.Need-slice-aggregate-ranged-line-2
 slice-aggregate-ranged-line-2 c = search needs
@@ -68,14 +67,14 @@ enum-told-3 : tie.Need-enum-told-3
 enum-told-3 c = search needs
 
 refused-line-requires-3 : tie.Need-refused-line-requires-3
-refused-line-requires-3 c κs = search needs
+refused-line-requires-3 c κs = is-refusal says (c .enum-told3 .given .1) tt
 
 returns-3 : tie.Need-returns-3
 returns-3 c =
     let a = answered says (c .before .before .before .before .before .before .before .before .before .before .before .before .ranged-line .ensures) (c .before .before .before .before .before .before .before .before .before .before .a .given .1) in
     let b = answered says (c .before .before .before .before .before .before .before .before .known-line .ensures) (c .before .before .before .before .before .before .b .given .1) in
     let e = c .before .enum-told3 .given .1 in
-    ap readingOf (taken-over says Refused (c .refused-line3 .ensures) e) ∙ refused-third _ _ _ _ a b (answered says (c .before .before .before .ranged-line2 .ensures) e)
+    ap readingOf (c .refused-line3 .ensures _ _ (ap says e)) ∙ refused-third _ _ _ _ a b (answered says (c .before .before .before .ranged-line2 .ensures) e)
 
 returns-4 : tie.Need-returns-4
 returns-4 c =

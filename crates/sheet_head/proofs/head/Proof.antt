@@ -1,11 +1,10 @@
 -- `head` meets its contract. Assumes nothing.
 use borrow.Author.Needs.{needs}
 use native.Mathlib.Omega.{arith}
-use mathlib.Core.Path.{sym, subst}
+use mathlib.Core.Path.{sym, ap, subst}
 use Rattle.lines.specs.Lines.{says}
-use Rattle.text.proofs.Answers.{answered, taken-over}
+use Rattle.text.proofs.Answers.{answered, is-refusal}
 use Rattle.lines.proofs.KeyedLines.{ranged-past}
-use Rattle.sheet_head.specs.declared.Heading.the-variants.{Refused}
 use Rattle.sheet_head.specs.SheetHead.{placesOf, Headed}
 use Rattle.sheet_head.specs.SheetHead.Headed.{headed, refused-at}
 use Rattle.sheet_head.proofs.Signals.{signal-lines}
@@ -26,12 +25,12 @@ enum-told : tie.Need-enum-told
 enum-told c = search needs
 
 refused-line-requires : tie.Need-refused-line-requires
-refused-line-requires c κs = search needs
+refused-line-requires c κs = is-refusal says (c .enum-told .given .1) tt
 
 returns : tie.Need-returns
 returns c =
     let x = c .before .enum-told .given .1 in
-    subst (Headed _ _) (sym (taken-over says Refused (c .refused-line .ensures) x)) (refused-at (refused-window _ (answered says (c .before .before .before .ranged-line .ensures) x)))
+    subst (Headed _ _) (sym (c .refused-line .ensures _ _ (ap says x))) (refused-at (refused-window _ (answered says (c .before .before .before .ranged-line .ensures) x)))
 
 slice-aggregate-ranged-line-2 : tie.Need-slice-aggregate-ranged-line-2
 slice-aggregate-ranged-line-2 c = search needs
@@ -48,13 +47,13 @@ enum-told-2 : tie.Need-enum-told-2
 enum-told-2 c = search needs
 
 refused-line-requires-2 : tie.Need-refused-line-requires-2
-refused-line-requires-2 c κs = search needs
+refused-line-requires-2 c κs = is-refusal says (c .enum-told2 .given .1) tt
 
 returns-2 : tie.Need-returns-2
 returns-2 c =
     let a = answered says (c .before .before .before .before .before .before .before .before .ranged-line .ensures) (c .before .before .before .before .before .before .a .given .1) in
     let x = c .before .enum-told2 .given .1 in
-    subst (Headed _ _) (sym (taken-over says Refused (c .refused-line2 .ensures) x)) (refused-at (refused-signals _ a (answered says (c .before .before .before .ranged-line2 .ensures) x)))
+    subst (Headed _ _) (sym (c .refused-line2 .ensures _ _ (ap says x))) (refused-at (refused-signals _ a (answered says (c .before .before .before .ranged-line2 .ensures) x)))
 
 signals-at-requires : tie.Need-signals-at-requires
 signals-at-requires c κs =
@@ -69,7 +68,7 @@ enum-told-3 : tie.Need-enum-told-3
 enum-told-3 c = search needs
 
 refused-line-requires-3 : tie.Need-refused-line-requires-3
-refused-line-requires-3 c κs = search needs
+refused-line-requires-3 c κs = is-refusal says (c .enum-told3 .given .1) tt
 
 same-length : tie.Need-same-length
 same-length c = search needs
@@ -79,7 +78,7 @@ returns-3 c =
     let a = answered says (c .before .before .before .before .before .before .before .before .before .before .before .before .before .before .before .ranged-line .ensures) (c .before .before .before .before .before .before .before .before .before .before .before .before .before .a .given .1) in
     let b = answered says (c .before .before .before .before .before .before .before .before .before .before .ranged-line2 .ensures) (c .before .before .before .before .before .before .before .before .b .given .1) in
     let x = c .before .enum-told3 .given .1 in
-    subst (Headed _ _) (sym (taken-over says Refused (c .refused-line3 .ensures) x)) (refused-at (refused-signal _ a b (answered (placesOf _ _) (c .before .before .before .before .before .signals-at .ensures) x)))
+    subst (Headed _ _) (sym (c .refused-line3 .ensures _ _ (ap says x))) (refused-at (refused-signal _ a b (answered (placesOf _ _) (c .before .before .before .before .before .signals-at .ensures) x)))
 
 slice-aggregate-ranged-line-3 : tie.Need-slice-aggregate-ranged-line-3
 slice-aggregate-ranged-line-3 c = search needs
@@ -97,7 +96,7 @@ enum-told-4 : tie.Need-enum-told-4
 enum-told-4 c = search needs
 
 refused-line-requires-4 : tie.Need-refused-line-requires-4
-refused-line-requires-4 c κs = search needs
+refused-line-requires-4 c κs = is-refusal says (c .enum-told4 .given .1) tt
 
 same-length-2 : tie.Need-same-length-2
 same-length-2 c = search needs
@@ -108,7 +107,7 @@ returns-4 c =
     let b = answered says (c .before .before .before .before .before .before .before .before .before .before .before .before .before .before .before .ranged-line2 .ensures) (c .before .before .before .before .before .before .before .before .before .before .before .before .before .b .given .1) in
     let d = answered (placesOf _ _) (c .before .before .before .before .before .before .before .before .before .before .signals-at .ensures) (c .before .before .before .before .before .before .d .given .1) in
     let x = c .before .enum-told4 .given .1 in
-    subst (Headed _ _) (sym (taken-over says Refused (c .refused-line4 .ensures) x)) (refused-at (refused-rules _ a b d (answered says (c .before .before .before .ranged-line3 .ensures) x)))
+    subst (Headed _ _) (sym (c .refused-line4 .ensures _ _ (ap says x))) (refused-at (refused-rules _ a b d (answered says (c .before .before .before .ranged-line3 .ensures) x)))
 
 same-length-3 : tie.Need-same-length-3
 same-length-3 c = search needs

@@ -1,12 +1,12 @@
 -- `open_sheet` meets its contract. Assumes nothing.
 use native.Mathlib.Omega.{arith}
-use mathlib.Core.Path.{sym, subst}
+use mathlib.Core.Path.{sym, ap, subst}
 use lib.ListN.{length-take}
-use Rattle.text.proofs.Answers.{taken-over}
+use Rattle.text.proofs.Answers.{is-refusal}
 use Rattle.sheet_head.specs.SheetHead.{headSays}
+use Rattle.rule_rows.specs.Rules.{allLoweredSays}
 use Rattle.sheet.proofs.Answers.{when-headed, when-no-head}
 use Rattle.sheet.proofs.Wholes.{sheet-long, refused-head}
-use Rattle.sheet_opening.specs.declared.Opening.the-variants.{Refused}
 use Rattle.sheet_opening.specs.Ready.{SheetOpens}
 use Rattle.sheet_opening.specs.Ready.SheetOpens.{refused-at}
 use Rattle.sheet_opening.proofs.Sheets.{in-refused, begun, legible, rule-refused, more-follow, not-fitting, fitting}
@@ -27,13 +27,13 @@ enum-told : tie.Need-enum-told
 enum-told c = search needs
 
 refused-head-requires : tie.Need-refused-head-requires
-refused-head-requires c κs = search needs
+refused-head-requires c κs = is-refusal headSays (c .enum-told .given .1) tt
 
 same-length : tie.Need-same-length
 same-length c = search needs
 
 returns-2 : tie.Need-returns-2
-returns-2 c = let x = c .before .enum-told .given .1 in subst (SheetOpens _ _ _ _) (sym (taken-over headSays Refused (c .refused-head .ensures) x)) (refused-at (in-refused _ (refused-head _ (c .before .before .before .before .before .before .before .if1 .left) (when-no-head (c .before .before .before .before .before .head .ensures) x))))
+returns-2 c = let x = c .before .enum-told .given .1 in subst (SheetOpens _ _ _ _) (sym (c .refused-head .ensures _ _ (ap headSays x))) (refused-at (in-refused _ (refused-head _ (c .before .before .before .before .before .before .before .if1 .left) (when-no-head (c .before .before .before .before .before .head .ensures) x))))
 
 slice-reshare-prefix-lower-rules : tie.Need-slice-reshare-prefix-lower-rules
 slice-reshare-prefix-lower-rules c = let h = when-headed (c .before .before .before .before .before .head .ensures) (c .before .h .given .1) in omega (arith, h .1 .signals-high)
@@ -90,7 +90,7 @@ same-length-10 : tie.Need-same-length-10
 same-length-10 c = search needs
 
 returns-5 : tie.Need-returns-5
-returns-5 c = not-fitting (begun (c .before .before .before .before .before .before .before .before .before .before .before .before .before .before .before .before .before .before .before .head .ensures) (c .before .before .before .before .before .before .before .before .before .before .before .before .before .before .before .h .given .1) (c .before .before .before .before .before .before .before .before .before .before .before .before .before .before .before .before .before .before .before .before .before .if1 .left) (omega arith)) (c .before .before .before .before .before .before .before .before .before .before .lower-rules .ensures) (c .before .before .before .before .r .given .1) (c .before .before .if2 .left) (c .enum-told2 .given .1)
+returns-5 c = not-fitting (begun (c .before .before .before .before .before .before .before .before .before .before .before .before .before .before .before .before .before .before .before .head .ensures) (c .before .before .before .before .before .before .before .before .before .before .before .before .before .before .before .h .given .1) (c .before .before .before .before .before .before .before .before .before .before .before .before .before .before .before .before .before .before .before .before .before .if1 .left) (omega arith)) (c .before .before .before .before .before .before .before .before .before .before .lower-rules .ensures) (c .before .before .before .before .r .given .1) (c .before .before .if2 .left) (ap allLoweredSays (c .enum-told2 .given .1))
 
 same-length-11 : tie.Need-same-length-11
 same-length-11 c = search needs

@@ -2,13 +2,12 @@
 -- Assumes nothing.
 use borrow.Author.Needs.{needs}
 use native.Mathlib.Omega.{arith}
-use mathlib.Core.Path.{_≡_, refl, sym, subst, _∙_}
+use mathlib.Core.Path.{_≡_, refl, sym, ap, subst, _∙_}
 use Prim.Native.Nat.{_*_, _-_, _<_, _≤_}
 use lib.ListN.{length, length-set}
-use Rattle.lines.specs.declared.Step.the-variants.{Refused}
 use Rattle.names.specs.Words.{namesAt}
 use Rattle.names.proofs.Names.{names-many}
-use Rattle.text.proofs.Answers.{answered, taken-over}
+use Rattle.text.proofs.Answers.{answered, is-refusal}
 use Rattle.one_reading.specs.OneReading.{reading, readingOf}
 use Rattle.readings.specs.Noted.{marksIn, Notes}
 use Rattle.readings.specs.Noted.Notes.{all-noted, refused-at}
@@ -47,7 +46,7 @@ enum-told : tie.Need-enum-told Inv-loop μ-loop
 enum-told c = search needs
 
 refused-reading-requires : tie.Need-refused-reading-requires Inv-loop μ-loop
-refused-reading-requires c κs = search needs
+refused-reading-requires c κs = is-refusal readingOf (c .enum-told .given .1) tt
 
 same-length : tie.Need-same-length Inv-loop μ-loop
 same-length c = c .before .before .before .before .before .loop .inv .0
@@ -56,7 +55,7 @@ returns-2 : tie.Need-returns-2 Inv-loop μ-loop
 returns-2 c =
     let a = answered readingOf (c .before .before .before .reading-at .ensures) (c .before .enum-told .given .1) in
     let e = passed-off _ _ (c .before .before .before .before .before .loop .inv .2) (c .before .before .before .before .loop-test .taken) a in
-    subst (Notes _ _) (sym (taken-over readingOf Refused (c .refused-reading .ensures) (c .before .enum-told .given .1)))
+    subst (Notes _ _) (sym (c .refused-reading .ensures _ _ (ap readingOf (c .before .enum-told .given .1))))
     (refused-at _ _ (readings-short _ _ _ (c .before .before .before .before .before .before .if1 .left) ∙ e))
 
 number-of-requires : tie.Need-number-of-requires Inv-loop μ-loop

@@ -1,19 +1,22 @@
 -- `refused_reading` meets its contract. Assumes nothing.
 use borrow.Author.Needs.{needs}
+use mathlib.Core.Path.{sym}
+use Rattle.one_reading.specs.OneReading.{readingOf}
+use Rattle.text.proofs.Answers.{answered, is-refusal}
 use Rattle.readings.proofs.whole.refused_reading.Statement.{statement}
 use Rattle.readings.proofs.whole.refused_reading.Tie as tie
-
-enum-told : tie.Need-enum-told
-enum-told c = search needs
 
 enum-known-a : tie.Need-enum-known-a
 enum-known-a c = search needs
 
+enum-known-a-2 : tie.Need-enum-known-a-2
+enum-known-a-2 c = search needs
+
 returns : tie.Need-returns
-returns c = rw (c .enum-told .given .1)
+returns c = absurd (is-refusal readingOf (sym (c .before .a .given .1)) (c .before .before .before .pre))
 
 returns-2 : tie.Need-returns-2
-returns-2 c = rw (c .before .a .given .1)
+returns-2 c = λ n p g. let h = answered readingOf g (c .before .a2 .given .1) in cc
 
 pub refused-reading-spec : {M : Type 1} → statement M
-refused-reading-spec = tie.close (tie.spec enum-told enum-known-a returns returns-2)
+refused-reading-spec = tie.close (tie.spec enum-known-a enum-known-a-2 returns returns-2)
