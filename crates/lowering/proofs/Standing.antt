@@ -18,6 +18,7 @@ use Rattle.sheet.specs.Sheet.{rules}
 use Rattle.sheet.specs.Reading.{Rules}
 use Rattle.sheet.proofs.Ruled.{rules-many}
 use Rattle.rule_rows.specs.Rules.{allLoweredSays}
+use Rattle.rows.specs.Writes.{noRoom}
 use Rattle.rule_rows.specs.declared.rules.AllLowered.{AllLowered}
 use Rattle.rule_rows.specs.declared.rules.AllLowered.the-variants.{Next, Full}
 use Rattle.rule_rows.proofs.Spelled.{definings-length}
@@ -90,7 +91,7 @@ module _ (s places : List ℕ) (k first : ℕ) (g : Legible s places k first) wh
 of-place : {ws : List Written} {n h : ℕ} {m′ ts′ : List ℕ} {at used : ℕ} → Sized ws n h m′ ts′ (got at used) → InPlace ws n h at used m′ ts′
 of-place (fits k) = k
 
-of-over : {ws : List Written} {n h : ℕ} {m′ ts′ : List ℕ} → Sized ws n h m′ ts′ (refused 9 0) → (32 < h) ⊎ (1024 < n + h + total size (spelledAll ws n))
+of-over : {ws : List Written} {n h : ℕ} {m′ ts′ : List ℕ} → Sized ws n h m′ ts′ noRoom → (32 < h) ⊎ (1024 < n + h + total size (spelledAll ws n))
 of-over (over o) = o
 
 module _ {ws : List Written} {n h : ℕ} {m′ ts′ : List ℕ} {r : Read ℕ} (x : Sized ws n h m′ ts′ r) where
@@ -99,7 +100,7 @@ module _ {ws : List Written} {n h : ℕ} {m′ ts′ : List ℕ} {r : Read ℕ} 
   when-placed e = of-place (subst (Sized ws n h m′ ts′) e x)
 
   -- they are over their size
-  pub when-over : r ≡ refused 9 0 → (32 < h) ⊎ (1024 < n + h + total size (spelledAll ws n))
+  pub when-over : r ≡ noRoom → (32 < h) ⊎ (1024 < n + h + total size (spelledAll ws n))
   when-over e = of-over (subst (Sized ws n h m′ ts′) e x)
 
 of-stand : {R : Read (List Written)} {n : ℕ} {m′ ts′ : List ℕ} {h q : ℕ} {r : AllLowered} → RulesStand R n m′ ts′ (lines.Read h q r) → (w : Rules R h q) × Sized (w .all) n h m′ ts′ (allLoweredSays r)

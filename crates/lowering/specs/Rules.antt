@@ -13,6 +13,7 @@ use Rattle.tilco.specs.Formula.{Written}
 use Rattle.tilco.specs.Lowering.{size}
 use Rattle.sheet.specs.Reading.{Rules}
 use Rattle.rows.specs.Words.{Blank}
+use Rattle.rows.specs.Writes.{noRoom}
 use Rattle.rule_rows.specs.Rules.{LowersAll, allLoweredSays}
 use Rattle.rule_rows.specs.declared.rules.AllLowered.{AllLowered}
 use Rattle.rule_rows.specs.declared.rules.AllLowered.the-variants.{Next}
@@ -37,7 +38,7 @@ pub record InPlace (ws : List Written) (n h at used : ℕ) (m′ ts′ : List �
 -- They are, or they are over their size. "Over 32 hidden signals or 1,024 rows": 9 at 0.
 pub data Sized (ws : List Written) (n h : ℕ) (m′ ts′ : List ℕ) : Read ℕ → Type 0 where
   fits : {at used : ℕ} → InPlace ws n h at used m′ ts′ → Sized ws n h m′ ts′ (got at used)
-  over : (32 < h) ⊎ (1024 < n + h + total size (spelledAll ws n)) → Sized ws n h m′ ts′ (refused 9 0)
+  over : (32 < h) ⊎ (1024 < n + h + total size (spelledAll ws n)) → Sized ws n h m′ ts′ noRoom
 
 -- What each case of a sheet's rules says.
 pub data RulesStand (R : Read (List Written)) (n : ℕ) (m′ ts′ : List ℕ) : RuleLines → Type 0 where

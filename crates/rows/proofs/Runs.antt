@@ -43,7 +43,7 @@ extend : (ws vs : List ℕ) (t t′ b : ℕ) (m m₁ m₂ : List ℕ) (row u : �
 unfolding Wrote
 extend ws vs t t′ b m m₁ m₂ row u (Top row′ v) R k =
     (k .0, omega (arith, length-append ws vs), omega arith, k .3 ∙ rw (R .holds, R .next) (sets-append m b ws vs))
-extend ws vs t t′ b m m₁ m₂ row u Full R k = (omega (arith, length-append ws vs), k .1 ∙ R .long, refl, refl)
+extend ws vs t t′ b m m₁ m₂ row u Full R k = (omega (arith, length-append ws vs), k .1 ∙ R .long)
 
 pub and-then : (ws vs : List ℕ) (t t′ b : ℕ) (m m₁ m₂ : List ℕ) (r₁ : Lowered) (row u : ℕ) (r : Lowered)
     → r₁ ≡ Top row u → Wrote ws t b m m₁ r₁ → Wrote vs t′ u m₁ m₂ r → Wrote (ws ++ vs) t′ b m m₂ r
@@ -52,7 +52,7 @@ and-then ws vs t t′ b m m₁ m₂ r₁ row u r e h k = extend ws vs t t′ b m
 -- Where the first part does not fit, the whole does not.
 pub no-room : (ws vs : List ℕ) (t t′ b : ℕ) (m m₁ : List ℕ) (r₁ : Lowered) → r₁ ≡ Full → Wrote ws t b m m₁ r₁ → Wrote (ws ++ vs) t′ b m m₁ Full
 unfolding Wrote
-no-room ws vs t t′ b m m₁ r₁ e h = let k = rw e at h in (omega (arith, length-append ws vs), k .1, refl, refl)
+no-room ws vs t t′ b m m₁ r₁ e h = let k = rw e at h in (omega (arith, length-append ws vs), k .1)
 
 -- One word more fits.
 pub stored : (w b : ℕ) (m : List ℕ) → b < length m → Wrote (w ∷ []) b b m (set m b w) (Top b (b + 1))
@@ -62,7 +62,7 @@ stored w b m h = (refl, refl, omega arith, refl)
 -- It does not.
 pub not-stored : (w b : ℕ) (m : List ℕ) → length m ≤ b → Wrote (w ∷ []) b b m m Full
 unfolding Wrote
-not-stored w b m h = (omega arith, refl, refl, refl)
+not-stored w b m h = (omega arith, refl)
 
 -- Nothing is written.
 pub nothing : (t b : ℕ) (m : List ℕ) → b ≤ length m → Wrote [] t b m m (Top t b)
@@ -94,7 +94,7 @@ module _ (R : ℕ → List Node) (r : ℕ → Node) (start : R zero ≡ []) (nex
   -- They do not fit.
   pub run-full : (t n b : ℕ) (m : List ℕ) → length m < b + n → Wrote (map word (R n)) t b m m Full
   unfolding Wrote
-  run-full t n b m h = (omega (arith, run-length n), refl, refl, refl)
+  run-full t n b m h = (omega (arith, run-length n), refl)
 
 tab-snoc : (f : ℕ → Node) (n : ℕ) → tab f (suc n) ≡ tab f n ++ (f n ∷ [])
 tab-snoc f zero = refl

@@ -27,15 +27,19 @@ gates u i b n = tab (λ j. gate u (joined i b j) (i + suc j)) n
 unfoldable pub lastGate : ℕ → ℕ → ℕ → ℕ
 lastGate i b n = joined i b n
 
--- What each case of a writer's answer says: the top row, and the rows then used; or that there is no room, 9 at 0.
+-- "Over 32 hidden signals or 1,024 rows": what lowering says where there is no room is refusal 9, at 0.
+abbrev pub noRoom : Read ℕ
+noRoom = refused 9 0
+
+-- What each case of a writer's answer says: the top row, and the rows then used; or that there is no room.
 abbrev pub loweredSays : Lowered → Read ℕ
 loweredSays (Top row used) = got row used
-loweredSays Full = refused 9 0
+loweredSays Full = noRoom
 
 -- The words ws with the top row t: they stand from b on and nothing else has changed; or they do not fit.
 abbrev pub WroteAs : List ℕ → ℕ → ℕ → List ℕ → List ℕ → Read ℕ → Type 0
 WroteAs ws t b m m′ (got row used) = (row ≡ t) × (used ≡ b + length ws) × (used ≤ length m) × (m′ ≡ sets m b ws)
-WroteAs ws t b m m′ (refused n p) = (length m < b + length ws) × (length m′ ≡ length m) × (n ≡ 9) × (p ≡ 0)
+WroteAs ws t b m m′ (refused n p) = (length m < b + length ws) × (length m′ ≡ length m)
 
 -- So says the writer's answer.
 unfoldable pub Wrote : List ℕ → ℕ → ℕ → List ℕ → List ℕ → Lowered → Type 0

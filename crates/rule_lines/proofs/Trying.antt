@@ -9,8 +9,9 @@ use lib.ListN.{length, length-append}
 use Rattle.tilco.specs.Lowering.{BTL, size}
 use Rattle.tilco.proofs.Lists.{total-append}
 use Rattle.text.specs.Read.{Read}
-use Rattle.text.specs.Read.Read.{got, refused}
+use Rattle.text.specs.Read.Read.{got}
 use Rattle.rule_rows.specs.Rules.{LowersAll, allLoweredSays}
+use Rattle.rows.specs.Writes.{noRoom}
 use Rattle.rule_rows.specs.declared.rules.AllLowered.{AllLowered}
 use Rattle.rule_rows.specs.declared.rules.AllLowered.the-variants.{Next, Full}
 use Rattle.rule_rows.proofs.InTurn.{went-all, all-none, all-then}
@@ -34,11 +35,11 @@ room-next m ts r e h = subst (RoomIn m ts) (ap allLoweredSays e) h
 
 -- Others follow, ds.
 module _ (ds : List BTL) (m m′ ts ts′ : List ℕ) where
-  after-full : (cs : List BTL) (b : ℕ) (m₀ ts₀ : List ℕ) → Tried cs b m₀ m ts₀ ts (refused 9 0) → Tried (cs ++ ds) b m₀ m′ ts₀ ts′ (refused 9 0)
+  after-full : (cs : List BTL) (b : ℕ) (m₀ ts₀ : List ℕ) → Tried cs b m₀ m ts₀ ts noRoom → Tried (cs ++ ds) b m₀ m′ ts₀ ts′ noRoom
   after-full cs b m₀ ts₀ (full o) =
       full (⊎-elim (λ h. inl (omega (arith, h, total-append size cs ds))) (λ h. inr (omega (arith, h, length-append cs ds))) o)
 
-  no-tops : {at used : ℕ} → length ts < at + length ds → (cs : List BTL) (b : ℕ) (m₀ ts₀ : List ℕ) → Tried cs b m₀ m ts₀ ts (got at used) → Tried (cs ++ ds) b m₀ m′ ts₀ ts′ (refused 9 0)
+  no-tops : {at used : ℕ} → length ts < at + length ds → (cs : List BTL) (b : ℕ) (m₀ ts₀ : List ℕ) → Tried cs b m₀ m ts₀ ts (got at used) → Tried (cs ++ ds) b m₀ m′ ts₀ ts′ noRoom
   no-tops {at} {used} h cs b m₀ ts₀ (went l w) =
       let g = went-all cs b m₀ m 0 ts₀ ts (Next at used) w at used refl in
       full (inr (omega (arith, h, g .tops, g .wide, length-append cs ds)))

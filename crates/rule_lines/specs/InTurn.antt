@@ -13,6 +13,7 @@ use Rattle.tilco.specs.Formula.{Written, hiddens, spelled}
 use Rattle.tilco.specs.Lowering.{BTL, size, lows}
 use Rattle.sheet.specs.Reading.{Rules}
 use Rattle.rule_rows.specs.Rules.{LowersAll, allLoweredSays}
+use Rattle.rows.specs.Writes.{noRoom}
 use Rattle.rule_rows.specs.declared.rules.AllLowered.{AllLowered}
 use Rattle.rule_rows.specs.declared.rules.AllLowered.the-variants.{Next}
 use Rattle.rule_lines.specs.declared.RuleLines.{RuleLines}
@@ -29,10 +30,10 @@ pub record Legible (s places : List ℕ) (m p : ℕ) : Type 0 where
 abbrev pub spelledAll : List Written → ℕ → List BTL
 spelledAll ws n = lows (laid hiddens spelled ws n)
 
--- The formulas cs are lowered, from row b and from the first top on; or there is no room for their rows or for their tops: 9 at 0.
+-- The formulas cs are lowered, from row b and from the first top on; or there is no room for their rows or for their tops.
 pub data Tried (cs : List BTL) (b : ℕ) (m m′ ts ts′ : List ℕ) : Read ℕ → Type 0 where
   went : {at used : ℕ} → length cs ≤ length ts → LowersAll cs b m m′ 0 ts ts′ (Next at used) → Tried cs b m m′ ts ts′ (got at used)
-  full : (length m < b + total size cs) ⊎ (length ts < length cs) → Tried cs b m m′ ts ts′ (refused 9 0)
+  full : (length m < b + total size cs) ⊎ (length ts < length cs) → Tried cs b m m′ ts ts′ noRoom
 
 -- What is lowered has its rows in the buffer and its tops among the tops.
 abbrev pub RoomIn : List ℕ → List ℕ → Read ℕ → Type 0

@@ -64,7 +64,7 @@ module _ (c : BTL) (b : ℕ) (m m₁ : List ℕ) (k : ℕ) (ts : List ℕ) (r : 
   unfolding LowersAll Lowers Wrote
   one-full e =
       let h = rw e at w in
-      (omega (arith, h .0, length-map (rowsOf c b) word, length-rows c b), h .1, refl, refl)
+      (omega (arith, h .0, length-map (rowsOf c b) word, length-rows c b), h .1)
 
   pub one-then : (row u : ℕ) → r ≡ Top row u → LowersAll (c ∷ []) b m m₁ k ts (set ts k row) (Next (k + 1) u)
   unfolding LowersAll Lowers Wrote
@@ -81,7 +81,7 @@ module _ (c : BTL) (b : ℕ) (m m₁ : List ℕ) (k : ℕ) (ts : List ℕ) (r : 
 module _ (cs ds : List BTL) (b : ℕ) (m m₁ : List ℕ) (k : ℕ) (ts ts₁ : List ℕ) (r₁ : AllLowered) (w : LowersAll cs b m m₁ k ts ts₁ r₁) where
   pub all-full : (ts₂ : List ℕ) → r₁ ≡ Full → LowersAll (cs ++ ds) b m m₁ k ts ts₂ Full
   unfolding LowersAll
-  all-full ts₂ e = let h = rw e at w in (omega (arith, h .0, total-append size cs ds), h .1, refl, refl)
+  all-full ts₂ e = let h = rw e at w in (omega (arith, h .0, total-append size cs ds), h .1)
 
   module _ (at u : ℕ) (e : r₁ ≡ Next at u) (m₂ ts₂ : List ℕ) where
     abbrev W : WentAll cs b m m₁ k ts ts₁ at u
@@ -110,7 +110,7 @@ module _ (cs ds : List BTL) (b : ℕ) (m m₁ : List ℕ) (k : ℕ) (ts ts₁ : 
             ap₂ (λ (l : List ℕ) (i : ℕ). sets l i (topsAll ds u)) (W .holds) n
             ∙ sets-append ts k (topsAll cs b) (topsAll ds u)
             ∙ ap (sets ts k) (sym (laid-append size (λ c i. topOf c i ∷ []) cs ds b u (W .next)))
-    all-then Full h = (omega (arith, h .0, W .next, W .long, total-append size cs ds), h .1 ∙ W .long, refl, refl)
+    all-then Full h = (omega (arith, h .0, W .next, W .long, total-append size cs ds), h .1 ∙ W .long)
 
 -- A formula was tried, and none follows.
 pub one-alone : (f : Formula) (fs : List Formula) → length fs ≡ 0 → (b : ℕ) (m m₁ : List ℕ) (k : ℕ) (ts ts₁ : List ℕ) (r : AllLowered)

@@ -10,19 +10,20 @@ use Rattle.text.specs.Read.Read.{got, refused}
 use Rattle.tilco.specs.Lists.{total}
 use Rattle.tilco.specs.Lowering.{BTL, size, rowsAll, topsAll}
 use Rattle.rows.specs.Words.{word}
+use Rattle.rows.specs.Writes.{noRoom}
 use Rattle.rule_rows.specs.declared.rules.AllLowered.{AllLowered}
 use Rattle.rule_rows.specs.declared.rules.AllLowered.the-variants.{Next, Full}
 
--- What each case of an answer says: the tops and the rows then used; or that there is no room, 9 at 0.
+-- What each case of an answer says: the tops and the rows then used; or that there is no room.
 abbrev pub allLoweredSays : AllLowered → Read ℕ
 allLoweredSays (Next at used) = got at used
-allLoweredSays Full = refused 9 0
+allLoweredSays Full = noRoom
 
 -- The formulas' rows stand in m′ from b on and their tops in ts′ from k on, and nothing else has changed; or the rows do not fit.
 abbrev pub LowersAllAs : List BTL → ℕ → List ℕ → List ℕ → ℕ → List ℕ → List ℕ → Read ℕ → Type 0
 LowersAllAs cs b m m′ k ts ts′ (got at used) =
     (at ≡ k + length cs) × (used ≡ b + total size cs) × (used ≤ length m) × (m′ ≡ sets m b (map word (rowsAll cs b))) × (ts′ ≡ sets ts k (topsAll cs b))
-LowersAllAs cs b m m′ k ts ts′ (refused n p) = (length m < b + total size cs) × (length m′ ≡ length m) × (n ≡ 9) × (p ≡ 0)
+LowersAllAs cs b m m′ k ts ts′ (refused n p) = (length m < b + total size cs) × (length m′ ≡ length m)
 
 -- So says the answer.
 unfoldable pub LowersAll : List BTL → ℕ → List ℕ → List ℕ → ℕ → List ℕ → List ℕ → AllLowered → Type 0

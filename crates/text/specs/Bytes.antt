@@ -50,7 +50,7 @@ letter b = between (byte "a") (byte "z") b
 abbrev pub digit : ℕ → Bool
 digit b = between (byte "0") (byte "9") b
 
--- The class of a byte that may start a token.
+-- The class of a byte: tokens are made of letters, digits, brackets and signs.
 unfoldable pub classOf : ℕ → Class
 classOf b =
     pick (letter b) (λ _. Letter)

@@ -4,7 +4,7 @@ ghost use Prim.Native.Nat.{_+_, _≤_};
 ghost use lib.ListN.{length};
 ghost use Rattle.text.specs.Bytes.{peek, classOf, nameByte, starts};
 
-// The class of a byte that may start a token.
+// The classes of bytes: those that tokens are made of, and all others.
 pub enum Class {
     Letter,
     Digit,
