@@ -1,4 +1,4 @@
-//! The calls that the gate runs and compares, made once more through the static library: `crates/operation_runs/stdout` has each call with its answer.
+//! The calls that the gate runs and compares, made once more through the static library: `crates/run_operations/stdout` has each call with its answer.
 
 use mikhakun::{add, ask, check, Refusal, Table};
 
@@ -11,7 +11,7 @@ struct Entry {
 }
 
 fn entries() -> Vec<Entry> {
-    let file = concat!(env!("CARGO_MANIFEST_DIR"), "/../crates/operation_runs/stdout");
+    let file = concat!(env!("CARGO_MANIFEST_DIR"), "/../crates/run_operations/stdout");
     let text = std::fs::read_to_string(file).unwrap();
     let mut entries: Vec<Entry> = Vec::new();
     for line in text.lines() {

@@ -1,7 +1,7 @@
 // What the programs share whose instructions are counted: a file's bytes, what the arguments ask for, and a table emptied. Assumes nothing.
-use names::word_is;
-use text::numbers::Number;
-use text::numbers::number_at;
+use read_bytes::numbers::Number;
+use read_bytes::numbers::number_at;
+use read_names::word_is;
 ghost use Rattle.io.specs.Counts.{Counts};
 
 // The file's bytes at the start of the buffer, as far as they fit: how many.

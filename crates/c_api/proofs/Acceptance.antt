@@ -5,19 +5,19 @@ use mathlib.Core.Bool.{Bool, true, false}
 use mathlib.Core.List.{List}
 use mathlib.Core.Logic.{_↔_}
 use Prim.Native.Nat.{ℕ}
-use Rattle.text.specs.Read.{Read}
-use Rattle.text.specs.Read.Read.{got, refused as unread}
-use Rattle.text.specs.Bytes.{pick}
-use Rattle.tilco.specs.Table.{Answer}
-use Rattle.sheet.specs.Sheet.{Contents, sheetOf, meant}
-use Rattle.sheet_opening.specs.Results.{Result, accepted, refused}
-use Rattle.operations.specs.Results.{Gain}
-use Rattle.sheet_opening.specs.SheetIn.{fits, sized, sheetIn, namesIn}
-use Rattle.opening.specs.Opening.{Opens}
-use Rattle.opening.specs.Opening.Opens.{both, not-the-sheet, not-the-length, not-inside}
-use Rattle.operations.specs.Operations.{counted, checked, Adds, Asks}
-use Rattle.operations.specs.Operations.Adds.{not-opened, not-read, added}
-use Rattle.operations.specs.Operations.Asks.{not-opened as not-asked, out-of-range, asked}
+use Rattle.read_bytes.specs.Read.{Read}
+use Rattle.read_bytes.specs.Read.Read.{got, refused as unread}
+use Rattle.read_bytes.specs.Bytes.{pick}
+use Rattle.spec_tilco.specs.Table.{Answer}
+use Rattle.read_sheet.specs.Sheet.{Contents, sheetOf, meant}
+use Rattle.open_sheet.specs.Results.{Result, accepted, refused}
+use Rattle.spec_operations.specs.Results.{Gain}
+use Rattle.open_sheet.specs.SheetIn.{fits, sized, sheetIn, namesIn}
+use Rattle.open_table.specs.Opening.{Opens}
+use Rattle.open_table.specs.Opening.Opens.{both, not-the-sheet, not-the-length, not-inside}
+use Rattle.spec_operations.specs.Operations.{counted, checked, Adds, Asks}
+use Rattle.spec_operations.specs.Operations.Adds.{not-opened, not-read, added}
+use Rattle.spec_operations.specs.Operations.Asks.{not-opened as not-asked, out-of-range, asked}
 use Rattle.c_api.specs.Leaves.{Left, left, leaves, rowValues, gainValues, answerValues, CheckLeaves, AddLeaves, AskLeaves}
 use Rattle.c_api.proofs.Numbers.{Listed, Numbered, sheet-numbered, readings-numbered}
 

@@ -3,7 +3,7 @@
 use mathlib.Core.Path.{_≡_, sym, ap, _∙_}
 use mathlib.Core.List.{List}
 use Prim.Native.Nat.{ℕ}
-use Rattle.operations.proofs.Determined.{adds-one, asks-one}
+use Rattle.spec_operations.proofs.Determined.{adds-one, asks-one}
 use Rattle.c_api.specs.Leaves.{Left, leaves, gainValues, answerValues, CheckLeaves, AddLeaves, AskLeaves}
 
 module _ (s : List ℕ) (place : ℕ) (before : List ℕ) {l l′ : Left} where

@@ -6,27 +6,27 @@ use mathlib.Core.Option.{Option, none, some}
 use Prim.Native.Nat.{ℕ, zero, suc, _+_, _-_}
 use lib.Dec.{T, ltb, leb, eqb}
 use lib.ListN.{length, take}
-use Rattle.text.specs.declared.bytes.Class.{Class}
-use Rattle.text.specs.declared.bytes.Class.the-variants.{Letter, Digit, Sign, Bracket, Other}
-use Rattle.names.specs.declared.Word.{Word}
-use Rattle.names.specs.declared.Word.the-variants as word
-use Rattle.text.specs.declared.numbers.Number.{Number}
-use Rattle.text.specs.declared.numbers.Number.the-variants.{Value, Missing}
-use Rattle.text.specs.Read.{Read, andThen}
-use Rattle.text.specs.Read.Read.{got, refused}
-use Rattle.text.specs.Bytes.{byte, bytes, peek, pick, between, oneOf, classOf, starts}
-use Rattle.names.specs.Words.{wordAt, wordEnd, namesAt, findName, isWord, nameAt}
-use Rattle.text.specs.Numbers.{number}
-use Rattle.lines.specs.Lines.{lineEnd, line, wholeNumber, wholeName, numberLine, rangedLine, nameLine, inTurn, upTo}
-use Rattle.tilco.specs.Formula.{Op, And, Or, Implies, Iff, Written}
-use Rattle.intervals.specs.declared.Span.{Span}
-use Rattle.intervals.specs.declared.Span.the-variants as span
-use Rattle.intervals.specs.Interval.{endAt, endThen, endAfter, near, leftOut, spanOf, closeAt, commaAt, interval}
-use Rattle.formula.specs.Grammar.{Reader, declared, spanThen, times, timedPart, signText, repeats, more, level, formula, negated, closed, inParens, second, arguments, kept, worded, plainBy, plainIn, inside, plain, rule}
-use Rattle.sheet_head.specs.SheetHead.{signalLine, headOf, head}
-use Rattle.sheet.specs.Sheet.{ruleTo, ruleLine, rules, contents, sheetOf}
-use Rattle.one_reading.specs.OneReading.{knownLine, reading}
-use Rattle.readings.specs.Readings.{readings}
+use Rattle.read_bytes.specs.declared.bytes.Class.{Class}
+use Rattle.read_bytes.specs.declared.bytes.Class.the-variants.{Letter, Digit, Sign, Bracket, Other}
+use Rattle.read_names.specs.declared.Word.{Word}
+use Rattle.read_names.specs.declared.Word.the-variants as word
+use Rattle.read_bytes.specs.declared.numbers.Number.{Number}
+use Rattle.read_bytes.specs.declared.numbers.Number.the-variants.{Value, Missing}
+use Rattle.read_bytes.specs.Read.{Read, andThen}
+use Rattle.read_bytes.specs.Read.Read.{got, refused}
+use Rattle.read_bytes.specs.Bytes.{byte, bytes, peek, pick, between, oneOf, classOf, starts}
+use Rattle.read_names.specs.Words.{wordAt, wordEnd, namesAt, findName, isWord, nameAt}
+use Rattle.read_bytes.specs.Numbers.{number}
+use Rattle.read_lines.specs.Lines.{lineEnd, line, wholeNumber, wholeName, numberLine, rangedLine, nameLine, inTurn, upTo}
+use Rattle.spec_tilco.specs.Formula.{Op, And, Or, Implies, Iff, Written}
+use Rattle.read_interval.specs.declared.Span.{Span}
+use Rattle.read_interval.specs.declared.Span.the-variants as span
+use Rattle.read_interval.specs.Interval.{endAt, endThen, endAfter, near, leftOut, spanOf, closeAt, commaAt, interval}
+use Rattle.read_parts.specs.Grammar.{Reader, declared, spanThen, times, timedPart, signText, repeats, more, level, formula, negated, closed, inParens, second, arguments, kept, worded, plainBy, plainIn, inside, plain, rule}
+use Rattle.read_head.specs.SheetHead.{signalLine, headOf, head}
+use Rattle.read_sheet.specs.Sheet.{ruleTo, ruleLine, rules, contents, sheetOf}
+use Rattle.read_reading.specs.OneReading.{knownLine, reading}
+use Rattle.read_readings.specs.Readings.{readings}
 
 -- Is n a refusal's number?
 abbrev pub Listed : ℕ → Type 0

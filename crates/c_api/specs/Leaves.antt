@@ -4,10 +4,10 @@ use mathlib.Core.Path.{_≡_}
 use mathlib.Core.Bool.{true, false}
 use mathlib.Core.List.{List, [], _∷_}
 use Prim.Native.Nat.{ℕ}
-use Rattle.tilco.specs.Table.{Answer, Unsettled, True, False, Contradiction}
-use Rattle.sheet_opening.specs.Results.{Result, accepted, refused}
-use Rattle.operations.specs.Results.{Gain, gain}
-use Rattle.operations.specs.Operations.{checked, Adds, Asks}
+use Rattle.spec_tilco.specs.Table.{Answer, Unsettled, True, False, Contradiction}
+use Rattle.open_sheet.specs.Results.{Result, accepted, refused}
+use Rattle.spec_operations.specs.Results.{Gain, gain}
+use Rattle.spec_operations.specs.Operations.{checked, Adds, Asks}
 
 -- The number answered, what stands at `place`, and what stands at the other places, in the order of the parameters.
 pub data Left : Type 0 where

@@ -1,15 +1,15 @@
 // check, add and ask for C and for languages that call C; include/mikhakun.h declares them. They assume nothing of the texts, the table and the numbers.
 // A caller lends memory of the length given behind each pointer, and no two of one call overlap.
-use adding::Adding;
-use adding::add;
-use asking::Asking;
-use asking::ask;
-use checking::Checking;
-use checking::check;
-use table::Value;
+use op_add::Adding;
+use op_add::add;
+use op_ask::Asking;
+use op_ask::ask;
+use op_check::Checking;
+use op_check::check;
+use table_marks::Value;
 ghost use mathlib.Core.Path.{_≡_};
 ghost use mathlib.Core.List.{[], _∷_};
-ghost use Rattle.table.specs.Values.{valueSays};
+ghost use Rattle.table_marks.specs.Values.{valueSays};
 ghost use Rattle.c_api.specs.Leaves.{left, answerValues, CheckLeaves, AddLeaves, AskLeaves};
 
 // Checks the sheet: 0 and the row count, or a refusal's number and its place.

@@ -7,9 +7,9 @@ use native.Mathlib.Omega.{arith}
 use lib.ListN.{length}
 use lib.Seq.{length-take-le}
 use Rattle.io.specs.Counts.{Counts}
-use Rattle.lines.specs.Lines.{inLine, lineEnd}
-use Rattle.text.proofs.Places.{Reach}
-use Rattle.text.proofs.Runs.{end-reach}
+use Rattle.read_lines.specs.Lines.{inLine, lineEnd}
+use Rattle.read_bytes.proofs.Places.{Reach}
+use Rattle.read_bytes.proofs.Runs.{end-reach}
 
 -- A line ends in its text.
 pub line-reach : (s : List ℕ) (p e : ℕ) → p < length s → e ≡ lineEnd s p → Reach s p e

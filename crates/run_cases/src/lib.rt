@@ -1,12 +1,12 @@
 // A program's table of cases: texts under headings. A heading is a line of `=== `, a word and what the case shows. Assumes nothing of the cases.
 // `-` after the word leaves out the text's last LF, and `*` with a number repeats the text so often.
 use libc::STDOUT_FILENO;
-use lines::line_end;
-use names::word_end;
-use text::bytes::byte_at;
-use text::bytes::starts_at;
-use text::numbers::Number;
-use text::numbers::number_at;
+use read_bytes::bytes::byte_at;
+use read_bytes::bytes::starts_at;
+use read_bytes::numbers::Number;
+use read_bytes::numbers::number_at;
+use read_lines::line_end;
+use read_names::word_end;
 ghost use Prim.Native.Nat.{_<_, _≤_};
 ghost use lib.ListN.{length};
 ghost use Rattle.io.specs.Counts.{Counts};

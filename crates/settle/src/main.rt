@@ -1,7 +1,7 @@
 // Prints the listing of the sheet and the readings in the current folder, sheet.txt and readings.txt. A file that can't be read counts as
 // empty; of a file over a text's length, enough is read to see that it is.
 use libc::STDOUT_FILENO;
-use settling::settle;
+use list_settled::settle;
 ghost use Rattle.io.specs.Counts.{Counts};
 
 // The file's bytes at the start of the buffer, as far as they fit: how many.

@@ -11,13 +11,13 @@ use lib.Arith.{digits-div}
 use lib.Bits.{bitOr, bitXor, or-lt, or-comm, xor-self, xor-add-and, and-le-l, and-le-r}
 use lib.ListN.{length, getD, set, length-set}
 use lib.Seq.{set-getD, getD-set-same, getD-set-other}
-use Rattle.ticks.specs.Ticks.{block}
-use Rattle.ticks.proofs.Bits.{lt-or-ge, or-ge}
-use Rattle.ticks.proofs.Tables.{block-apart}
-use Rattle.tilco.specs.Inference.{Mark, mark, Marks, _or_}
-use Rattle.tilco.specs.Table.{Stands}
-use Rattle.table.proofs.Marks.{gains-then, word-joined}
-use Rattle.table.specs.Puts.{Gains}
+use Rattle.spec_ticks.specs.Ticks.{block}
+use Rattle.spec_ticks.proofs.Bits.{lt-or-ge, or-ge}
+use Rattle.spec_ticks.proofs.Tables.{block-apart}
+use Rattle.spec_tilco.specs.Inference.{Mark, mark, Marks, _or_}
+use Rattle.spec_tilco.specs.Table.{Stands}
+use Rattle.table_marks.proofs.Marks.{gains-then, word-joined}
+use Rattle.table_marks.specs.Puts.{Gains}
 use Rattle.table_words.specs.Gains.{Ticks, Here, Sides, Reads, Bits, room, Joins}
 use Rattle.table_words.proofs.OneWord.{read-ticks}
 

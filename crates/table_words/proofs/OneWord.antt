@@ -9,12 +9,12 @@ use native.Mathlib.Omega.{arith}
 use lib.Bits.{bitAnd, bitOr}
 use lib.ListN.{getD}
 use lib.Pow.{ones-lt, ones-split, high}
-use Rattle.ticks.specs.Ticks.{bit, Has, block}
-use Rattle.ticks.proofs.Bits.{lt-or-ge, bit-shr, bit-low, bit-mask, has-below, and-in, and-out, or-left, or-right, or-out}
-use Rattle.ticks.proofs.Shifts.{bit-up, bit-under}
-use Rattle.ticks.proofs.Tables.{in-to, in-from}
-use Rattle.tilco.specs.Inference.{mark}
-use Rattle.tilco.specs.Table.{Stands}
+use Rattle.spec_ticks.specs.Ticks.{bit, Has, block}
+use Rattle.spec_ticks.proofs.Bits.{lt-or-ge, bit-shr, bit-low, bit-mask, has-below, and-in, and-out, or-left, or-right, or-out}
+use Rattle.spec_ticks.proofs.Shifts.{bit-up, bit-under}
+use Rattle.spec_ticks.proofs.Tables.{in-to, in-from}
+use Rattle.spec_tilco.specs.Inference.{mark}
+use Rattle.spec_tilco.specs.Table.{Stands}
 use Rattle.table_words.specs.Gains.{Ticks, Both, Apart}
 
 -- A word moved up by k, as the code does it: the bits that leave it are dropped.

@@ -4,7 +4,7 @@ use mathlib.Core.Bool.{Bool, true, false}
 use Prim.Native.Nat.{ℕ, suc, _+_, _*_}
 use native.Mathlib.Nat.{suc-mul}
 use native.Mathlib.Omega.{arith}
-use Rattle.ticks.specs.Ticks.{block}
+use Rattle.spec_ticks.specs.Ticks.{block}
 
 -- A row's words are two blocks of n.
 pub two-blocks : (n row : ℕ) → 2 * (row + 1) * n ≡ 2 * row * n + n + n

@@ -6,10 +6,10 @@ use mathlib.Core.List.{List, [], _∷_}
 use mathlib.Core.Logic.{_↔_}
 use Prim.Native.Nat.{ℕ, _+_, _-_, _*_, _/_, _%_, _^_, _≤_, _<_}
 use lib.ListN.{length}
-use Rattle.ticks.specs.Ticks.{Has}
-use Rattle.tilco.specs.Inference.{mark, Marks, _or_}
-use Rattle.tilco.specs.Table.{Stands}
-use Rattle.table.specs.Puts.{Gains}
+use Rattle.spec_ticks.specs.Ticks.{Has}
+use Rattle.spec_tilco.specs.Inference.{mark, Marks, _or_}
+use Rattle.spec_tilco.specs.Table.{Stands}
+use Rattle.table_marks.specs.Puts.{Gains}
 
 -- The table has row r.
 abbrev pub HasRow : ℕ → List ℕ → ℕ → Type 0

@@ -3,7 +3,7 @@
 ghost use mathlib.Core.Path.{_≡_};
 ghost use Prim.Native.Nat.{_+_, _*_, _^_, _<_};
 ghost use lib.ListN.{getD};
-ghost use Rattle.ticks.specs.Ticks.{block};
+ghost use Rattle.spec_ticks.specs.Ticks.{block};
 ghost use Rattle.table_words.specs.Gains.{HasRow, Ticks, Here, Sides, Reads, Bits, Joins};
 
 // The place of word q of a row's marks of one value.

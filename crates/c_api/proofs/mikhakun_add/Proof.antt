@@ -1,10 +1,10 @@
 -- `mikhakun_add` meets its contract. Assumes nothing.
 use mathlib.Core.Path.{refl, ap, subst}
 use denote.Ref.{now}
-use Rattle.sheet_opening.specs.Results.{accepted, refused}
-use Rattle.operations.specs.Results.{gain}
-use Rattle.adding.specs.Results.{addingSays}
-use Rattle.operations.specs.Operations.{Adds}
+use Rattle.open_sheet.specs.Results.{accepted, refused}
+use Rattle.spec_operations.specs.Results.{gain}
+use Rattle.op_add.specs.Results.{addingSays}
+use Rattle.spec_operations.specs.Operations.{Adds}
 use Rattle.c_api.specs.Leaves.{left}
 use Rattle.c_api.proofs.Written.{gain-written}
 use borrow.Author.Needs.{needs}

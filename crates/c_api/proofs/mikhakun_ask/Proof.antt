@@ -1,10 +1,10 @@
 -- `mikhakun_ask` meets its contract. Assumes nothing.
 use mathlib.Core.Path.{refl, ap, subst}
 use denote.Ref.{now}
-use Rattle.table.specs.Values.{valueSays}
-use Rattle.sheet_opening.specs.Results.{accepted, refused}
-use Rattle.asking.specs.Results.{askingSays}
-use Rattle.operations.specs.Operations.{Asks}
+use Rattle.table_marks.specs.Values.{valueSays}
+use Rattle.open_sheet.specs.Results.{accepted, refused}
+use Rattle.op_ask.specs.Results.{askingSays}
+use Rattle.spec_operations.specs.Operations.{Asks}
 use Rattle.c_api.specs.Leaves.{left}
 use borrow.Author.Needs.{needs}
 use Rattle.c_api.proofs.mikhakun_ask.Statement.{statement}

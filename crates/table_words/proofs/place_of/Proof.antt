@@ -1,7 +1,7 @@
 -- `place_of` meets its contract. Assumes nothing.
 use native.Mathlib.Omega.{arith}
 use native.Mathlib.Nat.{le-refl}
-use Rattle.table.proofs.Marks.{row-fits}
+use Rattle.table_marks.proofs.Marks.{row-fits}
 use Rattle.table_words.proofs.Places.{two-blocks, first-block, second-block}
 use Rattle.table_words.proofs.place_of.Statement.{statement}
 use Rattle.table_words.proofs.place_of.Tie as tie

@@ -1,0 +1,53 @@
+-- `read_sheet` is safe and ends. Assumes nothing.
+use native.Mathlib.Omega.{arith}
+use lib.ListN.{length-take}
+use Rattle.read_sheet.proofs.Answers.{when-headed}
+use Rattle.open_sheet.proofs.Sheets.{begun, legible}
+use borrow.Author.Needs.{needs}
+use Rattle.bench_operations.proofs.reading.read_sheet.Statement.{statement}
+use Rattle.bench_operations.proofs.reading.read_sheet.Tie as tie
+
+returns : tie.Need-returns
+returns c = search needs
+
+slice-aggregate-head : tie.Need-slice-aggregate-head
+slice-aggregate-head c = search needs
+
+head-requires : tie.Need-head-requires
+head-requires c κs = search needs
+
+enum-known-h : tie.Need-enum-known-h
+enum-known-h c = search needs
+
+array-share-prefix-places : tie.Need-array-share-prefix-places
+array-share-prefix-places c = let h = when-headed (c .before .before .before .before .head .ensures) (c .before .h .given .1) in omega (arith, h .1 .signals-high)
+
+slice-aggregate-read-lines : tie.Need-slice-aggregate-read-lines
+slice-aggregate-read-lines c = let h = when-headed (c .before .before .before .before .before .head .ensures) (c .before .before .h .given .1) in simp length-take (omega (arith, h .1 .signals-high))
+
+read-lines-requires : tie.Need-read-lines-requires
+read-lines-requires c κs = legible (begun (c .before .before .before .before .before .head .ensures) (c .before .before .h .given .1) (c .before .before .before .before .before .before .before .if1 .left) (omega arith))
+
+enum-known-h-2 : tie.Need-enum-known-h-2
+enum-known-h-2 c = search needs
+
+returns-2 : tie.Need-returns-2
+returns-2 c = search needs
+
+returns-3 : tie.Need-returns-3
+returns-3 c = search needs
+
+pub read-sheet-spec : {M : Type 1} → statement M
+read-sheet-spec =
+    tie.close
+    (tie.spec
+    returns
+    slice-aggregate-head
+    head-requires
+    enum-known-h
+    array-share-prefix-places
+    slice-aggregate-read-lines
+    read-lines-requires
+    enum-known-h-2
+    returns-2
+    returns-3)

@@ -1,0 +1,70 @@
+-- `take` is safe and ends. Assumes nothing.
+use native.Mathlib.Omega.{arith}
+use mathlib.Core.Path.{refl, sym}
+use lib.ListN.{length-take}
+use Rattle.open_table.proofs.Tables.{when-hand, one-word}
+use Rattle.spec_operations.proofs.Opened.{no-rows, some-window, signals-few, signals-fit}
+use borrow.Author.Needs.{needs}
+use Rattle.bench_operations.proofs.taking.take.Statement.{statement}
+use Rattle.bench_operations.proofs.taking.take.Tie as tie
+
+slice-aggregate-open-table : tie.Need-slice-aggregate-open-table
+slice-aggregate-open-table c = search needs
+
+slice-aggregate-open-table-2 : tie.Need-slice-aggregate-open-table-2
+slice-aggregate-open-table-2 c = search needs
+
+slice-aggregate-open-table-3 : tie.Need-slice-aggregate-open-table-3
+slice-aggregate-open-table-3 c = search needs
+
+open-table-requires : tie.Need-open-table-requires
+open-table-requires c κs = (refl, refl, no-rows 1024, refl)
+
+enum-known-o : tie.Need-enum-known-o
+enum-known-o c = search needs
+
+array-share-prefix-places : tie.Need-array-share-prefix-places
+array-share-prefix-places c = let h = when-hand (c .before .before .before .before .before .before .open-table .ensures) (c .before .o .given .1) in omega (arith, h .0)
+
+slice-aggregate-take-opened : tie.Need-slice-aggregate-take-opened
+slice-aggregate-take-opened c = let h = when-hand (c .before .before .before .before .before .before .before .open-table .ensures) (c .before .before .o .given .1) in simp length-take (omega (arith, h .0))
+
+take-opened-requires : tie.Need-take-opened-requires
+take-opened-requires c κs =
+    let h = when-hand (c .before .before .before .before .before .before .before .before .open-table .ensures) (c .before .before .before .o .given .1) .1 in
+    let w = some-window h _ refl in
+    let n = sym (one-word _ (w .0) (w .1)) in
+    (w .0, w .1, signals-few h 1 n .0, omega (arith, signals-fit h 1 n .0))
+
+enum-known-o-2 : tie.Need-enum-known-o-2
+enum-known-o-2 c = search needs
+
+same-length : tie.Need-same-length
+same-length c = search needs
+
+returns : tie.Need-returns
+returns c = search needs
+
+same-length-2 : tie.Need-same-length-2
+same-length-2 c = search needs
+
+returns-2 : tie.Need-returns-2
+returns-2 c = search needs
+
+pub take-spec : {M : Type 1} → statement M
+take-spec =
+    tie.close
+    (tie.spec
+    slice-aggregate-open-table
+    slice-aggregate-open-table-2
+    slice-aggregate-open-table-3
+    open-table-requires
+    enum-known-o
+    array-share-prefix-places
+    slice-aggregate-take-opened
+    take-opened-requires
+    enum-known-o-2
+    same-length
+    returns
+    same-length-2
+    returns-2)

@@ -1,0 +1,48 @@
+-- `take_opened` is safe and ends. Assumes nothing.
+use native.Mathlib.Omega.{arith}
+use mathlib.Core.Path.{_∙_}
+use Rattle.open_table.proofs.Tables.{one-word}
+use borrow.Author.Needs.{needs}
+use Rattle.bench_operations.proofs.taking.take_opened.Statement.{statement}
+use Rattle.bench_operations.proofs.taking.take_opened.Tie as tie
+
+words-of-requires : tie.Need-words-of-requires
+words-of-requires c κs = search needs
+
+count-facts-requires : tie.Need-count-facts-requires
+count-facts-requires c κs = let n = c .before .words-of .ensures ∙ one-word _ (c .before .before .before .before .before .before .pre .0) (c .before .before .before .before .before .before .pre .1) in rw n (omega arith, omega (arith, c .before .before .before .before .before .before .pre .3), omega (arith, c .before .before .before .before .before .before .pre .2))
+
+take-readings-requires : tie.Need-take-readings-requires
+take-readings-requires c κs = let n = c .before .before .before .words-of .ensures ∙ one-word _ (c .before .before .before .before .before .before .before .before .pre .0) (c .before .before .before .before .before .before .before .before .pre .1) in rw n (c .before .before .before .before .before .before .before .before .pre .0, omega (arith, c .before .before .before .before .before .before .before .before .pre .1), omega (arith, c .before .before .before .before .before .before .before .before .pre .1), c .before .before .before .before .before .before .before .before .pre .2, omega (arith, c .before .before .before .before .before .before .before .before .pre .3))
+
+enum-told : tie.Need-enum-told
+enum-told c = search needs
+
+enum-known-r : tie.Need-enum-known-r
+enum-known-r c = search needs
+
+same-length : tie.Need-same-length
+same-length c = search needs
+
+returns : tie.Need-returns
+returns c = search needs
+
+same-length-2 : tie.Need-same-length-2
+same-length-2 c = search needs
+
+returns-2 : tie.Need-returns-2
+returns-2 c = search needs
+
+pub take-opened-spec : {M : Type 1} → statement M
+take-opened-spec =
+    tie.close
+    (tie.spec
+    words-of-requires
+    count-facts-requires
+    take-readings-requires
+    enum-told
+    enum-known-r
+    same-length
+    returns
+    same-length-2
+    returns-2)

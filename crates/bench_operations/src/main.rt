@@ -1,0 +1,117 @@
+// Runs one operation again and again, so that its instructions can be counted: on the sheet and the readings in the current folder, sheet.txt
+// and readings.txt, as often as the first argument says. The second argument is read (the sheet's text), check (it is lowered too), take (the readings
+// are taken too) or add. Prints what the last run answered.
+mod answers;
+mod reading;
+mod taking;
+
+use answers::Answer;
+use answers::print_answer;
+use bench_parts::clear;
+use bench_parts::is_asked;
+use bench_parts::read_text;
+use bench_parts::times_asked;
+use op_add::Adding;
+use op_add::add;
+use op_check::Checking;
+use op_check::check;
+use reading::read_sheet;
+use taking::take;
+ghost use Prim.Native.Nat.{_≤_};
+
+// How far a run goes.
+enum Run {
+    Read,
+    Check,
+    Take,
+    Add,
+}
+
+// Checks the sheet.
+fn check_once(s: &[u8]) -> Answer {
+    let c = check(s);
+    match c {
+        Checking::Rows(n) => Answer::Rows(n),
+        Checking::Refused(n, p) => Answer::Refused(n, p),
+    }
+}
+
+// Takes the readings into the table, after it is emptied.
+fn take_once(s: &[u8], readings: &[u8], table: &mut [u64]) -> Answer {
+    clear(table);
+    take(s, readings, table)
+}
+
+// Adds the readings to the table, after it is emptied.
+fn add_once(s: &[u8], readings: &[u8], table: &mut [u64]) -> Answer {
+    clear(table);
+    let a = add(s, readings, table);
+    match a {
+        Adding::Added { new, clash } => Answer::Added { new, clash },
+        Adding::Refused(n, p) => Answer::Refused(n, p),
+    }
+}
+
+// One run.
+fn run_once(run: Run, s: &[u8], readings: &[u8], table: &mut [u64]) -> Answer {
+    match run {
+        Run::Read => read_sheet(s),
+        Run::Check => check_once(s),
+        Run::Take => take_once(s, readings, table),
+        Run::Add => add_once(s, readings, table),
+    }
+}
+
+// So many runs: what the last one answers.
+fn run_times(run: Run, s: &[u8], readings: &[u8], table: &mut [u64], times: usize) -> Answer {
+    let mut last = Answer::Refused(0, 0);
+    let mut i = 0;
+    while i < times {
+        last = run_once(run, s, readings, table);
+        i += 1;
+    }
+    last
+}
+
+// The words of a table for the sheet; 0 if the sheet is refused.
+fn words_for(s: &[u8]) -> usize
+    ensures { λ n. ⌜ n ≤ 2048 ⌝ }
+{
+    let c = check(s);
+    let Checking::Rows(n) = c else {
+        return 0;
+    };
+    if n <= 1024 { 2 * n } else { 0 }
+}
+
+// The run that is asked for; an add if none is.
+fn run_asked() -> Run {
+    if is_asked(b"read") {
+        return Run::Read;
+    }
+    if is_asked(b"check") {
+        return Run::Check;
+    }
+    if is_asked(b"take") {
+        return Run::Take;
+    }
+    Run::Add
+}
+
+// Does what is asked for with the two texts.
+fn run_texts(s: &[u8], readings: &[u8]) {
+    let times = times_asked();
+    let run = run_asked();
+    let words = words_for(s);
+    let mut table = [0u64; 2048];
+    let answer = run_times(run, s, readings, &mut table[..words], times);
+    print_answer(answer);
+}
+
+fn main() {
+    let mut sheet = [0u8; 32769];
+    let mut readings = [0u8; 32769];
+    let a = read_text(b"sheet.txt", &mut sheet);
+    let b = read_text(b"readings.txt", &mut readings);
+    run_texts(&sheet[..a], &readings[..b]);
+}

@@ -1,0 +1,130 @@
+// A visit to an item of a row that is no look: the row's rules at the ticks of one word, once through (they add nothing to it then), and every item that
+// rests on a word that they changed put on the list, but for the item itself. A row has `n` words for each value, 64 ticks in each; `q` is the number of a
+// word in a row. Assumes that the words are a program's rows, that the lists of parents are theirs, and that the table and the list of work have them.
+use close_store::mark_child;
+use close_store::mark_own;
+use table_words::Words;
+use table_words::words_at;
+ghost use mathlib.Core.Path.{_≡_};
+ghost use Prim.Native.Nat.{ℕ, _%_, _<_};
+ghost use lib.ListN.{getD};
+ghost use Rattle.spec_tilco.specs.Inference.{notOf, gate};
+ghost use Rattle.table_words.specs.Gains.{HasRow};
+ghost use Rattle.close_rules.specs.Codes.{Coded};
+ghost use Rattle.close_rules.specs.Moves.{Sized};
+ghost use Rattle.close_parents.specs.Links.{Linked};
+ghost use Rattle.close_list.specs.Items.{Roomy};
+ghost use Rattle.close_store.specs.Visits.{VisitsBy, Visits};
+
+// A visit to a row that is an And (u is true) or an Or of the rows a and b.
+pub fn visit_gate(
+    rows: &[u64],
+    count: usize,
+    row: usize,
+    q: usize,
+    n: usize,
+    a: usize,
+    b: usize,
+    u: bool,
+    heads: &[u16],
+    nexts: &[u16],
+    todo: &mut [u64],
+    marks: &mut [u64],
+)
+    requires { ⌜ Coded count (now rows) ⌝ }
+    requires { ⌜ row < count ⌝ }
+    requires { ⌜ (q < n) × HasRow n (now marks) row × HasRow n (now marks) a × HasRow n (now marks) b × (a < row) × (b < row) ⌝ }
+    requires { ⌜ Linked count (now rows) (now heads) (now nexts) ⌝ }
+    requires { ⌜ Roomy count n (now todo) ⌝ }
+    ensures { λ _. ⌜ ((W : ℕ) → VisitsBy (gate u a b) count (now (rows .entry)) row q W n (now (marks .entry)) (now (marks .exit)) (now (todo .entry)) (now (todo .exit))) ⌝ }
+{
+    let r = words_at(marks, n, q, row, u);
+    let x = words_at(marks, n, q, a, u);
+    let y = words_at(marks, n, q, b, u);
+    // the value u: what each child has then; the other value: what the row has then
+    let left = x.this | r.this;
+    let right = y.this | r.this;
+    let part = r.other | x.other | y.other;
+    let own = Words {
+        this: left & right,
+        other: part,
+    };
+    let first = Words {
+        this: left,
+        other: part & right,
+    };
+    let second = Words {
+        this: right,
+        other: part & left,
+    };
+    mark_own(count, n, q, row, u, own, heads, nexts, todo, marks);
+    mark_child(rows, count, n, q, a, u, first, heads, nexts, todo, marks);
+    mark_child(rows, count, n, q, b, u, second, heads, nexts, todo, marks);
+}
+
+// A visit to a row that is the opposite of the row x, its only child.
+pub fn visit_not(
+    rows: &[u64],
+    count: usize,
+    row: usize,
+    q: usize,
+    n: usize,
+    x: usize,
+    heads: &[u16],
+    nexts: &[u16],
+    todo: &mut [u64],
+    marks: &mut [u64],
+)
+    requires { ⌜ Coded count (now rows) ⌝ }
+    requires { ⌜ row < count ⌝ }
+    requires { ⌜ (q < n) × HasRow n (now marks) row × HasRow n (now marks) x × (x < row) ⌝ }
+    requires { ⌜ Linked count (now rows) (now heads) (now nexts) ⌝ }
+    requires { ⌜ Roomy count n (now todo) ⌝ }
+    ensures { λ _. ⌜ ((W : ℕ) → VisitsBy (notOf x) count (now (rows .entry)) row q W n (now (marks .entry)) (now (marks .exit)) (now (todo .entry)) (now (todo .exit))) ⌝ }
+{
+    let r = words_at(marks, n, q, row, true);
+    let y = words_at(marks, n, q, x, true);
+    let own = Words {
+        this: y.other,
+        other: y.this,
+    };
+    let child = Words {
+        this: r.other,
+        other: r.this,
+    };
+    mark_own(count, n, q, row, true, own, heads, nexts, todo, marks);
+    mark_child(rows, count, n, q, x, true, child, heads, nexts, todo, marks);
+}
+
+// A visit to item (r, q) of a row that is no look: the rules of row r, by its word w, at word q. A signal's row has none, and past the program's rows there are
+// signals.
+pub fn visit(
+    rows: &[u64],
+    count: usize,
+    r: usize,
+    w: u64,
+    q: usize,
+    n: usize,
+    window: usize,
+    heads: &[u16],
+    nexts: &[u16],
+    todo: &mut [u64],
+    marks: &mut [u64],
+)
+    requires { ⌜ Coded count (now rows) ⌝ }
+    requires { ⌜ (w ≡ getD (now rows) r 0) × (w % 8 ≡ 3 → ⊥) × (q < n) ⌝ }
+    requires { ⌜ Linked count (now rows) (now heads) (now nexts) ⌝ }
+    requires { ⌜ Roomy count n (now todo) ⌝ }
+    requires { ⌜ Sized n count window (now marks) ⌝ }
+    ensures { λ _. ⌜ Visits count (now (rows .entry)) r q window n (now (marks .entry)) (now (marks .exit)) (now (todo .entry)) (now (todo .exit)) ⌝ }
+{
+    let kind = w % 8;
+    let a = (w / 8 % 65536) as usize;
+    let b = (w / 524288) as usize;
+    match kind {
+        0 => {}
+        1 => visit_gate(rows, count, r, q, n, a, b, true, heads, nexts, todo, marks),
+        2 => visit_gate(rows, count, r, q, n, a, b, false, heads, nexts, todo, marks),
+        _ => visit_not(rows, count, r, q, n, a, heads, nexts, todo, marks),
+    }
+}

@@ -1,0 +1,163 @@
+// The list of work: an item, a row and a word of 64 ticks, put on it, every item that rests on a word that changed, and all that it starts with.
+// The list has `stride` words for each word of ticks, one bit a row. Assumes that it has a bit for every item.
+use close_parents::index;
+ghost use mathlib.Core.Path.{_≡_};
+ghost use Prim.Native.Nat.{ℕ, _+_, _*_, _/_, _<_, _≤_};
+ghost use lib.ListN.{length};
+ghost use Rattle.lower_rows.specs.Words.{rowAt};
+ghost use Rattle.close_rules.specs.Codes.{Coded};
+ghost use Rattle.close_parents.specs.Links.{Reach, Falls, Ended, Linked};
+ghost use Rattle.close_list.specs.Items.{per, Roomy, Enters, OwnItem, ItemsOf, ParentsAt, Touched, Starts, Done};
+
+// Sets row y's bit in the words of the list from place i on.
+fn enter(todo: &mut [u64], i: usize, y: usize)
+    requires { ⌜ i + y / 64 < length (now todo) ⌝ }
+    ensures { λ _. ⌜ Enters (λ j z. (j ≡ i) × (z ≡ y)) (now (todo .entry)) (now (todo .exit)) ⌝ }
+{
+    let j = i + y / 64;
+    let bit: u64 = 1 << ((y % 64) as u64);
+    todo[j] = todo[j] | bit;
+}
+
+// The bits of every row in the list of parents that starts with `head`.
+fn enter_parents(count: usize, head: usize, nexts: &[u16], todo: &mut [u64], i: usize)
+    requires { ⌜ Falls (now nexts) (2 * count) head × (2 * count ≤ length (now nexts)) × (i + per count ≤ length (now todo)) ⌝ }
+    ensures { λ _. ⌜ Enters (λ j y. (j ≡ i) × Reach (now (nexts .entry)) head y) (now (todo .entry)) (now (todo .exit)) ⌝ }
+{
+    let mut h = head;
+    while h != 0 {
+        enter(todo, i, h / 2);
+        h = index(nexts[h]);
+    }
+}
+
+// Row x's item at the word before word p of the window, if there is one.
+pub fn enter_before(todo: &mut [u64], stride: usize, n: usize, p: usize, x: usize)
+    requires { ⌜ stride * n ≤ length (now todo) ⌝ }
+    requires { ⌜ x / 64 < stride ⌝ }
+    ensures { λ _. ⌜ Enters (ItemsOf stride x (λ q. (q < n) × (q + 1 ≡ p))) (now (todo .entry)) (now (todo .exit)) ⌝ }
+{
+    if p == 0 {
+        return;
+    }
+    if n < p {
+        return;
+    }
+    enter(todo, (p - 1) * stride, x);
+}
+
+// The items of row x itself that rest on its word q: none of a signal, two of a look.
+fn enter_own(rows: &[u64], count: usize, n: usize, q: usize, x: usize, todo: &mut [u64])
+    requires { ⌜ Coded count (now rows) ⌝ }
+    requires { ⌜ (x < count) × (q < n) ⌝ }
+    requires { ⌜ Roomy count n (now todo) ⌝ }
+    ensures { λ _. ⌜ Enters (ItemsOf (per count) x (λ p. (p < n) × OwnItem (rowAt (now (rows .entry)) x) q p)) (now (todo .entry)) (now (todo .exit)) ⌝ }
+{
+    let w = rows[x];
+    let kind = w % 8;
+    let stride = (count + 63) / 64;
+    if kind == 0 {
+        return;
+    }
+    if kind == 3 {
+        let seen = q + (w / 524288 / 64) as usize;
+        enter_before(todo, stride, n, seen, x);
+        enter_before(todo, stride, n, seen + 1, x);
+        return;
+    }
+    enter(todo, q * stride, x);
+}
+
+// Puts the items at word q of row x's parents on the list.
+pub fn touch_parents(
+    count: usize,
+    n: usize,
+    q: usize,
+    x: usize,
+    heads: &[u16],
+    nexts: &[u16],
+    todo: &mut [u64],
+)
+    requires { ⌜ (x < count) × (q < n) ⌝ }
+    requires { ⌜ Ended count (now heads) (now nexts) ⌝ }
+    requires { ⌜ Roomy count n (now todo) ⌝ }
+    ensures { λ _. ⌜ Enters (ParentsAt (per count) (now (heads .entry)) (now (nexts .entry)) x q) (now (todo .entry)) (now (todo .exit)) ⌝ }
+{
+    let stride = (count + 63) / 64;
+    let head = index(heads[x]);
+    enter_parents(count, head, nexts, todo, q * stride);
+}
+
+// Row x's word q changed: puts every item that rests on it on the list.
+pub fn touch(
+    rows: &[u64],
+    count: usize,
+    n: usize,
+    q: usize,
+    x: usize,
+    heads: &[u16],
+    nexts: &[u16],
+    todo: &mut [u64],
+)
+    requires { ⌜ Coded count (now rows) ⌝ }
+    requires { ⌜ (x < count) × (q < n) ⌝ }
+    requires { ⌜ Linked count (now rows) (now heads) (now nexts) ⌝ }
+    requires { ⌜ Roomy count n (now todo) ⌝ }
+    ensures { λ _. ⌜ Touched count (now (rows .entry)) n x q (now (todo .entry)) (now (todo .exit)) ⌝ }
+{
+    enter_own(rows, count, n, q, x, todo);
+    touch_parents(count, n, q, x, heads, nexts, todo);
+}
+
+// Puts every item on the list that rests on a mark in word q of a row.
+fn start_column(
+    rows: &[u64],
+    count: usize,
+    n: usize,
+    q: usize,
+    heads: &[u16],
+    nexts: &[u16],
+    todo: &mut [u64],
+    marks: &[u64],
+)
+    requires { ⌜ Coded count (now rows) ⌝ }
+    requires { ⌜ (q < n) × (2 * count * n ≤ length (now marks)) ⌝ }
+    requires { ⌜ Linked count (now rows) (now heads) (now nexts) ⌝ }
+    requires { ⌜ Roomy count n (now todo) ⌝ }
+    ensures { λ _. ⌜ Starts count (now (rows .entry)) n (λ x p. (x < count) × (p ≡ q)) (now (marks .entry)) (now (todo .entry)) (now (todo .exit)) ⌝ }
+{
+    let mut x: usize = 0;
+    let mut place = q;
+    while x < count {
+        let yes = marks[place];
+        let no = marks[place + n];
+        if yes | no != 0 {
+            touch(rows, count, n, q, x, heads, nexts, todo);
+        }
+        place += 2 * n;
+        x += 1;
+    }
+}
+
+// Puts every item on the list that rests on a mark: a rule has a premise, so what is not on it then is settled.
+pub fn start(
+    rows: &[u64],
+    count: usize,
+    n: usize,
+    heads: &[u16],
+    nexts: &[u16],
+    todo: &mut [u64],
+    marks: &[u64],
+)
+    requires { ⌜ Coded count (now rows) ⌝ }
+    requires { ⌜ 2 * count * n ≤ length (now marks) ⌝ }
+    requires { ⌜ Linked count (now rows) (now heads) (now nexts) ⌝ }
+    requires { ⌜ Roomy count n (now todo) ⌝ }
+    ensures { λ _. ⌜ ((W : ℕ) → Done count (now (rows .entry)) W n (now (marks .entry)) (now (todo .exit))) ⌝ }
+{
+    let mut q: usize = 0;
+    while q < n {
+        start_column(rows, count, n, q, heads, nexts, todo, marks);
+        q += 1;
+    }
+}

@@ -1,0 +1,29 @@
+-- A part of a visit to a look: its rules between a word of its child and one of its own. Assumes nothing.
+-- n is how many words a row has for each value, H and N are the lists of parents, W the window, T the table and D the list before, T′ and D′ after.
+use mathlib.Core.Bool.{Bool, true, false}
+use mathlib.Core.List.{List}
+use Prim.Native.Nat.{ℕ, _+_, _-_, _/_, _≤_, _<_}
+use Rattle.spec_tilco.specs.Inference.{Marks}
+use Rattle.table_words.specs.Gains.{Ticks, Reads}
+use Rattle.close_rules.specs.Settled.{LookTo}
+use Rattle.close_rules.specs.Moves.{WroteBefore, ByLook}
+use Rattle.close_list.specs.Items.{per}
+use Rattle.close_store.specs.Visits.{EntersIf, LookItems}
+
+-- Word q of row c is at hand: its marks of true and of false are v and w, and `here` are the window's ticks in it.
+abbrev pub Sees : ℕ → ℕ → List ℕ → ℕ → ℕ → ℕ → ℕ → ℕ → Type 0
+Sees n W T c q v w here = (q < n) × Ticks q here (λ t. t < W) × Reads n T q c true v w
+
+-- Where a look's rules about the lower ticks of its child's word q (true), or about the upper ones, change its row's word, the other item of the row that rests on
+-- that word is the one before this.
+abbrev pub nextOf : Bool → ℕ → ℕ
+nextOf true q = q
+nextOf false q = q + 2
+
+-- Row r looks at row c with the offset k: its rules between c's word q and its own word e - k / 64. What they give c is gathered, G before and G′ after;
+-- if they changed r's word, its parents' items are on the list, and its own before word m.
+pub record LooksFrom (e m count : ℕ) (H N : List ℕ) (r k c q W n : ℕ) (G G′ : Marks) (T T′ D D′ : List ℕ) : Type 0 where
+  pub changed : ℕ
+  pub steps : ByLook k c r (WroteBefore r (k / 64) e changed) (λ S. LookTo G′ q e W S r k c) G G′ W n T T′ changed
+  pub enters : EntersIf (LookItems (per count) H N n r (e - k / 64) m) D D′ changed
+  pub word : 0 < changed → k / 64 ≤ e

@@ -1,0 +1,115 @@
+-- A row of the program by its word: its node, and what the table has for its rules.
+-- Assumes nothing.
+use mathlib.Core.Path.{_≡_, refl, sym, ap, _∙_, subst}
+use mathlib.Core.List.{List}
+use mathlib.Core.Logic.{_⊎_, ⊎-elim}
+use Prim.Native.Nat.{ℕ, zero, suc, _+_, _-_, _*_, _/_, _%_, _≤_, _<_}
+use native.Mathlib.Nat.{mul-le-mul-right}
+use native.Mathlib.Omega.{arith}
+use lib.ListN.{length, getD, List·getD-eq-default}
+use Rattle.spec_ticks.proofs.Bits.{lt-or-ge}
+use Rattle.spec_tilco.specs.Inference.{Node, signal, notOf, gate, look, Program, node}
+use Rattle.spec_tilco.specs.Table.{words}
+use Rattle.lower_rows.specs.Words.{unpacked, rowAt}
+use Rattle.close_rules.specs.Codes.{Fine, Codes, Coded}
+use Rattle.table_words.specs.Gains.{HasRow}
+use Rattle.close_rules.specs.Moves.{Sized}
+
+-- A word of a row lies in the window.
+pub word-in-window : (W n q : ℕ) → n ≡ words W → q < n → q * 64 < W
+unfolding words
+word-in-window W n q e l = omega arith
+
+-- The words of a row cover the window.
+pub words-cover : (W n : ℕ) → n ≡ words W → W ≤ n * 64
+unfolding words
+words-cover W n e = omega arith
+
+-- The table has every row of the program.
+pub has-row : (n count W : ℕ) (T : List ℕ) (x : ℕ) → Sized n count W T → x < count → HasRow n T x
+has-row n count W T x s l =
+    let b : 2 * (x + 1) * n ≤ 2 * count * n = mul-le-mul-right n (omega arith) in
+    omega (arith, s .long)
+
+-- A table of the same length is as large.
+pub sized-as : {n count W : ℕ} {T T′ : List ℕ} → length T′ ≡ length T → Sized n count W T → Sized n count W T′
+sized-as e s = record { some = s .some; most = s .most; words-are = s .words-are; long = omega (arith, e, s .long) }
+
+-- A row with a rule is no signal's.
+abbrev Ruled : Node → Type 0
+Ruled signal = ⊥
+Ruled (notOf x) = Unit {0}
+Ruled (gate u a b) = Unit {0}
+Ruled (look k c) = Unit {0}
+
+signal-kind : (k a b : ℕ) → unpacked k a b ≡ signal → k ≡ 0
+signal-kind zero a b e = refl
+signal-kind (suc zero) a b e = absurd (subst Ruled e tt)
+signal-kind (suc (suc zero)) a b e = absurd (subst Ruled e tt)
+signal-kind (suc (suc (suc zero))) a b e = absurd (subst Ruled e tt)
+signal-kind (suc (suc (suc (suc k)))) a b e = absurd (subst Ruled e tt)
+
+-- A look's word starts with its kind and its child.
+pub look-start : (w : ℕ) → w % 8 ≡ 3 → w % 524288 ≡ 8 * (w % 524288 / 8) + 3
+look-start w e = omega arith
+
+module _ (count : ℕ) (B : List ℕ) (r : ℕ) where
+  -- the kind and the two numbers of the row's word
+  abbrev pub kind : ℕ
+  kind = getD B r 0 % 8
+
+  abbrev pub left : ℕ
+  left = getD B r 0 / 8 % 65536
+
+  abbrev pub right : ℕ
+  right = getD B r 0 / 524288
+
+  -- a kind past a look's: a not-row's
+  abbrev pub past : ℕ
+  past = suc (suc (suc (suc (kind - 4))))
+
+  -- The row's node by the kind in its word.
+  pub node-as : (k : ℕ) → kind ≡ k → (P : Program) → Codes P count B → node P r ≡ unpacked k left right
+  node-as k e P c = c .nodes r ∙ ap (λ (z : ℕ). unpacked z left right) e
+
+  -- Past the program's rows there are signals.
+  pub row-in : Coded count B → (kind ≡ 0 → ⊥) → r < count
+  row-in c f = ⊎-elim (λ l. l) (λ l. absurd (f (signal-kind kind left right (sym (c .codes .nodes r) ∙ past-rows l)))) (lt-or-ge r count)
+    where
+      past-rows : count ≤ r → node (c .program) r ≡ signal
+      past-rows l = List·getD-eq-default (c .program .rows) signal (omega (arith, c .codes .rows-are))
+
+  -- A look at row c, told by the start of its word: its kind and its child.
+  module _ (c : ℕ) (e : getD B r 0 % 524288 ≡ 8 * c + 3) where
+    pub look-kind : kind ≡ 3
+    look-kind = omega arith
+
+    pub look-child : left ≡ c
+    look-child = omega arith
+
+    pub look-row : rowAt B r ≡ look right c
+    look-row = ap (λ (z : ℕ). unpacked z left right) look-kind ∙ ap (look right) look-child
+
+    pub look-in : Coded count B → r < count
+    look-in k = row-in k (λ z. omega (arith, z, look-kind))
+
+  fine-as : (k : ℕ) → kind ≡ k → Coded count B → Fine r (unpacked k left right)
+  fine-as k e c = subst (Fine r) (node-as k e (c .program) (c .codes)) (c .codes .fine r)
+
+  module _ (hi : r < count) (n q W : ℕ) (T : List ℕ) (c : Coded count B) (s : Sized n count W T) (l : q < n) where
+    abbrev has : (x : ℕ) → x < count → HasRow n T x
+    has x h = has-row n count W T x s h
+
+    -- What the rules of each kind ask of the table.
+    pub gate-asks : (kind ≡ 1) ⊎ (kind ≡ 2) → (q < n) × HasRow n T r × HasRow n T left × HasRow n T right × (left < r) × (right < r)
+    gate-asks k =
+        let f = ⊎-elim (λ e. fine-as 1 e c) (λ e. fine-as 2 e c) k in
+        (l, has r hi, has left (omega (arith, f .0)), has right (omega (arith, f .1)), f .0, f .1)
+
+    pub look-asks : kind ≡ 3 → (q < n) × HasRow n T r × HasRow n T left × (left < r) × (right ≤ 127) × (n ≡ words W)
+    look-asks e =
+        let f = fine-as 3 e c in
+        (l, has r hi, has left (omega (arith, f .0)), f .0, f .2, s .words-are)
+
+    pub not-asks : 4 ≤ kind → (q < n) × HasRow n T r × HasRow n T left × (left < r)
+    not-asks h = let f = fine-as past (omega arith) c in (l, has r hi, has left (omega arith), f)

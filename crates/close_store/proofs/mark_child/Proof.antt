@@ -1,0 +1,39 @@
+-- `mark_child` meets its contract. Assumes nothing.
+use borrow.Author.Needs.{needs}
+use native.Mathlib.Omega.{arith}
+use Rattle.close_store.proofs.Heeding.{notes-still, notes-touched}
+use Rattle.close_store.proofs.mark_child.Statement.{statement}
+use Rattle.close_store.proofs.mark_child.Tie as tie
+
+add-words-requires : tie.Need-add-words-requires
+add-words-requires c κs = search needs
+
+touch-requires : tie.Need-touch-requires
+touch-requires c κs = search needs
+
+same-length : tie.Need-same-length
+same-length c = search needs
+
+same-length-2 : tie.Need-same-length-2
+same-length-2 c = search needs
+
+returns : tie.Need-returns
+returns c = record { changed = c .before .before .before .before .before .before .before .before .add-words .result .changed; joins = c .before .before .before .before .before .before .before .before .add-words .ensures .0; notes = notes-touched _ _ _ _ _ _ _ _ (omega arith) (c .before .before .touch .ensures) }
+
+same-length-3 : tie.Need-same-length-3
+same-length-3 c = search needs
+
+returns-2 : tie.Need-returns-2
+returns-2 c = record { changed = c .before .before .before .before .add-words .result .changed; joins = c .before .before .before .before .add-words .ensures .0; notes = notes-still _ _ _ _ _ _ _ (omega arith) }
+
+pub mark-child-spec : {M : Type 1} → statement M
+mark-child-spec =
+    tie.close
+    (tie.spec
+    add-words-requires
+    touch-requires
+    same-length
+    same-length-2
+    returns
+    same-length-3
+    returns-2)

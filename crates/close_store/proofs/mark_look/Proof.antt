@@ -1,0 +1,49 @@
+-- `mark_look` meets its contract. Assumes nothing.
+use borrow.Author.Needs.{needs}
+use native.Mathlib.Omega.{arith}
+use Rattle.close_store.proofs.Heeding.{enters-as-none, enters-look}
+use Rattle.close_store.proofs.mark_look.Statement.{statement}
+use Rattle.close_store.proofs.mark_look.Tie as tie
+
+mark-own-requires : tie.Need-mark-own-requires
+mark-own-requires c κs = search needs
+
+add-stride : tie.Need-add-stride
+add-stride c = search needs
+
+enter-before-requires : tie.Need-enter-before-requires
+enter-before-requires c κs = search needs
+
+same-length : tie.Need-same-length
+same-length c = search needs
+
+same-length-2 : tie.Need-same-length-2
+same-length-2 c = search needs
+
+returns : tie.Need-returns
+returns c =
+    let a = c .before .before .before .before .before .before .before .before .before .before .before .before .before .before .before .before .before .args in
+    (c .before .before .before .before .before .before .before .before .before .before .mark-own .ensures .0, (c .before .before .before .before .before .before .before .before .before .before .mark-own .ensures .1 .0, enters-look _ (a .heads .now) (a .nexts .now) _ _ _ _ _ (omega arith) (c .before .before .before .before .before .before .before .before .before .before .mark-own .ensures .1 .1) (c .before .before .enter-before .ensures)))
+
+same-length-3 : tie.Need-same-length-3
+same-length-3 c = search needs
+
+same-length-4 : tie.Need-same-length-4
+same-length-4 c = search needs
+
+returns-2 : tie.Need-returns-2
+returns-2 c = (c .before .before .before .before .before .before .mark-own .ensures .0, (c .before .before .before .before .before .before .mark-own .ensures .1 .0, enters-as-none _ (omega arith) (c .before .before .before .before .before .before .mark-own .ensures .1 .1)))
+
+pub mark-look-spec : {M : Type 1} → statement M
+mark-look-spec =
+    tie.close
+    (tie.spec
+    mark-own-requires
+    add-stride
+    enter-before-requires
+    same-length
+    same-length-2
+    returns
+    same-length-3
+    same-length-4
+    returns-2)

@@ -1,0 +1,64 @@
+// The tops marked, and the table closed after them. Assumes of the table what closing it assumes, and that each top is a row.
+use crate::rounds::close;
+use close_parents::index;
+use table_words::add_word;
+use table_words::window_word;
+ghost use mathlib.Core.Path.{_≡_};
+ghost use Prim.Native.Nat.{ℕ, _<_, _≤_};
+ghost use lib.ListN.{length, getD};
+ghost use Rattle.spec_tilco.specs.Table.{words, Stands, Inside};
+ghost use Rattle.close_rules.specs.Codes.{Coded};
+ghost use Rattle.table_marks.specs.Puts.{Gains};
+ghost use Rattle.table_words.specs.Gains.{HasRow};
+ghost use Rattle.close_rules.specs.Moves.{Sized};
+ghost use Rattle.close_table.specs.Closes.{RowTrue, TopMarks, SettlesAll};
+ghost use Rattle.close_list.specs.Items.{Roomy};
+
+// Marks a row true at every tick of the window.
+fn mark_true(marks: &mut [u64], n: usize, row: usize, window: usize)
+    requires { ⌜ (n ≡ words window) × HasRow n (now marks) row ⌝ }
+    ensures { λ _. ⌜ Gains n (RowTrue window row) (now (marks .entry)) (now (marks .exit)) ⌝ }
+{
+    let mut q: usize = 0;
+    while q < n {
+        let ticks = window_word(window, q);
+        add_word(marks, n, q, row, true, ticks);
+        q += 1;
+    }
+}
+
+// Marks each of the first k rows in `tops` true at every tick of the window.
+pub fn crown(tops: &[u16], k: usize, n: usize, window: usize, marks: &mut [u64])
+    requires { ⌜ (k ≤ length (now tops)) × (n ≡ words window) ⌝ }
+    requires { ⌜ ((i : ℕ) → i < k → HasRow n (now marks) (getD (now tops) i 0)) ⌝ }
+    ensures { λ _. ⌜ Gains n (TopMarks window (now (tops .entry)) k) (now (marks .entry)) (now (marks .exit)) ⌝ }
+{
+    let mut i: usize = 0;
+    while i < k {
+        let row = index(tops[i]);
+        mark_true(marks, n, row, window);
+        i += 1;
+    }
+}
+
+// Settles the table: it has exactly what the rules lead to from the tops and its marks.
+pub fn settle(
+    rows: &[u64],
+    count: usize,
+    tops: &[u16],
+    k: usize,
+    n: usize,
+    window: usize,
+    todo: &mut [u64],
+    marks: &mut [u64],
+)
+    requires { ⌜ Coded count (now rows) ⌝ }
+    requires { ⌜ (k ≤ length (now tops)) × ((i : ℕ) → i < k → getD (now tops) i 0 < count) ⌝ }
+    requires { ⌜ Roomy count n (now todo) ⌝ }
+    requires { ⌜ Sized n count window (now marks) ⌝ }
+    requires { ⌜ Inside window (Stands n (now marks)) ⌝ }
+    ensures { λ _. ⌜ SettlesAll count (now (rows .entry)) (now (tops .entry)) k window n (now (marks .entry)) (now (marks .exit)) ⌝ }
+{
+    crown(tops, k, n, window, marks);
+    close(rows, count, n, window, todo, marks);
+}

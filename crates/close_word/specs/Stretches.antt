@@ -1,0 +1,55 @@
+-- What visits to items one after another do: those of a word of the list, and of any of its words. Assumes nothing.
+-- n is how many words a row has for each value, B the rows' words, W the window, T the table and D the list before, T′ and D′ after. A number that tells
+-- of a change is 0 if there is none.
+use mathlib.Core.Path.{_≡_}
+use mathlib.Core.List.{List}
+use mathlib.Core.Logic.{_⊎_}
+use Prim.Native.Nat.{ℕ, _<_}
+use lib.ListN.{length, getD}
+use Rattle.spec_tilco.specs.Inference.{Program, Mark, Marks, Derives, _or_}
+use Rattle.spec_tilco.specs.Table.{Stands}
+use Rattle.close_rules.specs.Codes.{Codes}
+use Rattle.close_rules.specs.Moves.{Gathers}
+use Rattle.table_words.specs.Gains.{room}
+use Rattle.close_list.specs.Items.{DoneTo, Done}
+
+-- What a stretch of visits does. Nothing is lost and what is new follows; if F holds of the table and the list before, G does after; and if
+-- nothing changed the table is the same, and each word of the list that was 0, or is among Z, is 0.
+pub record Stretch (F G : List ℕ → List ℕ → Type 0) (n : ℕ) (P : Program) (W : ℕ) (Z : ℕ → Type 0) (T T′ D D′ : List ℕ) (changed : ℕ) : Type 0 where
+  pub size : length T′ ≡ length T
+  pub grows : (m : Mark) → Stands n T m → Stands n T′ m
+  pub sound : (m : Mark) → Stands n T′ m → Derives P W (Stands n T) m
+  pub moved : 0 < changed → room T′ < room T
+  pub still : changed ≡ 0 → T′ ≡ T
+  pub empty : changed ≡ 0 → (j : ℕ) → (getD D j 0 ≡ 0) ⊎ Z j → getD D′ j 0 ≡ 0
+  pub rests : F T D → G T′ D′
+
+-- A stretch after which items off the list are settled, if they were before, for every program with these rows; the list keeps its length.
+pub record Works (count : ℕ) (B : List ℕ) (W n : ℕ) (Z : ℕ → Type 0) (T T′ D D′ : List ℕ) : Type 0 where
+  pub changed : ℕ
+  pub long : length D′ ≡ length D
+  pub each : (P : Program) → Codes P count B → Stretch (Done count B W n) (Done count B W n) n P W Z T T′ D D′ changed
+
+-- No word of the list, and one.
+abbrev pub NoWord : ℕ → Type 0
+NoWord j = ⊥
+
+abbrev pub OneWord : ℕ → ℕ → Type 0
+OneWord k j = j ≡ k
+
+-- A stretch of visits to items of word j of the list: if nothing changed that word is smaller.
+pub record Taken (count : ℕ) (B : List ℕ) (W n j : ℕ) (T T′ D D′ : List ℕ) : Type 0 where
+  pub works : Works count B W n NoWord T T′ D D′
+  pub less : works .changed ≡ 0 → getD D′ j 0 < getD D j 0
+
+-- Every item that is not on the list is settled, but that looks may give the marks G, which are gathered.
+abbrev pub DoneBut : Marks → ℕ → List ℕ → ℕ → ℕ → List ℕ → List ℕ → Type 0
+DoneBut G count B W n T D = DoneTo (_or_ (Stands n T) G) count B W n T D
+
+-- A visit to a look at a bit of word j of the list: what it gives its child is gathered, G before and G′ after.
+pub record TakenLook (count : ℕ) (B : List ℕ) (W n j : ℕ) (G G′ : Marks) (T T′ D D′ : List ℕ) : Type 0 where
+  pub changed : ℕ
+  pub long : length D′ ≡ length D
+  pub each : (P : Program) → Codes P count B
+      → Stretch (DoneBut G count B W n) (DoneBut G′ count B W n) n P W NoWord T T′ D D′ changed × Gathers P W (Stands n T) G G′
+  pub less : changed ≡ 0 → getD D′ j 0 < getD D j 0

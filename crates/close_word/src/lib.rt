@@ -1,0 +1,245 @@
+// The items of one word of the list: each is visited and taken off, until none is left there. A row has `n` words for each value, 64 ticks in each.
+// Assumes that the words are a program's rows, that the table has them, and that no mark is outside the window.
+use close_gates::visit;
+use close_looks::Child;
+use close_looks::child_at;
+use close_looks::visit_look;
+use close_store::mark_child;
+use table_words::Words;
+ghost use mathlib.Core.Path.{_≡_};
+ghost use Prim.Native.Nat.{_+_, _-_, _*_, _/_, _%_, _^_, _<_, _≤_};
+ghost use lib.ListN.{length, getD, set};
+ghost use Rattle.spec_ticks.specs.Ticks.{Has};
+ghost use Rattle.spec_tilco.specs.Table.{Stands, Inside};
+ghost use Rattle.close_rules.specs.Codes.{Coded};
+ghost use Rattle.close_rules.specs.Moves.{Gathered, Sized};
+ghost use Rattle.close_looks.specs.Parts.{Sees};
+ghost use Rattle.close_parents.specs.Links.{Linked};
+ghost use Rattle.close_list.specs.Items.{per, Roomy};
+ghost use Rattle.close_word.specs.Stretches.{Works, OneWord, Taken, TakenLook};
+
+// Clears bit k, which is set, of word j of the list.
+fn clear_bit(todo: &mut [u64], j: usize, k: u64)
+    requires { ⌜ (j < length (now todo)) × (k < 64) × Has (getD (now todo) j 0) k ⌝ }
+    ensures { λ _. ⌜ now (todo .exit) ≡ set (now (todo .entry)) j (getD (now (todo .entry)) j 0 - 2 ^ k) ⌝ }
+{
+    let bit: u64 = 1 << k;
+    todo[j] = todo[j] - bit;
+}
+
+// The first set bit of a word from bit `from` on; if there is none, its first at all.
+fn next_bit(word: u64, from: u64) -> u64
+    requires { ⌜ (0 < word) × (from < 64) ⌝ }
+    ensures { λ k. ⌜ (k < 64) × Has word k ⌝ }
+{
+    let rest = word >> from;
+    if rest == 0 {
+        return u64::trailing_zeros(word) as u64;
+    }
+    from + u64::trailing_zeros(rest) as u64
+}
+
+// The first set bit of a word of the list from bit `from` on, if its row's word starts as `kind` says, with its kind and its child; else 64. The bits are
+// those of the rows from `start` on.
+fn next_look(rows: &[u64], start: usize, word: u64, from: u64, kind: u64) -> u64
+    requires { ⌜ (from < 64) × (start + 64 ≤ length (now rows)) ⌝ }
+    ensures { λ k. ⌜ (k < 64 → Has word k × (getD (now (rows .entry)) (start + k) 0 % 524288 ≡ kind)) ⌝ }
+{
+    let rest = word >> from;
+    if rest == 0 {
+        return 64;
+    }
+    let k = from + u64::trailing_zeros(rest) as u64;
+    let w = rows[start + (k as usize)];
+    if w % 524288 != kind {
+        return 64;
+    }
+    k
+}
+
+// Visits the look at `child` that bit k of word j of the list stands for, and takes it off the list after that. What it gives the child is joined to `given`.
+fn take_look(
+    rows: &[u64],
+    count: usize,
+    i: usize,
+    j: usize,
+    k: u64,
+    n: usize,
+    window: usize,
+    child: Child,
+    given: Words,
+    heads: &[u16],
+    nexts: &[u16],
+    todo: &mut [u64],
+    marks: &mut [u64],
+) -> Words
+    requires { ⌜ Coded count (now rows) ⌝ }
+    requires { ⌜ (i < per count) × (j ≡ child .q * per count + i) × (k < 64) × Has (getD (now todo) j 0) k × (getD (now rows) (64 * i + k) 0 % 524288 ≡ 8 * child .row + 3) ⌝ }
+    requires { ⌜ Sees n window (now marks) (child .row) (child .q) (child .words .this) (child .words .other) (child .here) ⌝ }
+    requires { ⌜ Linked count (now rows) (now heads) (now nexts) ⌝ }
+    requires { ⌜ Roomy count n (now todo) ⌝ }
+    requires { ⌜ Sized n count window (now marks) ⌝ }
+    requires { ⌜ Inside window (Stands n (now marks)) ⌝ }
+    ensures { λ g. ⌜ TakenLook count (now (rows .entry)) window n j (Gathered (child .row) (child .q) (given .this) (given .other)) (Gathered (child .row) (child .q) (g .this) (g .other)) (now (marks .entry)) (now (marks .exit)) (now (todo .entry)) (now (todo .exit)) ⌝ }
+    ensures { λ _. ⌜ Sees n window (now (marks .exit)) (child .row) (child .q) (child .words .this) (child .words .other) (child .here) ⌝ }
+{
+    let row = 64 * i + (k as usize);
+    let offset = rows[row] / 524288;
+    let g = visit_look(
+        rows,
+        count,
+        row,
+        n,
+        window,
+        child,
+        offset,
+        given,
+        heads,
+        nexts,
+        todo,
+        marks,
+    );
+    clear_bit(todo, j, k);
+    g
+}
+
+// Visits the looks at one row whose bits follow each other in word j of the list, from bit `first` on. What they give the row is marked once, after them.
+fn take_looks(
+    rows: &[u64],
+    count: usize,
+    i: usize,
+    j: usize,
+    first: u64,
+    q: usize,
+    n: usize,
+    window: usize,
+    heads: &[u16],
+    nexts: &[u16],
+    todo: &mut [u64],
+    marks: &mut [u64],
+)
+    requires { ⌜ Coded count (now rows) ⌝ }
+    requires { ⌜ (q < n) × (i < per count) × (j ≡ q * per count + i) × (first < 64) × Has (getD (now todo) j 0) first ⌝ }
+    requires { ⌜ getD (now rows) (64 * i + first) 0 % 8 ≡ 3 ⌝ }
+    requires { ⌜ Linked count (now rows) (now heads) (now nexts) ⌝ }
+    requires { ⌜ Roomy count n (now todo) ⌝ }
+    requires { ⌜ Sized n count window (now marks) ⌝ }
+    requires { ⌜ Inside window (Stands n (now marks)) ⌝ }
+    ensures { λ _. ⌜ Taken count (now (rows .entry)) window n j (now (marks .entry)) (now (marks .exit)) (now (todo .entry)) (now (todo .exit)) ⌝ }
+{
+    let start = 64 * i;
+    let kind = rows[start + (first as usize)] % 524288;
+    let c = (kind / 8) as usize;
+    let child = child_at(marks, n, q, c, window);
+    let mut given = Words { this: 0, other: 0 };
+    let mut k = first;
+    while k < 64 {
+        given = take_look(
+            rows,
+            count,
+            i,
+            j,
+            k,
+            n,
+            window,
+            child,
+            given,
+            heads,
+            nexts,
+            todo,
+            marks,
+        );
+        k = next_look(rows, start, todo[j], k, kind);
+    }
+    mark_child(rows, count, n, q, c, true, given, heads, nexts, todo, marks);
+}
+
+// Visits the item that bit k of word j of the list stands for, and takes it off the list after that; of a look also the looks at the same row after it.
+fn take(
+    rows: &[u64],
+    count: usize,
+    i: usize,
+    j: usize,
+    k: u64,
+    q: usize,
+    n: usize,
+    window: usize,
+    heads: &[u16],
+    nexts: &[u16],
+    todo: &mut [u64],
+    marks: &mut [u64],
+)
+    requires { ⌜ Coded count (now rows) ⌝ }
+    requires { ⌜ (q < n) × (i < per count) × (j ≡ q * per count + i) × (k < 64) × Has (getD (now todo) j 0) k ⌝ }
+    requires { ⌜ Linked count (now rows) (now heads) (now nexts) ⌝ }
+    requires { ⌜ Roomy count n (now todo) ⌝ }
+    requires { ⌜ Sized n count window (now marks) ⌝ }
+    requires { ⌜ Inside window (Stands n (now marks)) ⌝ }
+    ensures { λ _. ⌜ Taken count (now (rows .entry)) window n j (now (marks .entry)) (now (marks .exit)) (now (todo .entry)) (now (todo .exit)) ⌝ }
+{
+    let row = 64 * i + (k as usize);
+    let w = rows[row];
+    if w % 8 == 3 {
+        take_looks(
+            rows,
+            count,
+            i,
+            j,
+            k,
+            q,
+            n,
+            window,
+            heads,
+            nexts,
+            todo,
+            marks,
+        );
+        return;
+    }
+    visit(rows, count, row, w, q, n, window, heads, nexts, todo, marks);
+    clear_bit(todo, j, k);
+}
+
+// Visits the items of word q in its i-th word of the list, round and round, until none is left there.
+pub fn work_word(
+    rows: &[u64],
+    count: usize,
+    i: usize,
+    q: usize,
+    n: usize,
+    window: usize,
+    heads: &[u16],
+    nexts: &[u16],
+    todo: &mut [u64],
+    marks: &mut [u64],
+)
+    requires { ⌜ Coded count (now rows) ⌝ }
+    requires { ⌜ (q < n) × (i < per count) ⌝ }
+    requires { ⌜ Linked count (now rows) (now heads) (now nexts) ⌝ }
+    requires { ⌜ Roomy count n (now todo) ⌝ }
+    requires { ⌜ Sized n count window (now marks) ⌝ }
+    requires { ⌜ Inside window (Stands n (now marks)) ⌝ }
+    ensures { λ _. ⌜ Works count (now (rows .entry)) window n (OneWord (q * per count + i)) (now (marks .entry)) (now (marks .exit)) (now (todo .entry)) (now (todo .exit)) ⌝ }
+{
+    let stride = (count + 63) / 64;
+    let j = q * stride + i;
+    let mut from: u64 = 0;
+    while todo[j] != 0 {
+        let k = next_bit(todo[j], from);
+        take(
+            rows,
+            count,
+            i,
+            j,
+            k,
+            q,
+            n,
+            window,
+            heads,
+            nexts,
+            todo,
+            marks,
+        );
+        from = k;
+    }
+}

@@ -1,0 +1,68 @@
+-- How long a listing is at the most, so that its places can be counted and a buffer with room for it can be lent.
+-- Assumes nothing.
+use mathlib.Core.Bool.{Bool}
+use mathlib.Core.List.{List, [], _∷_, _++_}
+use Prim.Native.Nat.{ℕ, suc, _+_, _*_, _≤_}
+use native.Mathlib.Omega.{arith}
+use lib.ListN.{length, length-append}
+use Rattle.read_bytes.specs.Bytes.{bytes}
+use Rattle.spec_tilco.specs.Lists.{All}
+use Rattle.spec_tilco.specs.Table.{Answer}
+use Rattle.write_bytes.specs.Writes.{Wrote, Counted, decimalText}
+use Rattle.write_bytes.proofs.Decimals.{decimal-few}
+use Rattle.write_lines.specs.LineTexts.{numberText}
+use Rattle.list_signals.specs.Signals.{signs, signalText, signalsText}
+use Rattle.list_signals.proofs.Lengths.{line-length, signs-length, signal-length}
+use Rattle.list_table.specs.Listing.{oneIf, headText, listingText, refusalText}
+
+number-most : (key : List ℕ) (n : ℕ) → length (numberText key n) ≤ length key + 21
+number-most key n = omega (arith, line-length key (decimalText n), decimal-few n)
+
+-- A line with a number can be counted near the start of the buffer, and ends near it.
+pub number-counted : (key : List ℕ) (n : ℕ) {b : ℕ} → b + length key ≤ 8192 → Counted b (numberText key n)
+number-counted key n h = record { below = omega (arith, number-most key n) }
+
+pub number-ends : (key : List ℕ) (n : ℕ) {b : ℕ} {m m₁ : List ℕ} {u : ℕ} → Wrote (numberText key n) b m m₁ u → u ≤ b + length key + 21
+number-ends key n w = omega (arith, number-most key n)
+
+-- A signal takes at most 95 bytes.
+signals-most : (W : ℕ) (f : ℕ → ℕ → Answer) (x : ℕ) (names : List (List ℕ)) → W ≤ 64 → All (λ w. length w ≤ 16) names → length (signalsText W f x names) ≤ 95 * length names
+unfolding signalsText
+signals-most W f x [] h a = omega arith
+signals-most W f x (name ∷ names) h a =
+    let l = signal-length name (signs (f x) 0 W) in
+    let k = signs-length (f x) 0 W in
+    let i = signals-most W f (suc x) names h (a .1) in
+    let s = a .0 in
+    omega (arith, length-append (signalText name (signs (f x) 0 W)) (signalsText W f (suc x) names))
+
+head-most : (rows facts : ℕ) (clash : Bool) → length (headText rows facts clash) ≤ 108
+unfolding headText
+head-most rows facts clash =
+    let a = number-most (bytes "answer=") 0 in
+    let b = number-most (bytes "rows=") rows in
+    let c = number-most (bytes "facts=") facts in
+    let d = number-most (bytes "clash=") (oneIf clash) in
+    omega (
+      arith,
+      length-append (numberText (bytes "answer=") 0) (numberText (bytes "rows=") rows ++ (numberText (bytes "facts=") facts ++ numberText (bytes "clash=") (oneIf clash))),
+      length-append (numberText (bytes "rows=") rows) (numberText (bytes "facts=") facts ++ numberText (bytes "clash=") (oneIf clash)),
+      length-append (numberText (bytes "facts=") facts) (numberText (bytes "clash=") (oneIf clash)),
+    )
+
+-- A listing fits a buffer of 8,192 bytes,
+pub listing-most : (names : List (List ℕ)) (W rows facts : ℕ) (clash : Bool) (f : ℕ → ℕ → Answer)
+    → All (λ w. length w ≤ 16) names → length names ≤ 64 → W ≤ 64 → length (listingText names W rows facts clash f) ≤ 8192
+unfolding listingText
+listing-most names W rows facts clash f a n w =
+    let h = head-most rows facts clash in
+    let l = signals-most W f 0 names w a in
+    omega (arith, length-append (headText rows facts clash) (signalsText W f 0 names))
+
+-- and so does a refusal's.
+pub refusal-most : (number place : ℕ) → length (refusalText number place) ≤ 8192
+unfolding refusalText
+refusal-most number place =
+    let a = number-most (bytes "answer=") number in
+    let b = number-most (bytes "place=") place in
+    omega (arith, length-append (numberText (bytes "answer=") number) (numberText (bytes "place=") place))

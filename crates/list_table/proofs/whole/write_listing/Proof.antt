@@ -1,0 +1,24 @@
+-- `write_listing` meets its contract. Assumes nothing.
+use borrow.Author.Needs.{needs}
+use Rattle.write_bytes.proofs.Writing.{and-then, counted-rest}
+use Rattle.list_table.specs.Listing.{listingText}
+use Rattle.list_table.proofs.whole.write_listing.Statement.{statement}
+use Rattle.list_table.proofs.whole.write_listing.Tie as tie
+
+write-head-requires : tie.Need-write-head-requires
+write-head-requires c κs = search needs
+
+write-signals-requires : tie.Need-write-signals-requires
+unfolding listingText
+write-signals-requires c κs = (c .before .before .before .before .before .before .before .before .before .pre .0, λ f. counted-rest (c .before .before .before .before .before .before .before .before .before .pre .1 f) (c .before .before .before .write-head .ensures))
+
+same-length : tie.Need-same-length
+same-length c = search needs
+
+returns : tie.Need-returns
+unfolding listingText
+returns c = λ f a. and-then (c .before .before .before .before .before .before .write-head .ensures) (c .before .before .write-signals .ensures f a)
+
+pub write-listing-spec : {M : Type 1} → statement M
+write-listing-spec =
+    tie.close (tie.spec write-head-requires write-signals-requires same-length returns)

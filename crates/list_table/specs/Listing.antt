@@ -1,0 +1,28 @@
+-- What the listing prints (01, "The listing program").
+-- Assumes nothing. W is the window, f x t the answer to ask at signal x and tick t.
+use mathlib.Core.Bool.{Bool, true, false}
+use mathlib.Core.List.{List, _++_}
+use Prim.Native.Nat.{ℕ}
+use Rattle.read_bytes.specs.Bytes.{bytes}
+use Rattle.spec_tilco.specs.Table.{Answer}
+use Rattle.write_lines.specs.LineTexts.{numberText}
+use Rattle.list_signals.specs.Signals.{signalsText}
+
+-- "Clash is 0 or 1."
+abbrev pub oneIf : Bool → ℕ
+oneIf true = 1
+oneIf false = 0
+
+-- The lines before those of the signals: answer, rows, facts, clash.
+unfoldable pub headText : ℕ → ℕ → Bool → List ℕ
+headText rows facts clash =
+    numberText (bytes "answer=") 0
+    ++ (numberText (bytes "rows=") rows ++ (numberText (bytes "facts=") facts ++ numberText (bytes "clash=") (oneIf clash)))
+
+-- The listing: the head, and each signal in sheet order.
+unfoldable pub listingText : List (List ℕ) → ℕ → ℕ → ℕ → Bool → (ℕ → ℕ → Answer) → List ℕ
+listingText names W rows facts clash f = headText rows facts clash ++ signalsText W f 0 names
+
+-- "A refusal prints `answer=` and `place=` only."
+unfoldable pub refusalText : ℕ → ℕ → List ℕ
+refusalText number place = numberText (bytes "answer=") number ++ numberText (bytes "place=") place

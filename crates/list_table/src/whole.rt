@@ -1,0 +1,56 @@
+// The listing of a closed table, and that of a refusal, from the buffer's first place on.
+use list_signals::write_signals;
+use write_lines::write_number_line;
+ghost use mathlib.Core.Path.{_≡_};
+ghost use Prim.Native.Nat.{ℕ};
+ghost use lib.ListN.{length};
+ghost use Rattle.read_names.specs.Words.{namesAt};
+ghost use Rattle.spec_tilco.specs.Table.{Stands, Answer};
+ghost use Rattle.write_bytes.specs.Writes.{Counted, Wrote};
+ghost use Rattle.list_signals.specs.Signals.{Listable, Answers};
+ghost use Rattle.list_table.specs.Listing.{oneIf, headText, listingText, refusalText};
+
+// 1 for yes and 0 for no.
+fn one_if(yes: bool) -> usize
+    ensures { λ r. ⌜ r ≡ oneIf yes ⌝ }
+{
+    if yes { 1 } else { 0 }
+}
+
+// The lines before those of the signals.
+fn write_head(rows: usize, facts: usize, clash: bool, out: &mut [u8]) -> usize
+    ensures { λ r. ⌜ Wrote (headText rows facts clash) 0 (now (out .entry)) (now (out .exit)) r ⌝ }
+{
+    let a = write_number_line(b"answer=", 0, out, 0);
+    let b = write_number_line(b"rows=", rows, out, a);
+    let c = write_number_line(b"facts=", facts, out, b);
+    let digit = one_if(clash);
+    write_number_line(b"clash=", digit, out, c)
+}
+
+// The listing of a table of `n` words a row and value. The signals' names stand at these places of the sheet text.
+pub fn write_listing(
+    s: &[u8],
+    places: &[u64],
+    window: usize,
+    n: usize,
+    table: &[u64],
+    rows: usize,
+    facts: usize,
+    clash: bool,
+    out: &mut [u8],
+) -> usize
+    requires { ⌜ Listable (length (now places)) window n (now table) clash × ((f : ℕ → ℕ → Answer) → Counted 0 (listingText (namesAt (now s) (now places)) window rows facts clash f)) ⌝ }
+    ensures { λ r. ⌜ ((f : ℕ → ℕ → Answer) → Answers (Stands n (now (table .entry))) (length (now (places .entry))) window f → Wrote (listingText (namesAt (now (s .entry)) (now (places .entry))) window rows facts clash f) 0 (now (out .entry)) (now (out .exit)) r) ⌝ }
+{
+    let signals = write_head(rows, facts, clash, out);
+    write_signals(s, places, window, n, table, clash, out, signals)
+}
+
+// The listing of a refusal: its number and its place.
+pub fn write_refusal(number: usize, place: usize, out: &mut [u8]) -> usize
+    ensures { λ r. ⌜ Wrote (refusalText number place) 0 (now (out .entry)) (now (out .exit)) r ⌝ }
+{
+    let next = write_number_line(b"answer=", number, out, 0);
+    write_number_line(b"place=", place, out, next)
+}

@@ -1,0 +1,108 @@
+-- `read_rules` meets its contract. The invariant: the rules read so far are lowered as far as there was room. Assumes nothing.
+use native.Mathlib.Omega.{arith}
+use Prim.Native.Nat.{_-_}
+use mathlib.Core.Path.{_≡_, refl}
+use mathlib.Core.List.{List, []}
+use lib.ListN.{length}
+use Rattle.spec_tilco.specs.Formula.{Written}
+use Rattle.read_sheet.proofs.Ruled.{passed-off}
+use Rattle.read_sheet.proofs.Answers.{when-rule, when-no-rule}
+use Rattle.lower_lines.specs.InTurn.RulesRead.{refused-at}
+use Rattle.lower_lines.proofs.Trying.{tried-room}
+use Rattle.lower_lines.proofs.Underway.{node-inside, own-definings, Underway, underway-none, line-ready, underway-one, underway-all}
+use borrow.Author.Needs.{needs}
+use Rattle.lower_lines.proofs.read_rules.Statement.{statement}
+use Rattle.lower_lines.proofs.read_rules.Tie as tie
+
+abbrev Inv-loop : tie.InvT-loop
+Inv-loop s places m first hidden tops₀ out₀ arena₀ signals used lowered₀ i₀ place₀ row₀ tops out arena lowered i place row = (ws : List Written) × Underway s places m first used out₀ tops₀ i place row lowered ws out tops × (length arena ≡ 1024)
+
+abbrev μ-loop : tie.MeasureT-loop
+μ-loop s places m first hidden tops₀ out₀ arena₀ signals used lowered₀ i₀ place₀ row₀ tops out arena lowered i place row = m - i
+
+add-used : tie.Need-add-used Inv-loop μ-loop
+add-used c = omega (arith, c .before .before .before .before .pre .0 .0 .few)
+
+loop-holds : tie.Need-loop-holds Inv-loop μ-loop
+loop-holds c = ([], underway-none _ _ _ _ _ _ _ (c .before .before .before .before .pre .0 .0 .within) (omega (arith, c .before .before .before .before .pre .0 .0 .few)), refl)
+
+slice-aggregate-rule-line : tie.Need-slice-aggregate-rule-line Inv-loop μ-loop
+slice-aggregate-rule-line c = search needs
+
+rule-line-requires : tie.Need-rule-line-requires Inv-loop μ-loop
+rule-line-requires c κs = line-ready _ _ _ _ _ _ _ (c .before .before .loop .inv .1) (c .before .before .before .before .before .before .before .pre .0 .0) _ (c .before .before .loop .inv .2)
+
+enum-known-r : tie.Need-enum-known-r Inv-loop μ-loop
+enum-known-r c = search needs
+
+sub-node : tie.Need-sub-node Inv-loop μ-loop
+sub-node c = omega (arith, (when-rule (c .before .before .before .before .rule-line .ensures) (c .before .r .given .1)) .some)
+
+sub-own : tie.Need-sub-own Inv-loop μ-loop
+sub-own c = omega (arith, (when-rule (c .before .before .before .before .rule-line .ensures) (c .before .r .given .1)) .next)
+
+slice-aggregate-lower-next : tie.Need-slice-aggregate-lower-next Inv-loop μ-loop
+slice-aggregate-lower-next c = search needs
+
+lower-next-requires : tie.Need-lower-next-requires Inv-loop μ-loop
+lower-next-requires c κs = let w = (when-rule (c .before .before .before .before .before .before .before .rule-line .ensures) (c .before .before .before .before .r .given .1)) in ((node-inside w, own-definings w), (omega (arith, (c .before .before .before .before .before .before .before .before .before .before .loop .inv .1) .long), tried-room ((c .before .before .before .before .before .before .before .before .before .before .loop .inv .1) .done)))
+
+add-i : tie.Need-add-i Inv-loop μ-loop
+add-i c = search needs
+
+loop-less : tie.Need-loop-less Inv-loop μ-loop
+loop-less c = search needs
+
+loop-again : tie.Need-loop-again Inv-loop μ-loop
+loop-again c = (_, underway-one _ _ _ _ _ _ _ (c .before .before .before .before .before .before .before .before .before .before .before .before .before .before .before .loop .inv .1) (c .before .before .before .before .before .before .before .before .before .before .before .before .before .before .loop-test .taken) (when-rule (c .before .before .before .before .before .before .before .before .before .before .before .before .rule-line .ensures) (c .before .before .before .before .before .before .before .before .before .r .given .1)) _ _ _ (omega arith) (omega arith) (c .before .before .before .before .lower-next .ensures), omega arith)
+
+enum-known-r-2 : tie.Need-enum-known-r-2 Inv-loop μ-loop
+enum-known-r-2 c = search needs
+
+same-length : tie.Need-same-length Inv-loop μ-loop
+same-length c = (c .before .before .before .before .before .before .before .loop .inv .1) .wide
+
+same-length-2 : tie.Need-same-length-2 Inv-loop μ-loop
+same-length-2 c = (c .before .before .before .before .before .before .before .loop .inv .1) .long
+
+returns : tie.Need-returns Inv-loop μ-loop
+returns c = refused-at (passed-off _ _ _ _ ((c .before .before .before .before .before .before .before .loop .inv .1) .passed) (c .before .before .before .before .before .before .loop-test .taken) (when-no-rule (c .before .before .before .before .rule-line .ensures) (c .before .r2 .given .1)))
+
+sub-found : tie.Need-sub-found Inv-loop μ-loop
+sub-found c = omega (arith, (c .before .loop .inv .1) .row)
+
+same-length-3 : tie.Need-same-length-3 Inv-loop μ-loop
+same-length-3 c = (c .before .loop .inv .1) .wide
+
+same-length-4 : tie.Need-same-length-4 Inv-loop μ-loop
+same-length-4 c = (c .before .loop .inv .1) .long
+
+returns-2 : tie.Need-returns-2 Inv-loop μ-loop
+returns-2 c = underway-all _ _ _ _ _ _ _ (c .before .loop .inv .1) (omega arith)
+
+pub read-rules-spec : {M : Type 1} → statement M
+read-rules-spec =
+    tie.close
+    (tie.spec
+    Inv-loop
+    μ-loop
+    add-used
+    loop-holds
+    slice-aggregate-rule-line
+    rule-line-requires
+    enum-known-r
+    sub-node
+    sub-own
+    slice-aggregate-lower-next
+    lower-next-requires
+    add-i
+    loop-less
+    loop-again
+    enum-known-r-2
+    same-length
+    same-length-2
+    returns
+    sub-found
+    same-length-3
+    same-length-4
+    returns-2)

@@ -1,0 +1,92 @@
+// The lines of a sheet's rules, each read into one arena and lowered with the defining rules of its hidden signals before the next is read.
+// Assumes that the head was accepted. The names are those at `places` of the sheet text `s`.
+use lower_rule::rules::AllLowered;
+use lower_rule::rules::lower_whole_rule;
+use read_parts::parts::Parsed;
+use read_sheet::rules::rule_line;
+ghost use mathlib.Core.Path.{_≡_};
+ghost use mathlib.Core.List.{_∷_};
+ghost use Prim.Native.Nat.{_+_, _≤_};
+ghost use lib.ListN.{length};
+ghost use Rattle.read_names.specs.Words.{namesAt};
+ghost use Rattle.spec_tilco.specs.Lowering.{lows};
+ghost use Rattle.read_arena.specs.Readings.{formAt, definingsAt, Arena};
+ghost use Rattle.read_sheet.specs.Sheet.{rules as rulesOf};
+ghost use Rattle.lower_rule.specs.Rules.{allLoweredSays};
+ghost use Rattle.lower_lines.specs.InTurn.{Legible, RoomIn, Follows, RulesRead};
+
+// How many hidden signals the rules have, the place after their lines, and how far they are lowered. Or a refusal's number and place.
+pub enum RuleLines {
+    Read {
+        hidden: usize,
+        end: usize,
+        lowered: AllLowered,
+    },
+    Refused(usize, usize),
+}
+
+// The rule at a node of the arena, with so many hidden signals, after those that are lowered. Once there was no room, none is lowered.
+fn lower_next(
+    arena: &[u16],
+    node: usize,
+    hidden: usize,
+    tops: &mut [u16],
+    out: &mut [u64],
+    lowered: AllLowered,
+) -> AllLowered
+    requires { ⌜ Arena (node + 1) (now arena) × (length (definingsAt (now arena) node) ≡ hidden) ⌝ }
+    requires { ⌜ (length (now out) ≤ 1024) × RoomIn (now out) (now tops) (allLoweredSays lowered) ⌝ }
+    ensures { λ r. ⌜ Follows (lows (formAt (now (arena .entry)) node ∷ definingsAt (now (arena .entry)) node)) (now (out .entry)) (now (out .exit)) (now (tops .entry)) (now (tops .exit)) lowered r ⌝ }
+{
+    let AllLowered::Next { at, used } = lowered else {
+        return AllLowered::Full;
+    };
+    if tops.len() - at <= hidden {
+        return AllLowered::Full;
+    }
+    lower_whole_rule(arena, node, hidden, tops, at, out, used)
+}
+
+// The rules on the `m` lines from `first` on, lowered as those of a sheet with `hidden` hidden signals. Once there is no room, they are only
+// read: a refusal of a later line comes before that of the sheet's size.
+pub fn read_rules(
+    s: &[u8],
+    places: &[u64],
+    m: usize,
+    first: usize,
+    hidden: usize,
+    tops: &mut [u16],
+    out: &mut [u64],
+) -> RuleLines
+    requires { ⌜ Legible (now s) (now places) m first × (hidden ≤ 32) ⌝ }
+    requires { ⌜ (length (now out) ≡ 1024) × (length (now tops) ≡ 96) ⌝ }
+    ensures { λ r. ⌜ RulesRead (rulesOf (namesAt (now (s .entry)) (now (places .entry))) (now (s .entry)) m first) (length (now (places .entry))) (length (now (places .entry)) + hidden) (now (out .entry)) (now (out .exit)) (now (tops .entry)) (now (tops .exit)) r ⌝ }
+{
+    let mut arena = [0u16; 1024];
+    let signals = places.len();
+    let used = signals + hidden;
+    let mut lowered = AllLowered::Next { at: 0, used };
+    let mut i = 0;
+    let mut place = first;
+    let mut row = signals;
+    while i < m {
+        let r = rule_line(s, places, &mut arena, place, row);
+        match r {
+            Parsed::Got(next, nodes, below) => {
+                let node = nodes - 1;
+                let own = below - row;
+                lowered = lower_next(&arena, node, own, tops, out, lowered);
+                place = next;
+                row = below;
+                i += 1;
+            }
+            Parsed::Refused(n, p) => return RuleLines::Refused(n, p),
+        }
+    }
+    let found = row - signals;
+    RuleLines::Read {
+        hidden: found,
+        end: place,
+        lowered,
+    }
+}

@@ -1,0 +1,149 @@
+-- Writes to the row buffer one after the other, and runs of rows that a loop writes.
+-- Assumes nothing.
+use mathlib.Core.Path.{_≡_, refl, sym, ap, _∙_}
+use mathlib.Core.Bool.{Bool}
+use mathlib.Core.List.{List, [], _∷_, _++_, map, map-append}
+use Prim.Native.Nat.{ℕ, zero, suc, _+_, _≤_, _<_}
+use native.Mathlib.Nat.{add-zero, add-suc, suc-add}
+use native.Mathlib.Numerals.{add-one}
+use native.Mathlib.Decide.{ℕ-discrete}
+use native.Mathlib.Omega.{arith}
+use lib.ListN.{length, set, getD, length-append}
+use lib.Seq.{sets, length-sets, getD-set-same, getD-set-other}
+use Rattle.spec_tilco.specs.Lists.{tab}
+use Rattle.spec_tilco.specs.Inference.{Node, gate, look}
+use Rattle.spec_tilco.specs.Lowering.{joined}
+use Rattle.lower_rows.specs.Words.{word}
+use Rattle.lower_rows.specs.Writes.{looks, gates, lastGate, Wrote, Spreads}
+use Rattle.lower_rows.specs.declared.words.Lowered.{Lowered}
+use Rattle.lower_rows.specs.declared.words.Lowered.the-variants.{Top, Full}
+
+-- Two runs of stores are one.
+pub sets-append : (m : List ℕ) (b : ℕ) (ws vs : List ℕ) → sets (sets m b ws) (b + length ws) vs ≡ sets m b (ws ++ vs)
+sets-append m b [] vs = rw add-zero
+sets-append m b (w ∷ ws) vs = rw (add-suc, ← suc-add) (sets-append (set m b w) (suc b) ws vs)
+
+-- What is known where the words fit.
+pub record Fits (ws : List ℕ) (t b : ℕ) (m m₁ : List ℕ) (row u : ℕ) : Type 0 where
+  pub top : row ≡ t
+  pub next : u ≡ b + length ws
+  pub room : u ≤ length m
+  pub holds : m₁ ≡ sets m b ws
+  pub long : length m₁ ≡ length m
+
+pub fits : (ws : List ℕ) (t b : ℕ) (m m₁ : List ℕ) (r : Lowered) (row u : ℕ) → r ≡ Top row u → Wrote ws t b m m₁ r → Fits ws t b m m₁ row u
+unfolding Wrote
+fits ws t b m m₁ r row u e h =
+    let k = rw e at h in
+    record { top = k .0; next = k .1; room = k .2; holds = k .3; long = ap length (k .3) ∙ length-sets m b ws }
+
+-- One write after another is one write, whatever the second answers.
+extend : (ws vs : List ℕ) (t t′ b : ℕ) (m m₁ m₂ : List ℕ) (row u : ℕ) (r : Lowered)
+    → Fits ws t b m m₁ row u → Wrote vs t′ u m₁ m₂ r → Wrote (ws ++ vs) t′ b m m₂ r
+unfolding Wrote
+extend ws vs t t′ b m m₁ m₂ row u (Top row′ v) R k =
+    (k .0, omega (arith, length-append ws vs), omega arith, k .3 ∙ rw (R .holds, R .next) (sets-append m b ws vs))
+extend ws vs t t′ b m m₁ m₂ row u Full R k = (omega (arith, length-append ws vs), k .1 ∙ R .long)
+
+pub and-then : (ws vs : List ℕ) (t t′ b : ℕ) (m m₁ m₂ : List ℕ) (r₁ : Lowered) (row u : ℕ) (r : Lowered)
+    → r₁ ≡ Top row u → Wrote ws t b m m₁ r₁ → Wrote vs t′ u m₁ m₂ r → Wrote (ws ++ vs) t′ b m m₂ r
+and-then ws vs t t′ b m m₁ m₂ r₁ row u r e h k = extend ws vs t t′ b m m₁ m₂ row u r (fits ws t b m m₁ r₁ row u e h) k
+
+-- Where the first part does not fit, the whole does not.
+pub no-room : (ws vs : List ℕ) (t t′ b : ℕ) (m m₁ : List ℕ) (r₁ : Lowered) → r₁ ≡ Full → Wrote ws t b m m₁ r₁ → Wrote (ws ++ vs) t′ b m m₁ Full
+unfolding Wrote
+no-room ws vs t t′ b m m₁ r₁ e h = let k = rw e at h in (omega (arith, length-append ws vs), k .1)
+
+-- One word more fits.
+pub stored : (w b : ℕ) (m : List ℕ) → b < length m → Wrote (w ∷ []) b b m (set m b w) (Top b (b + 1))
+unfolding Wrote
+stored w b m h = (refl, refl, omega arith, refl)
+
+-- It does not.
+pub not-stored : (w b : ℕ) (m : List ℕ) → length m ≤ b → Wrote (w ∷ []) b b m m Full
+unfolding Wrote
+not-stored w b m h = (omega arith, refl)
+
+-- Nothing is written.
+pub nothing : (t b : ℕ) (m : List ℕ) → b ≤ length m → Wrote [] t b m m (Top t b)
+unfolding Wrote
+nothing t b m h = (refl, rw add-zero, h, refl)
+
+-- A run of rows that grows by one at the end: r i is the row that comes after i rows.
+module _ (R : ℕ → List Node) (r : ℕ → Node) (start : R zero ≡ []) (next : (i : ℕ) → R (suc i) ≡ R i ++ (r i ∷ [])) where
+  -- It has n words.
+  pub run-length : (n : ℕ) → length (map word (R n)) ≡ n
+  run-length zero = rw start
+  run-length (suc n) = rw (next n, map-append, length-append, run-length n) (add-one n)
+
+  -- One more of them stored.
+  pub run-step : (m : List ℕ) (b i : ℕ) → set (sets m b (map word (R i))) (b + i) (word (r i)) ≡ sets m b (map word (R (i + 1)))
+  run-step m b i =
+      rw (add-one i, next i, map-append)
+      (ap (λ (k : ℕ). set (sets m b (map word (R i))) (b + k) (word (r i))) (sym (run-length i)) ∙ sets-append m b (map word (R i)) (word (r i) ∷ []))
+
+  -- None of them stored yet.
+  pub run-none : (m : List ℕ) (b : ℕ) → m ≡ sets m b (map word (R 0))
+  run-none m b = rw start
+
+  -- All n of them stored.
+  pub run-done : (t n b : ℕ) (m m′ : List ℕ) → b + n ≤ length m → m′ ≡ sets m b (map word (R n)) → Wrote (map word (R n)) t b m m′ (Top t (b + n))
+  unfolding Wrote
+  run-done t n b m m′ h e = (refl, ap (λ (k : ℕ). b + k) (sym (run-length n)), h, e)
+
+  -- They do not fit.
+  pub run-full : (t n b : ℕ) (m : List ℕ) → length m < b + n → Wrote (map word (R n)) t b m m Full
+  unfolding Wrote
+  run-full t n b m h = (omega (arith, run-length n), refl)
+
+tab-snoc : (f : ℕ → Node) (n : ℕ) → tab f (suc n) ≡ tab f n ++ (f n ∷ [])
+tab-snoc f zero = refl
+tab-snoc f (suc n) = ap (λ (l : List Node). f 0 ∷ l) (tab-snoc (λ k. f (suc k)) n)
+
+pub looks-start : (x lo : ℕ) → looks x lo zero ≡ []
+unfolding looks
+looks-start x lo = refl
+
+pub looks-next : (x lo i : ℕ) → looks x lo (suc i) ≡ looks x lo i ++ (look (lo + i) x ∷ [])
+unfolding looks
+looks-next x lo i = tab-snoc (λ j. look (lo + j) x) i
+
+pub gates-start : (g : Bool) (i b : ℕ) → gates g i b zero ≡ []
+unfolding gates
+gates-start g i b = refl
+
+pub gates-next : (g : Bool) (i b k : ℕ) → gates g i b (suc k) ≡ gates g i b k ++ (gate g (lastGate i b k) (i + suc k) ∷ [])
+unfolding gates lastGate
+gates-next g i b k = tab-snoc (λ j. gate g (joined i b j) (i + suc j)) k
+
+-- The gate just written is the last.
+pub last-next : (i b k : ℕ) → b + k ≡ lastGate i b (k + 1)
+unfolding lastGate
+last-next i b k = rw (add-one k)
+
+-- Its right child is the next row of those to be joined.
+pub gate-row : (g : Bool) (x i k : ℕ) → word (gate g x (i + k + 1)) ≡ word (gate g x (i + suc k))
+gate-row g x i k = let e : i + k + 1 ≡ i + suc k = omega arith in ap (λ (y : ℕ). word (gate g x y)) e
+
+-- One number more of those that follow one another.
+pub numbers-more : (l : List ℕ) (i lo : ℕ) → i < length l → ((j : ℕ) → j < i → getD l j 0 ≡ lo + j)
+    → (j : ℕ) → j < i + 1 → getD (set l i (lo + i)) j 0 ≡ lo + j
+numbers-more l i lo h before j lt = go (ℕ-discrete j i)
+  where
+    go : Dec (j ≡ i) → getD (set l i (lo + i)) j 0 ≡ lo + j
+    go (yes e) = rw e (getD-set-same l i (lo + i) 0 h)
+    go (no ne) = getD-set-other l i j (lo + i) 0 ne ∙ before j (omega (arith, ne))
+
+-- The looks of an interval were tried: the joins follow.
+module _ (g : Bool) (lo k x b : ℕ) (m m₁ : List ℕ) (r₁ : Lowered) (w₁ : Wrote (map word (looks x lo (k + 1))) b b m m₁ r₁) where
+  pub spread-full : r₁ ≡ Full → Spreads g lo k x b m m₁ Full
+  unfolding Spreads
+  spread-full e = rw map-append (no-room _ _ _ _ _ _ _ _ e (rw add-one at w₁))
+
+  pub spread-then : (row u : ℕ) (m₂ : List ℕ) (r : Lowered) → r₁ ≡ Top row u
+      → Wrote (map word (gates g b u k)) (lastGate b u k) u m₁ m₂ r → Spreads g lo k x b m m₂ r
+  unfolding Spreads
+  spread-then row u m₂ r e h =
+      let R = fits _ _ _ _ _ _ row u e w₁ in
+      let n : u ≡ b + suc k = omega (arith, run-length (looks x lo) _ (looks-start x lo) (looks-next x lo) (k + 1)) in
+      rw (map-append, ← n) (and-then _ _ _ _ _ _ _ _ _ _ _ _ e (rw add-one at w₁) h)

@@ -1,0 +1,94 @@
+-- `rows::interval::write_looks` meets its contract: the loop has written the first i looks. Assumes nothing.
+use mathlib.Core.Path.{_≡_, refl}
+use mathlib.Core.List.{map}
+use Prim.Native.Nat.{_-_, _≤_}
+use native.Mathlib.Omega.{arith}
+use lib.ListN.{length, getD, length-set}
+use lib.Seq.{sets}
+use Rattle.lower_rows.specs.Words.{word}
+use Rattle.lower_rows.specs.Writes.{looks}
+use Rattle.lower_rows.proofs.Runs.{run-step, run-none, run-done, run-full, looks-start, looks-next}
+use Rattle.lower_rows.proofs.interval.write_looks.Statement.{statement}
+use Rattle.lower_rows.proofs.interval.write_looks.Tie as tie
+
+abbrev Inv-loop : tie.InvT-loop
+Inv-loop child offsets n out₀ used i₀ out i = (i ≤ n) × (length out ≡ length out₀) × (out ≡ sets out₀ used (map word (looks child (getD offsets 0 0) i)))
+
+abbrev μ-loop : tie.MeasureT-loop
+μ-loop child offsets n out₀ used i₀ out i = n - i
+
+sub-if1 : tie.Need-sub-if1 Inv-loop μ-loop
+sub-if1 c = omega arith
+
+returns : tie.Need-returns Inv-loop μ-loop
+returns c = run-full (looks _ _) _ (looks-start _ _) (looks-next _ _) _ (c .before .before .args .n) (c .before .before .args .used) (c .before .before .args .out .now) (omega arith)
+
+loop-holds : tie.Need-loop-holds Inv-loop μ-loop
+loop-holds c = (omega arith, refl, run-none (looks _ _) _ (looks-start _ _) (looks-next _ _) _ _)
+
+mul-look-word : tie.Need-mul-look-word Inv-loop μ-loop
+mul-look-word c = omega arith
+
+element-copy-out-look-word : tie.Need-element-copy-out-look-word Inv-loop μ-loop
+element-copy-out-look-word c = omega arith
+
+look-word-requires : tie.Need-look-word-requires Inv-loop μ-loop
+look-word-requires c κs = omega arith
+
+add-out : tie.Need-add-out Inv-loop μ-loop
+add-out c = omega arith
+
+mul-out : tie.Need-mul-out Inv-loop μ-loop
+mul-out c = omega arith
+
+slice-write-out : tie.Need-slice-write-out Inv-loop μ-loop
+slice-write-out c = omega arith
+
+add-i : tie.Need-add-i Inv-loop μ-loop
+add-i c = omega arith
+
+loop-less : tie.Need-loop-less Inv-loop μ-loop
+loop-less c = omega arith
+
+loop-again : tie.Need-loop-again Inv-loop μ-loop
+loop-again c =
+    let l = c .before .before .before .loop in
+    (omega arith, simp length-set (l .inv .1), rw (c .look-word .ensures, l .inv .2, c .before .before .before .before .before .before .pre .1 .1 (l .i) (c .before .before .loop-test .taken)) (run-step (looks _ _) _ (looks-start _ _) (looks-next _ _) _ _ _))
+
+cast-row : tie.Need-cast-row Inv-loop μ-loop
+cast-row c = omega arith
+
+add-next : tie.Need-add-next Inv-loop μ-loop
+add-next c = omega arith
+
+same-length : tie.Need-same-length Inv-loop μ-loop
+same-length c = omega arith
+
+returns-2 : tie.Need-returns-2 Inv-loop μ-loop
+returns-2 c =
+    let l = c .before .loop in
+    let e : l .i ≡ c .before .before .before .before .args .n = omega arith in
+    run-done (looks _ _) _ (looks-start _ _) (looks-next _ _) _ (c .before .before .before .before .args .n) (c .before .before .before .before .args .used) (c .before .before .before .before .args .out .now) _ (omega arith) (rw e at (l .inv .2))
+
+pub write-looks-spec : {M : Type 1} → statement M
+write-looks-spec =
+    tie.close
+    (tie.spec
+    Inv-loop
+    μ-loop
+    sub-if1
+    returns
+    loop-holds
+    mul-look-word
+    element-copy-out-look-word
+    look-word-requires
+    add-out
+    mul-out
+    slice-write-out
+    add-i
+    loop-less
+    loop-again
+    cast-row
+    add-next
+    same-length
+    returns-2)

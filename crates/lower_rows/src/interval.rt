@@ -1,0 +1,89 @@
+// The looks of an interval and their joins. Offsets are written with 64 added.
+use crate::words::Lowered;
+use crate::words::gate_word;
+use crate::words::look_word;
+ghost use mathlib.Core.Path.{_≡_};
+ghost use mathlib.Core.List.{map};
+ghost use Prim.Native.Nat.{ℕ, _+_, _≤_, _<_};
+ghost use lib.ListN.{length, getD};
+ghost use Rattle.lower_rows.specs.Words.{word};
+ghost use Rattle.lower_rows.specs.Writes.{looks, gates, lastGate, Wrote, Spreads};
+
+// The offsets from the first up, as many as an interval can have.
+fn offsets_from(first: u16) -> [u16; 127]
+    requires { ⌜ first < 128 ⌝ }
+    ensures { λ r. ⌜ ((i : ℕ) → i < 127 → getD r i 0 ≡ first + i) ⌝ }
+{
+    let mut offsets = [0u16; 127];
+    let mut i: usize = 0;
+    while i < 127 {
+        offsets[i] = first + i as u16;
+        i += 1;
+    }
+    offsets
+}
+
+// A look at the row child for each of the first n offsets, in the rows from used on.
+fn write_looks(child: u16, offsets: &[u16; 127], n: usize, out: &mut [u64], used: usize) -> Lowered
+    requires { ⌜ n ≤ 127 ⌝ }
+    requires { ⌜ (length (now out) ≤ 1024) × (used ≤ length (now out)) ⌝ }
+    requires { ⌜ ((i : ℕ) → i < n → getD (now offsets) i 0 ≡ getD (now offsets) 0 0 + i) ⌝ }
+    ensures { λ r. ⌜ Wrote (map word (looks child (getD (now (offsets .entry)) 0 0) n)) used used (now (out .entry)) (now (out .exit)) r ⌝ }
+{
+    if out.len() - used < n {
+        return Lowered::Full;
+    }
+    let mut i: usize = 0;
+    while i < n {
+        out[used + i] = look_word(child, offsets[i]);
+        i += 1;
+    }
+    let row = used as u16;
+    let next = used + n;
+    Lowered::Top { row, used: next }
+}
+
+// The n gates that join the n + 1 rows from first on, from the left, in the rows from used on.
+fn write_gates(gate: bool, first: usize, n: usize, out: &mut [u64], used: usize) -> Lowered
+    requires { ⌜ (first ≤ 1024) × (n ≤ 127) ⌝ }
+    requires { ⌜ (length (now out) ≤ 1024) × (used ≤ length (now out)) ⌝ }
+    ensures { λ r. ⌜ Wrote (map word (gates gate first used n)) (lastGate first used n) used (now (out .entry)) (now (out .exit)) r ⌝ }
+{
+    if out.len() - used < n {
+        return Lowered::Full;
+    }
+    let mut last = first;
+    let mut i: usize = 0;
+    while i < n {
+        let left = last as u16;
+        let right = (first + i + 1) as u16;
+        out[used + i] = gate_word(gate, left, right);
+        last = used + i;
+        i += 1;
+    }
+    let row = last as u16;
+    let next = used + n;
+    Lowered::Top { row, used: next }
+}
+
+// The looks at the row child over the interval of the offset first and so many more, then their joins by and (true) or by or (false).
+pub fn spread(
+    child: u16,
+    gate: bool,
+    first: u16,
+    more: u16,
+    out: &mut [u64],
+    used: usize,
+) -> Lowered
+    requires { ⌜ (1 ≤ first) × (first + more ≤ 127) ⌝ }
+    requires { ⌜ (length (now out) ≤ 1024) × (used ≤ length (now out)) ⌝ }
+    ensures { λ r. ⌜ Spreads gate first more child used (now (out .entry)) (now (out .exit)) r ⌝ }
+{
+    let offsets = offsets_from(first);
+    let joins = more as usize;
+    let count = joins + 1;
+    let Lowered::Top { row: _, used: next } = write_looks(child, &offsets, count, out, used) else {
+        return Lowered::Full;
+    };
+    write_gates(gate, used, joins, out, next)
+}

@@ -1,0 +1,62 @@
+// Rows as words, one row more in the buffer, and a signal in a sense. A signal's own row is not written: its word is 8, which the buffer is lent with.
+ghost use mathlib.Core.Path.{_≡_};
+ghost use mathlib.Core.List.{[], _∷_};
+ghost use Prim.Native.Nat.{_≤_};
+ghost use lib.ListN.{length};
+ghost use Rattle.spec_tilco.specs.Inference.{gate as gateOf, look};
+ghost use Rattle.spec_tilco.specs.Lowering.{lit};
+ghost use Rattle.lower_rows.specs.Words.{word};
+ghost use Rattle.lower_rows.specs.Writes.{Wrote, Lowers};
+
+// The top row of what was written and the rows then used; or there is no room.
+pub enum Lowered {
+    Top { row: u16, used: usize },
+    Full,
+}
+
+// The word of a gate: an and (true) or an or (false) of the rows a and b.
+pub fn gate_word(gate: bool, a: u16, b: u16) -> u64
+    ensures { λ r. ⌜ r ≡ word (gateOf gate a b) ⌝ }
+{
+    let left = a as u64;
+    let right = b as u64;
+    let rows = 8 * (left + 65536 * right);
+    if gate { 1 + rows } else { 2 + rows }
+}
+
+// The word of a look at the row child, at an offset with 64 added.
+pub fn look_word(child: u16, offset: u16) -> u64
+    ensures { λ r. ⌜ r ≡ word (look offset child) ⌝ }
+{
+    let row = child as u64;
+    let ticks = offset as u64;
+    3 + 8 * (row + 65536 * ticks)
+}
+
+// One row more.
+pub fn push_row(word: u64, out: &mut [u64], used: usize) -> Lowered
+    requires { ⌜ (length (now out) ≤ 1024) × (used ≤ length (now out)) ⌝ }
+    ensures { λ r. ⌜ Wrote (word ∷ []) used used (now (out .entry)) (now (out .exit)) r ⌝ }
+{
+    if out.len() - used < 1 {
+        return Lowered::Full;
+    }
+    out[used] = word;
+    let row = used as u16;
+    let next = used + 1;
+    Lowered::Top { row, used: next }
+}
+
+// A signal in a sense: its own row in the true one, a not-row in the false one.
+pub fn name_row(signal: u16, sense: bool, out: &mut [u64], used: usize) -> Lowered
+    requires { ⌜ (length (now out) ≤ 1024) × (used ≤ length (now out)) ⌝ }
+    ensures { λ r. ⌜ Lowers (lit sense signal) used (now (out .entry)) (now (out .exit)) r ⌝ }
+{
+    if sense {
+        Lowered::Top { row: signal, used }
+    } else {
+        let row = signal as u64;
+        let opposite = 4 + 8 * row;
+        push_row(opposite, out, used)
+    }
+}

@@ -1,0 +1,230 @@
+-- `rows::rules::lower_definings` and `both_definings` meet their contracts. The measure is a node's number: children stand before their
+-- parents. Assumes nothing.
+use Prim.Native.Nat.{ℕ, _+_, _*_, _<_, max}
+use Rattle.read_arena.proofs.Puts.{arena-fewer}
+use Rattle.read_arena.proofs.Read.{definings-step, right-step}
+use Rattle.read_arena.specs.Readings.{definingsAt}
+use Rattle.lower_rule.proofs.InTurn.{went-all, all-none, all-full, all-then, rules-full, rules-then, rules-tops}
+use borrow.Author.Needs.{needs}
+use lib.ListN.{length, length-append}
+use mathlib.Core.List.{[], _∷_}
+use mathlib.Core.Path.{sym, ap, _∙_}
+use native.Mathlib.Omega.{arith}
+use borrow.Fn.Kinds.{In}
+use borrow.Fn.PlainCycle.{Measures, is, falls, and}
+use Rattle.lower_rule.proofs.rules.both_definings.Reads as both-definings
+use Rattle.lower_rule.proofs.rules.both_definings.Kinds as both-definings-kinds
+use Rattle.lower_rule.proofs.rules.+both_definings+lower_definings.Lts-both_definings as both-definings-lts
+use Rattle.lower_rule.proofs.rules.lower_definings.Reads as lower-definings
+use Rattle.lower_rule.proofs.rules.lower_definings.Kinds as lower-definings-kinds
+use Rattle.lower_rule.proofs.rules.+both_definings+lower_definings.Lts-lower_definings as lower-definings-lts
+use Rattle.read_arena.proofs.node_at.Reads as node-at-reads
+use Rattle.lower_rule.proofs.rules.lower_rule.Reads as lower-rule-reads
+use Rattle.lower_rule.proofs.rules.+both_definings+lower_definings.{statement}
+use Rattle.lower_rule.proofs.rules.+both_definings+lower_definings.Tie.{close}
+
+abbrev μ-both-definings : Measures 3 both-definings-kinds.ps ℕ
+μ-both-definings κs a = 2 * max (a .1 .0) (a .1 .1 .0) + 2
+
+abbrev μ-lower-definings : Measures 3 lower-definings-kinds.ps ℕ
+μ-lower-definings κs a = 2 * a .1 .0 + 1
+
+module _ (t : ℕ) where
+  abbrev both-definings-at : In 3 both-definings-kinds.ps
+  both-definings-at = and 3 both-definings-kinds.ps (is 3 both-definings-kinds.ps μ-both-definings t) both-definings.Pre
+
+  abbrev both-definings-below : In 3 both-definings-kinds.ps
+  both-definings-below = and 3 both-definings-kinds.ps (falls 3 both-definings-kinds.ps _<_ μ-both-definings t) both-definings.Pre
+
+  abbrev lower-definings-at : In 3 lower-definings-kinds.ps
+  lower-definings-at = and 3 lower-definings-kinds.ps (is 3 lower-definings-kinds.ps μ-lower-definings t) lower-definings.Pre
+
+  abbrev lower-definings-below : In 3 lower-definings-kinds.ps
+  lower-definings-below = and 3 lower-definings-kinds.ps (falls 3 lower-definings-kinds.ps _<_ μ-lower-definings t) lower-definings.Pre
+
+  abbrev both-definings-calls : both-definings-lts.Claims
+  both-definings-calls = (lower-definings-below, lower-definings.Post)
+
+  abbrev lower-definings-calls : lower-definings-lts.Claims
+  lower-definings-calls = (node-at-reads.Asked, node-at-reads.Learnt, lower-definings-below, lower-definings.Post, both-definings-below, both-definings.Post, lower-rule-reads.Asked, lower-rule-reads.Learnt)
+
+  both-definings-lower-definings-requires : both-definings-lts.Need-lower-definings-requires both-definings-calls both-definings-at both-definings.Post
+  both-definings-lower-definings-requires c κs =
+      let s = c .before .before .before .before .before .args in
+      let n = length-append (definingsAt (s .arena .now) (s .left)) (definingsAt (s .arena .now) (s .right)) in
+      (omega arith, (search needs, (omega arith, (omega arith, omega arith))))
+
+  both-definings-enum-known-free : both-definings-lts.Need-enum-known-free both-definings-calls both-definings-at both-definings.Post
+  both-definings-enum-known-free c = search needs
+
+  both-definings-enum-told : both-definings-lts.Need-enum-told both-definings-calls both-definings-at both-definings.Post
+  both-definings-enum-told c = search needs
+
+  both-definings-same-length : both-definings-lts.Need-same-length both-definings-calls both-definings-at both-definings.Post
+  both-definings-same-length c = search needs
+
+  both-definings-same-length-2 : both-definings-lts.Need-same-length-2 both-definings-calls both-definings-at both-definings.Post
+  both-definings-same-length-2 c = search needs
+
+  both-definings-returns : both-definings-lts.Need-returns both-definings-calls both-definings-at both-definings.Post
+  both-definings-returns c =
+      let s = c .before .before .before .before .before .before .before .before .before .before .before .before .args in
+      rules-full (definingsAt (s .arena .now) (s .left)) (definingsAt (s .arena .now) (s .right)) _ _ _ _ _ _ _ (c .before .before .before .before .before .before .lower-definings .ensures) _ (c .enum-told .given .1)
+
+  both-definings-lower-definings-requires-2 : both-definings-lts.Need-lower-definings-requires-2 both-definings-calls both-definings-at both-definings.Post
+  both-definings-lower-definings-requires-2 c κs =
+      let s = c .before .before .before .before .before .before .before .before .before .before .before .before .before .before .before .args in
+      let w = c .before .before .before .before .before .before .before .before .before .lower-definings .ensures in
+      let W = went-all _ _ _ _ _ _ _ _ w _ _ (c .before .before .before .free .given .1) in
+      let n = rules-tops (definingsAt (s .arena .now) (s .left)) (definingsAt (s .arena .now) (s .right)) _ _ _ _ _ _ _ w _ _ (c .before .before .before .free .given .1) _ (c .before .before .before .before .before .before .before .before .before .before .before .before .before .before .before .pre .1 .1 .0) in
+      (omega arith, (c .before .before .before .before .before .before .before .before .before .before .before .before .before .before .before .pre .1 .0 .1, (omega arith, (omega arith, omega arith))))
+
+  both-definings-same-length-3 : both-definings-lts.Need-same-length-3 both-definings-calls both-definings-at both-definings.Post
+  both-definings-same-length-3 c = search needs
+
+  both-definings-same-length-4 : both-definings-lts.Need-same-length-4 both-definings-calls both-definings-at both-definings.Post
+  both-definings-same-length-4 c = search needs
+
+  both-definings-returns-2 : both-definings-lts.Need-returns-2 both-definings-calls both-definings-at both-definings.Post
+  both-definings-returns-2 c =
+      let s = c .before .before .before .before .before .before .before .before .before .before .before .before .before .before .before .before .before .before .before .before .args in
+      rules-then (definingsAt (s .arena .now) (s .left)) (definingsAt (s .arena .now) (s .right)) _ _ _ _ _ _ _ (c .before .before .before .before .before .before .before .before .before .before .before .before .before .before .lower-definings .ensures) _ _ (c .before .before .before .before .before .before .before .before .free .given .1) _ _ _ (c .before .before .before .before .lower-definings2 .ensures)
+
+  lower-definings-node-at-requires : lower-definings-lts.Need-node-at-requires lower-definings-calls lower-definings-at lower-definings.Post
+  lower-definings-node-at-requires c κs = search needs
+
+  lower-definings-enum-told : lower-definings-lts.Need-enum-told lower-definings-calls lower-definings-at lower-definings.Post
+  lower-definings-enum-told c = search needs
+
+  lower-definings-enum-known-x : lower-definings-lts.Need-enum-known-x lower-definings-calls lower-definings-at lower-definings.Post
+  lower-definings-enum-known-x c = search needs
+
+  lower-definings-lower-definings-requires : lower-definings-lts.Need-lower-definings-requires lower-definings-calls lower-definings-at lower-definings.Post
+  lower-definings-lower-definings-requires c κs =
+      let A = c .before .before .before .before .before .before .before .before .before .pre .1 .0 in
+      let e = sym (c .before .before .before .before .before .node-at .ensures) ∙ c .before .before .before .x .given .1 in
+      let R = right-step _ _ A (omega arith) e in
+      let z = ap length (definings-step _ _ A (omega arith) e) in
+      (omega arith, (arena-fewer _ (omega arith) A, (omega arith, (omega arith, omega arith))))
+
+  lower-definings-enum-known-x-2 : lower-definings-lts.Need-enum-known-x-2 lower-definings-calls lower-definings-at lower-definings.Post
+  lower-definings-enum-known-x-2 c = search needs
+
+  lower-definings-both-definings-requires : lower-definings-lts.Need-both-definings-requires lower-definings-calls lower-definings-at lower-definings.Post
+  lower-definings-both-definings-requires c κs =
+      let A = c .before .before .before .before .before .before .before .before .before .pre .1 .0 in
+      let e = sym (c .before .before .before .before .before .node-at .ensures) ∙ c .before .before .before .x2 .given .1 in
+      let R = right-step _ _ A (omega arith) e in
+      let z = ap length (definings-step _ _ A (omega arith) e) in
+      (omega arith, ((arena-fewer _ (omega arith) A, arena-fewer _ (omega arith) A), (omega arith, (omega arith, omega arith))))
+
+  lower-definings-enum-known-x-3 : lower-definings-lts.Need-enum-known-x-3 lower-definings-calls lower-definings-at lower-definings.Post
+  lower-definings-enum-known-x-3 c = search needs
+
+  lower-definings-lower-definings-requires-2 : lower-definings-lts.Need-lower-definings-requires-2 lower-definings-calls lower-definings-at lower-definings.Post
+  lower-definings-lower-definings-requires-2 c κs =
+      let A = c .before .before .before .before .before .before .before .before .before .pre .1 .0 in
+      let e = sym (c .before .before .before .before .before .node-at .ensures) ∙ c .before .before .before .x3 .given .1 in
+      let R = right-step _ _ A (omega arith) e in
+      let z = ap length (definings-step _ _ A (omega arith) e) in
+      (omega arith, (arena-fewer _ (omega arith) A, (omega arith, (omega arith, omega arith))))
+
+  lower-definings-enum-known-x-4 : lower-definings-lts.Need-enum-known-x-4 lower-definings-calls lower-definings-at lower-definings.Post
+  lower-definings-enum-known-x-4 c = search needs
+
+  lower-definings-sub-own : lower-definings-lts.Need-sub-own lower-definings-calls lower-definings-at lower-definings.Post
+  lower-definings-sub-own c =
+      let A = c .before .before .before .before .before .before .before .pre .1 .0 in
+      let e = sym (c .before .before .before .node-at .ensures) ∙ c .before .x4 .given .1 in
+      let R = right-step _ _ A (omega arith) e in
+      let z = ap length (definings-step _ _ A (omega arith) e) in
+      omega arith
+
+  lower-definings-lower-rule-requires : lower-definings-lts.Need-lower-rule-requires lower-definings-calls lower-definings-at lower-definings.Post
+  lower-definings-lower-rule-requires c κs =
+      let A = c .before .before .before .before .before .before .before .before .before .pre .1 .0 in
+      let e = sym (c .before .before .before .before .before .node-at .ensures) ∙ c .before .before .before .x4 .given .1 in
+      let R = right-step _ _ A (omega arith) e in
+      let z = ap length (definings-step _ _ A (omega arith) e) in
+      (arena-fewer _ (omega arith) A, (omega arith, (omega arith, omega arith)))
+
+  lower-definings-enum-known-free : lower-definings-lts.Need-enum-known-free lower-definings-calls lower-definings-at lower-definings.Post
+  lower-definings-enum-known-free c = search needs
+
+  lower-definings-enum-told-2 : lower-definings-lts.Need-enum-told-2 lower-definings-calls lower-definings-at lower-definings.Post
+  lower-definings-enum-told-2 c = search needs
+
+  lower-definings-same-length : lower-definings-lts.Need-same-length lower-definings-calls lower-definings-at lower-definings.Post
+  lower-definings-same-length c = search needs
+
+  lower-definings-same-length-2 : lower-definings-lts.Need-same-length-2 lower-definings-calls lower-definings-at lower-definings.Post
+  lower-definings-same-length-2 c = search needs
+
+  lower-definings-returns : lower-definings-lts.Need-returns lower-definings-calls lower-definings-at lower-definings.Post
+  lower-definings-returns c =
+      let e = sym (c .before .before .before .before .before .before .before .before .before .before .before .before .node-at .ensures) ∙ c .before .before .before .before .before .before .before .before .before .before .x4 .given .1 in
+      rw (definings-step _ _ (c .before .before .before .before .before .before .before .before .before .before .before .before .before .before .before .before .pre .1 .0) (omega arith) e) (all-full (_ ∷ []) _ _ _ _ _ _ _ _ (c .before .before .before .before .before .before .lower-rule .ensures) _ (c .enum-told2 .given .1))
+
+  lower-definings-both-definings-requires-2 : lower-definings-lts.Need-both-definings-requires-2 lower-definings-calls lower-definings-at lower-definings.Post
+  lower-definings-both-definings-requires-2 c κs =
+      let A = c .before .before .before .before .before .before .before .before .before .before .before .before .before .before .before .before .before .before .before .pre .1 .0 in
+      let e = sym (c .before .before .before .before .before .before .before .before .before .before .before .before .before .before .before .node-at .ensures) ∙ c .before .before .before .before .before .before .before .before .before .before .before .before .before .x4 .given .1 in
+      let R = right-step _ _ A (omega arith) e in
+      let z = ap length (definings-step _ _ A (omega arith) e) in
+      let W = went-all _ _ _ _ _ _ _ _ (c .before .before .before .before .before .before .before .before .before .lower-rule .ensures) _ _ (c .before .before .before .free .given .1) in
+      (omega arith, ((arena-fewer _ (omega arith) A, arena-fewer _ (omega arith) A), (omega arith, (omega arith, omega arith))))
+
+  lower-definings-returns-2 : lower-definings-lts.Need-returns-2 lower-definings-calls lower-definings-at lower-definings.Post
+  lower-definings-returns-2 c =
+      let e = sym (c .before .before .node-at .ensures) ∙ c .enum-told .given .1 in
+      rw (definings-step _ _ (c .before .before .before .before .before .before .pre .1 .0) (omega arith) e) (all-none _ _ _ _ (c .before .before .before .before .before .before .pre .1 .1 .1 .1))
+
+  lower-definings-same-length-3 : lower-definings-lts.Need-same-length-3 lower-definings-calls lower-definings-at lower-definings.Post
+  lower-definings-same-length-3 c = search needs
+
+  lower-definings-same-length-4 : lower-definings-lts.Need-same-length-4 lower-definings-calls lower-definings-at lower-definings.Post
+  lower-definings-same-length-4 c = search needs
+
+  lower-definings-returns-3 : lower-definings-lts.Need-returns-3 lower-definings-calls lower-definings-at lower-definings.Post
+  lower-definings-returns-3 c =
+      let e = sym (c .before .before .before .before .before .before .before .before .before .before .node-at .ensures) ∙ c .before .before .before .before .before .before .before .before .x .given .1 in
+      rw (definings-step _ _ (c .before .before .before .before .before .before .before .before .before .before .before .before .before .before .pre .1 .0) (omega arith) e) (c .before .before .before .before .lower-definings .ensures)
+
+  lower-definings-same-length-5 : lower-definings-lts.Need-same-length-5 lower-definings-calls lower-definings-at lower-definings.Post
+  lower-definings-same-length-5 c = search needs
+
+  lower-definings-same-length-6 : lower-definings-lts.Need-same-length-6 lower-definings-calls lower-definings-at lower-definings.Post
+  lower-definings-same-length-6 c = search needs
+
+  lower-definings-returns-4 : lower-definings-lts.Need-returns-4 lower-definings-calls lower-definings-at lower-definings.Post
+  lower-definings-returns-4 c =
+      let e = sym (c .before .before .before .before .before .before .before .before .before .before .node-at .ensures) ∙ c .before .before .before .before .before .before .before .before .x2 .given .1 in
+      rw (definings-step _ _ (c .before .before .before .before .before .before .before .before .before .before .before .before .before .before .pre .1 .0) (omega arith) e) (c .before .before .before .before .both-definings .ensures)
+
+  lower-definings-same-length-7 : lower-definings-lts.Need-same-length-7 lower-definings-calls lower-definings-at lower-definings.Post
+  lower-definings-same-length-7 c = search needs
+
+  lower-definings-same-length-8 : lower-definings-lts.Need-same-length-8 lower-definings-calls lower-definings-at lower-definings.Post
+  lower-definings-same-length-8 c = search needs
+
+  lower-definings-returns-5 : lower-definings-lts.Need-returns-5 lower-definings-calls lower-definings-at lower-definings.Post
+  lower-definings-returns-5 c =
+      let e = sym (c .before .before .before .before .before .before .before .before .before .before .node-at .ensures) ∙ c .before .before .before .before .before .before .before .before .x3 .given .1 in
+      rw (definings-step _ _ (c .before .before .before .before .before .before .before .before .before .before .before .before .before .before .pre .1 .0) (omega arith) e) (c .before .before .before .before .lower-definings2 .ensures)
+
+  lower-definings-same-length-9 : lower-definings-lts.Need-same-length-9 lower-definings-calls lower-definings-at lower-definings.Post
+  lower-definings-same-length-9 c = search needs
+
+  lower-definings-same-length-10 : lower-definings-lts.Need-same-length-10 lower-definings-calls lower-definings-at lower-definings.Post
+  lower-definings-same-length-10 c = search needs
+
+  lower-definings-returns-6 : lower-definings-lts.Need-returns-6 lower-definings-calls lower-definings-at lower-definings.Post
+  lower-definings-returns-6 c =
+      let e = sym (c .before .before .before .before .before .before .before .before .before .before .before .before .before .before .before .before .before .before .before .before .node-at .ensures) ∙ c .before .before .before .before .before .before .before .before .before .before .before .before .before .before .before .before .before .before .x4 .given .1 in
+      rw (definings-step _ _ (c .before .before .before .before .before .before .before .before .before .before .before .before .before .before .before .before .before .before .before .before .before .before .before .before .pre .1 .0) (omega arith) e) (all-then (_ ∷ []) _ _ _ _ _ _ _ _ (c .before .before .before .before .before .before .before .before .before .before .before .before .before .before .lower-rule .ensures) _ _ (c .before .before .before .before .before .before .before .before .free .given .1) _ _ _ (c .before .before .before .before .both-definings2 .ensures))
+
+pub +both-definings+lower-definings-spec : {M : Type 1} → statement M
++both-definings+lower-definings-spec =
+    close μ-both-definings μ-lower-definings
+    (λ t. both-definings-lts.spec (both-definings-calls t) (both-definings-at t) both-definings.Post (both-definings-lower-definings-requires t) (both-definings-enum-known-free t) (both-definings-enum-told t) (both-definings-same-length t) (both-definings-same-length-2 t) (both-definings-returns t) (both-definings-lower-definings-requires-2 t) (both-definings-same-length-3 t) (both-definings-same-length-4 t) (both-definings-returns-2 t))
+    (λ t. lower-definings-lts.spec (lower-definings-calls t) (lower-definings-at t) lower-definings.Post (lower-definings-node-at-requires t) (lower-definings-enum-told t) (lower-definings-enum-known-x t) (lower-definings-lower-definings-requires t) (lower-definings-enum-known-x-2 t) (lower-definings-both-definings-requires t) (lower-definings-enum-known-x-3 t) (lower-definings-lower-definings-requires-2 t) (lower-definings-enum-known-x-4 t) (lower-definings-sub-own t) (lower-definings-lower-rule-requires t) (lower-definings-enum-known-free t) (lower-definings-enum-told-2 t) (lower-definings-same-length t) (lower-definings-same-length-2 t) (lower-definings-returns t) (lower-definings-both-definings-requires-2 t) (lower-definings-returns-2 t) (lower-definings-same-length-3 t) (lower-definings-same-length-4 t) (lower-definings-returns-3 t) (lower-definings-same-length-5 t) (lower-definings-same-length-6 t) (lower-definings-returns-4 t) (lower-definings-same-length-7 t) (lower-definings-same-length-8 t) (lower-definings-returns-5 t) (lower-definings-same-length-9 t) (lower-definings-same-length-10 t) (lower-definings-returns-6 t))

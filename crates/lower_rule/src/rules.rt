@@ -1,0 +1,131 @@
+// A rule's own formula and the defining rules of its hidden signals, each in its true sense: a sheet's rows are these two, rule after
+// rule. `at` is the next free place of the tops, `used` the rows in use.
+use lower_formula::lower;
+use lower_rows::words::Lowered;
+use read_arena::Node;
+use read_arena::node_at;
+ghost use mathlib.Core.Path.{_≡_};
+ghost use mathlib.Core.List.{[], _∷_, _++_};
+ghost use Prim.Native.Nat.{_+_, _≤_, _<_};
+ghost use lib.ListN.{length};
+ghost use Rattle.spec_tilco.specs.Lowering.{lows};
+ghost use Rattle.read_arena.specs.Readings.{formAt, definingsAt, Arena};
+ghost use Rattle.lower_rule.specs.Rules.{LowersAll};
+
+// The tops and rows in use after several formulas; or there is no room.
+pub enum AllLowered {
+    Next { at: usize, used: usize },
+    Full,
+}
+
+// The formula at a node, in its true sense.
+pub fn lower_rule(
+    arena: &[u16],
+    node: usize,
+    tops: &mut [u16],
+    at: usize,
+    out: &mut [u64],
+    used: usize,
+) -> AllLowered
+    requires { ⌜ Arena (node + 1) (now arena) ⌝ }
+    requires { ⌜ at < length (now tops) ⌝ }
+    requires { ⌜ (length (now out) ≤ 1024) × (used ≤ length (now out)) ⌝ }
+    ensures { λ r. ⌜ LowersAll (lows (formAt (now (arena .entry)) node ∷ [])) used (now (out .entry)) (now (out .exit)) at (now (tops .entry)) (now (tops .exit)) r ⌝ }
+{
+    let Lowered::Top { row, used: next } = lower(arena, node, true, out, used) else {
+        return AllLowered::Full;
+    };
+    tops[at] = row;
+    let free = at + 1;
+    AllLowered::Next {
+        at: free,
+        used: next,
+    }
+}
+
+// The defining rules of the hidden signals of the rule at a node, in the order written. That of a since or an until is just before it.
+pub fn lower_definings(
+    arena: &[u16],
+    node: usize,
+    tops: &mut [u16],
+    at: usize,
+    out: &mut [u64],
+    used: usize,
+) -> AllLowered
+    requires { ⌜ Arena (node + 1) (now arena) ⌝ }
+    requires { ⌜ at + length (definingsAt (now arena) node) ≤ length (now tops) ⌝ }
+    requires { ⌜ (length (now out) ≤ 1024) × (used ≤ length (now out)) ⌝ }
+    ensures { λ r. ⌜ LowersAll (lows (definingsAt (now (arena .entry)) node)) used (now (out .entry)) (now (out .exit)) at (now (tops .entry)) (now (tops .exit)) r ⌝ }
+{
+    match node_at(arena, node) {
+        Node::Name(_) => AllLowered::Next { at, used },
+        Node::Deny(x) => lower_definings(arena, x, tops, at, out, used),
+        Node::Pair(_, x, y) => both_definings(arena, x, y, tops, at, out, used),
+        Node::Time(_, x, _, _) => lower_definings(arena, x, tops, at, out, used),
+        Node::Keep(_, x, y, _) => {
+            let own = node - 1;
+            let AllLowered::Next {
+                at: free,
+                used: next,
+            } = lower_rule(arena, own, tops, at, out, used)
+            else {
+                return AllLowered::Full;
+            };
+            both_definings(arena, x, y, tops, free, out, next)
+        }
+    }
+}
+
+// The defining rules of two rules, left before right.
+fn both_definings(
+    arena: &[u16],
+    left: usize,
+    right: usize,
+    tops: &mut [u16],
+    at: usize,
+    out: &mut [u64],
+    used: usize,
+) -> AllLowered
+    requires { ⌜ Arena (left + 1) (now arena) × Arena (right + 1) (now arena) ⌝ }
+    requires { ⌜ at + length (definingsAt (now arena) left ++ definingsAt (now arena) right) ≤ length (now tops) ⌝ }
+    requires { ⌜ (length (now out) ≤ 1024) × (used ≤ length (now out)) ⌝ }
+    ensures { λ r. ⌜ LowersAll (lows (definingsAt (now (arena .entry)) left ++ definingsAt (now (arena .entry)) right)) used (now (out .entry)) (now (out .exit)) at (now (tops .entry)) (now (tops .exit)) r ⌝ }
+{
+    let AllLowered::Next {
+        at: free,
+        used: next,
+    } = lower_definings(arena, left, tops, at, out, used)
+    else {
+        return AllLowered::Full;
+    };
+    lower_definings(arena, right, tops, free, out, next)
+}
+
+// A rule's own formula, then the defining rules of its hidden signals, of which there are so many.
+pub fn lower_whole_rule(
+    arena: &[u16],
+    node: usize,
+    hidden: usize,
+    tops: &mut [u16],
+    at: usize,
+    out: &mut [u64],
+    used: usize,
+) -> AllLowered
+    requires { ⌜ Arena (node + 1) (now arena) × (length (definingsAt (now arena) node) ≡ hidden) ⌝ }
+    requires { ⌜ at + 1 + hidden ≤ length (now tops) ⌝ }
+    requires { ⌜ (length (now out) ≤ 1024) × (used ≤ length (now out)) ⌝ }
+    ensures { λ r. ⌜ LowersAll (lows (formAt (now (arena .entry)) node ∷ definingsAt (now (arena .entry)) node)) used (now (out .entry)) (now (out .exit)) at (now (tops .entry)) (now (tops .exit)) r ⌝ }
+{
+    let r = lower_rule(arena, node, tops, at, out, used);
+    if hidden == 0 {
+        return r;
+    }
+    let AllLowered::Next {
+        at: free,
+        used: next,
+    } = r
+    else {
+        return r;
+    };
+    lower_definings(arena, node, tops, free, out, next)
+}

@@ -1,0 +1,58 @@
+// All rules of a sheet: read once where the guess of their hidden signals is right, else twice. Assumes that the head was accepted.
+use crate::guess::guess_hidden;
+use lower_lines::RuleLines;
+use lower_lines::read_rules;
+use lower_rule::rules::AllLowered;
+ghost use lib.ListN.{length};
+ghost use Rattle.read_names.specs.Words.{namesAt};
+ghost use Rattle.lower_rows.specs.Words.{Blank};
+ghost use Rattle.read_sheet.specs.Sheet.{rules as rulesOf};
+ghost use Rattle.lower_lines.specs.InTurn.{Legible};
+ghost use Rattle.lower_sheet.specs.Rules.{Lent, RulesStand};
+
+// Takes every row out of the buffer.
+fn blank_rows(out: &mut [u64])
+    ensures { λ _. ⌜ Blank (now (out .exit)) ⌝ }
+{
+    let mut i = 0;
+    while i < out.len() {
+        out[i] = 8;
+        i += 1;
+    }
+}
+
+// The rules on the `m` lines from `first` on: what they hold, their rows and their tops.
+pub fn lower_rules(
+    s: &[u8],
+    places: &[u64],
+    m: usize,
+    first: usize,
+    tops: &mut [u16],
+    out: &mut [u64],
+) -> RuleLines
+    requires { ⌜ Legible (now s) (now places) m first × Lent (now out) (now tops) ⌝ }
+    ensures { λ r. ⌜ RulesStand (rulesOf (namesAt (now (s .entry)) (now (places .entry))) (now (s .entry)) m first) (length (now (places .entry))) (now (out .exit)) (now (tops .exit)) r ⌝ }
+{
+    let guess = guess_hidden(s, first);
+    let r = read_rules(s, places, m, first, guess, tops, out);
+    let RuleLines::Read {
+        hidden,
+        end,
+        lowered: _,
+    } = r
+    else {
+        return r;
+    };
+    if hidden == guess {
+        return r;
+    }
+    if 32 < hidden {
+        return RuleLines::Read {
+            hidden,
+            end,
+            lowered: AllLowered::Full,
+        };
+    }
+    blank_rows(out);
+    read_rules(s, places, m, first, hidden, tops, out)
+}

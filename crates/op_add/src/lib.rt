@@ -1,0 +1,79 @@
+// add: the readings are taken into the lent table, and the table is closed. Assumes nothing.
+use close_table::tops::settle;
+use open_sheet::Opening;
+use open_table::open_table;
+use read_readings::whole::Outcome;
+use read_readings::whole::take_readings;
+use table_facts::clash_in;
+use table_facts::count_facts;
+use table_marks::words_of;
+ghost use Rattle.op_add.specs.Results.{addingSays};
+ghost use Rattle.open_table.specs.Ready.{AtHand};
+ghost use Rattle.spec_operations.specs.Operations.{Adds};
+
+// How many facts are new, and whether there is a clash; or a refusal's number and place.
+pub enum Adding {
+    Added { new: usize, clash: bool },
+    Refused(usize, usize),
+}
+
+// Adds the readings to a table that was compared with the sheet.
+fn add_opened(
+    s: &[u8],
+    places: &[u64],
+    rows: &[u64],
+    count: usize,
+    tops: &[u16],
+    k: usize,
+    window: usize,
+    readings: &[u8],
+    table: &mut [u64],
+) -> Adding
+    requires { ⌜ AtHand (now s) (now table) (now places) (now rows) (now tops) window k count ⌝ }
+    ensures { λ r. ⌜ Adds (now (s .entry)) (now (readings .entry)) (now (table .entry)) (now (table .exit)) (addingSays r) ⌝ }
+{
+    let n = words_of(window);
+    let signals = places.len();
+    let before = count_facts(table, n, signals);
+    let r = take_readings(s, places, window, n, readings, table);
+    match r {
+        Outcome::Accepted => {
+            let mut todo = [0u64; 16];
+            settle(rows, count, tops, k, n, window, &mut todo, table);
+            let after = count_facts(table, n, signals);
+            let clash = clash_in(table, count, n);
+            let new = after - before;
+            Adding::Added { new, clash }
+        }
+        Outcome::Refused(a, p) => Adding::Refused(a, p),
+    }
+}
+
+// Adds the readings: the table has then exactly what the rules lead to. At a refusal it keeps every word.
+pub fn add(s: &[u8], readings: &[u8], table: &mut [u64]) -> Adding
+    ensures { λ r. ⌜ Adds (now (s .entry)) (now (readings .entry)) (now (table .entry)) (now (table .exit)) (addingSays r) ⌝ }
+{
+    let mut places = [0u64; 64];
+    let mut rows = [8u64; 1024];
+    let mut tops = [0u16; 96];
+    let o = open_table(s, &mut places, &mut rows, &mut tops, table);
+    match o {
+        Opening::Sheet {
+            window,
+            signals,
+            tops: k,
+            count,
+        } => add_opened(
+            s,
+            &places[..signals],
+            &rows,
+            count,
+            &tops,
+            k,
+            window,
+            readings,
+            table,
+        ),
+        Opening::Refused(n, p) => Adding::Refused(n, p),
+    }
+}

@@ -1,0 +1,31 @@
+// check: the sheet's row count, or a refusal. Assumes nothing.
+use open_sheet::Opening;
+use open_sheet::open_sheet;
+ghost use mathlib.Core.Path.{_≡_};
+ghost use Rattle.op_check.specs.Results.{checkingSays};
+ghost use Rattle.spec_operations.specs.Operations.{checked};
+
+// The row count, or a refusal's number and place.
+pub enum Checking {
+    Rows(usize),
+    Refused(usize, usize),
+}
+
+// Checks the sheet.
+pub fn check(s: &[u8]) -> Checking
+    ensures { λ r. ⌜ checkingSays r ≡ checked (now (s .entry)) ⌝ }
+{
+    let mut places = [0u64; 64];
+    let mut rows = [8u64; 1024];
+    let mut tops = [0u16; 96];
+    let o = open_sheet(s, &mut places, &mut rows, &mut tops);
+    match o {
+        Opening::Sheet {
+            window: _,
+            signals: _,
+            tops: _,
+            count,
+        } => Checking::Rows(count),
+        Opening::Refused(n, p) => Checking::Refused(n, p),
+    }
+}

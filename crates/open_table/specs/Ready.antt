@@ -1,0 +1,19 @@
+-- What opening a sheet and a table leaves in the operation's own buffers.
+-- Assumes nothing. `s` is the sheet's text, T the lent table, `places` the places of the names, B the rows' words.
+use mathlib.Core.List.{List}
+use Prim.Native.Nat.{ℕ, _≤_}
+use lib.ListN.{length, take}
+use Rattle.open_sheet.specs.declared.Opening.{Opening}
+use Rattle.open_sheet.specs.declared.Opening.the-variants as opening
+use Rattle.open_sheet.specs.Results.{accepted, refused}
+use Rattle.open_table.specs.Opening.{Opens}
+use Rattle.open_sheet.specs.Ready.{Ready}
+
+-- The sheet stands ready, and the table is accepted with it.
+abbrev pub AtHand : List ℕ → List ℕ → List ℕ → List ℕ → List ℕ → ℕ → ℕ → ℕ → Type 0
+AtHand s T places B tops w t count = (k : Ready s places B tops w t count) × Opens s T (accepted (k .contents))
+
+-- What each case of the sheet's and the table's opening says.
+pub data TableOpens (s T places B tops : List ℕ) : Opening → Type 0 where
+  ready : {w n t count : ℕ} → n ≤ length places → AtHand s T (take n places) B tops w t count → TableOpens s T places B tops (opening.Sheet w n t count)
+  refused-at : {n p : ℕ} → Opens s T (refused n p) → TableOpens s T places B tops (opening.Refused n p)

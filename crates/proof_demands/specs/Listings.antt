@@ -1,0 +1,31 @@
+-- What a listing shows, read off its bytes (01, "The listing program").
+-- Assumes nothing. l is the listing's text.
+use mathlib.Core.Bool.{Bool, true, false}
+use mathlib.Core.List.{List, [], _∷_}
+use Prim.Native.Nat.{ℕ, _+_, _*_}
+use lib.Dec.{eqb}
+use lib.ListN.{length, getD}
+use Rattle.read_bytes.specs.Bytes.{byte, bytes, pick}
+
+-- A byte before the first line.
+abbrev pub onFirst : ℕ → List (List ℕ) → List (List ℕ)
+onFirst b [] = (b ∷ []) ∷ []
+onFirst b (l ∷ ls) = (b ∷ l) ∷ ls
+
+-- The lines of a text: an LF ends each.
+unfoldable pub linesOf : List ℕ → List (List ℕ)
+linesOf [] = []
+linesOf (b ∷ l) = pick (eqb b (byte "\n")) (λ _. [] ∷ linesOf l) (onFirst b (linesOf l))
+
+-- The line of a listing, counted from 0: answer, rows, facts, clash, then a signal's name and its marks for each signal.
+abbrev pub lineOf : List ℕ → ℕ → List ℕ
+lineOf l i = getD (linesOf l) i []
+
+-- The sign that is printed for signal x at tick t: after `marks=`, one sign a tick.
+abbrev pub signAt : List ℕ → ℕ → ℕ → ℕ
+signAt l x t = getD (lineOf l (5 + 2 * x)) (length (bytes "marks=") + t) 0
+
+-- The sign of a value: `1` or `0`.
+abbrev pub shown : Bool → ℕ
+shown true = byte "1"
+shown false = byte "0"

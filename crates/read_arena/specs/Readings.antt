@@ -1,0 +1,107 @@
+-- What stands at a node: the formula that is lowered, the rule as it is written, the defining rules of its hidden signals.
+-- Assumes nothing.
+use mathlib.Core.Path.{_≡_}
+use mathlib.Core.List.{List, [], _∷_, _++_}
+use Prim.Native.Nat.{ℕ, zero, suc, _+_, _-_, _*_, _≤_, _<_}
+use lib.ListN.{length}
+use Rattle.spec_tilco.specs.Formula.{Formula, Written, plain, definings as definingsOf}
+use Rattle.read_arena.specs.declared.Node.{Node}
+use Rattle.read_arena.specs.declared.Node.the-variants.{Name, Deny, Pair, Time, Keep}
+use Rattle.read_arena.specs.Nodes.{opOf, nodeAt}
+
+-- The three readings of a node.
+pub record Reading : Type 0 where
+  pub form : Formula
+  pub text : Written
+  pub definings : List Formula
+
+-- A node's formula, f giving each child's: a since or an until is its hidden signal.
+abbrev pub formOf : Node → (ℕ → Formula) → Formula
+formOf (Name x) f = Formula.sig x
+formOf (Deny x) f = Formula.neg (f x)
+formOf (Pair s x y) f = Formula.pair (opOf s) (f x) (f y)
+formOf (Time u x first more) f = Formula.time u first more (f x)
+formOf (Keep b x y row) f = Formula.sig row
+
+-- A node's rule as it is written, f giving each child's.
+abbrev pub textOf : Node → (ℕ → Written) → Written
+textOf (Name x) f = Written.name x
+textOf (Deny x) f = Written.neg (f x)
+textOf (Pair s x y) f = Written.pair (opOf s) (f x) (f y)
+textOf (Time u x first more) f = Written.time u first more (f x)
+textOf (Keep b x y row) f = Written.keep b (f x) (f y)
+
+-- The defining rules of the hidden signals of node n, f giving each child's and `form` each formula: that of a since or an until is the
+-- formula just before it.
+abbrev pub rulesOf : Node → ℕ → (ℕ → Formula) → (ℕ → List Formula) → List Formula
+rulesOf (Name x) n form f = []
+rulesOf (Deny x) n form f = f x
+rulesOf (Pair s x y) n form f = f x ++ f y
+rulesOf (Time u x first more) n form f = f x
+rulesOf (Keep b x y row) n form f = form (n - 1) ∷ f x ++ f y
+
+-- The readings of node n, by those before it.
+abbrev pub readingOf : Node → ℕ → (ℕ → Reading) → Reading
+readingOf k n f = record {
+  form = formOf k (λ i. f i .form);
+  text = textOf k (λ i. f i .text);
+  definings = rulesOf k n (λ i. f i .form) (λ i. f i .definings);
+}
+
+-- The readings of node n, to a depth of d.
+unfoldable pub readTo : ℕ → List ℕ → ℕ → Reading
+readTo zero a n = record { form = Formula.sig 0; text = Written.name 0; definings = [] }
+readTo (suc d) a n = readingOf (nodeAt a n) n (readTo d a)
+
+-- The readings of node n.
+unfoldable pub readAt : List ℕ → ℕ → Reading
+readAt a n = readTo (suc n) a n
+
+-- The formula at node n.
+unfoldable pub formAt : List ℕ → ℕ → Formula
+formAt a n = readAt a n .form
+
+-- The rule at node n as it is written.
+unfoldable pub writtenAt : List ℕ → ℕ → Written
+writtenAt a n = readAt a n .text
+
+-- The defining rules of the hidden signals of the rule at node n, in the order written.
+unfoldable pub definingsAt : List ℕ → ℕ → List Formula
+definingsAt a n = readAt a n .definings
+
+-- What node k keeps to at number n: its children stand before it, and an interval has offsets from -63 to 63.
+abbrev pub Right : Node → ℕ → Type 0
+Right (Name x) n = Unit {0}
+Right (Deny x) n = x < n
+Right (Pair s x y) n = (x < n) × (y < n)
+Right (Time u x first more) n = (x < n) × (1 ≤ first) × (first + more ≤ 127)
+Right (Keep b x y row) n = (x < n) × (y < n)
+
+-- Each of the nodes is right, from number n on.
+abbrev pub Rights : List Node → ℕ → Type 0
+Rights [] n = Unit {0}
+Rights (k ∷ ks) n = Right k n × Rights ks (suc n)
+
+-- The first c nodes lie in the buffer, and each is as it should be.
+pub record Arena (c : ℕ) (a : List ℕ) : Type 0 where
+  pub inside : 4 * c ≤ length a
+  pub right : (n : ℕ) → n < c → Right (nodeAt a n) n
+
+-- The buffer has room for k nodes past the first c, whose numbers fit.
+pub record Room (a : List ℕ) (c k : ℕ) : Type 0 where
+  pub fits : 4 * (c + k) ≤ length a
+  pub few : c + k ≤ 16000
+
+-- The first c nodes are the same in a and in b.
+pub record Same (c : ℕ) (a b : List ℕ) : Type 0 where
+  pub node : (n : ℕ) → n < c → nodeAt b n ≡ nodeAt a n
+
+-- What the readings of the rule w have to be, its hidden signals numbered from x.
+abbrev pub ruleReading : ℕ → Written → Reading
+ruleReading x w = record { form = plain x w; text = w; definings = definingsOf x w }
+
+-- The rule w stands at node n, its hidden signals numbered from x.
+pub record Held (a : List ℕ) (x n : ℕ) (w : Written) : Type 0 where
+  pub text : writtenAt a n ≡ w
+  pub form : formAt a n ≡ plain x w
+  pub definings : definingsAt a n ≡ definingsOf x w

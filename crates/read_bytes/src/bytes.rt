@@ -1,0 +1,94 @@
+// Bytes of a text: the byte at a place, what stands there, and the class of a byte. Assumes nothing of the text.
+ghost use mathlib.Core.Path.{_≡_};
+ghost use Prim.Native.Nat.{_+_, _≤_};
+ghost use lib.ListN.{length};
+ghost use Rattle.read_bytes.specs.Bytes.{peek, classOf, nameByte, starts};
+
+// The classes of bytes: those that tokens are made of, and all others.
+pub enum Class {
+    Letter,
+    Digit,
+    Sign,
+    Bracket,
+    Other,
+}
+
+// The byte at a place of the text, and LF past its end.
+pub fn byte_at(s: &[u8], at: usize) -> u8
+    ensures { λ r. ⌜ r ≡ peek (now (s .entry)) at ⌝ }
+{
+    if at < s.len() { s[at] } else { b'\n' }
+}
+
+// The class of a byte.
+pub fn class_of(b: u8) -> Class
+    ensures { λ r. ⌜ r ≡ classOf b ⌝ }
+{
+    match b {
+        b'a'..=b'z' => Class::Letter,
+        b'0'..=b'9' => Class::Digit,
+        b'(' | b')' | b'[' | b']' => Class::Bracket,
+        b'!' | b'&' | b'|' | b'=' | b'<' | b'>' | b'@' | b'?' | b',' | b'-' => Class::Sign,
+        _ => Class::Other,
+    }
+}
+
+// Is the byte a letter or a digit?
+pub fn name_byte(b: u8) -> bool
+    ensures { λ r. ⌜ r ≡ nameByte b ⌝ }
+{
+    match b {
+        b'a'..=b'z' => true,
+        b'0'..=b'9' => true,
+        _ => false,
+    }
+}
+
+// Do the bytes of `w` stand at `at`, where the text has room for them?
+pub fn stands_at(s: &[u8], at: usize, w: &[u8]) -> bool
+    requires { ⌜ at + length (now w) ≤ length (now s) ⌝ }
+    ensures { λ r. ⌜ r ≡ starts (now (s .entry)) at (now (w .entry)) ⌝ }
+{
+    let mut i = 0;
+    while i < w.len() {
+        let p = at + i;
+        let b = s[p];
+        let x = w[i];
+        if b != x {
+            return false;
+        }
+        i += 1;
+    }
+    true
+}
+
+// The same, where `w` may reach past the end of the text.
+fn starts_past(s: &[u8], at: usize, w: &[u8]) -> bool
+    requires { ⌜ at ≤ length (now s) ⌝ }
+    ensures { λ r. ⌜ r ≡ starts (now (s .entry)) at (now (w .entry)) ⌝ }
+{
+    let mut i = 0;
+    while i < w.len() {
+        let p = at + i;
+        let b = byte_at(s, p);
+        let x = w[i];
+        if b != x {
+            return false;
+        }
+        i += 1;
+    }
+    true
+}
+
+// Do the bytes of `w` stand at the place `at`?
+pub fn starts_at(s: &[u8], at: usize, w: &[u8]) -> bool
+    requires { ⌜ at ≤ length (now s) ⌝ }
+    ensures { λ r. ⌜ r ≡ starts (now (s .entry)) at (now (w .entry)) ⌝ }
+{
+    let end = at + w.len();
+    if end <= s.len() {
+        stands_at(s, at, w)
+    } else {
+        starts_past(s, at, w)
+    }
+}

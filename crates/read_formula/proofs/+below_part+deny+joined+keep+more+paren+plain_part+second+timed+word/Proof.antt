@@ -1,0 +1,652 @@
+-- The levels of the parser meet their contracts. A level's measure is what is left of the text, and its height. Assumes nothing.
+use Prim.Native.Nat.{ℕ, _+_, _-_, _*_, _<_}
+use Rattle.read_arena.proofs.Puts.{arena-put}
+use Rattle.read_arena.specs.Nodes.{opOf}
+use Rattle.read_arena.specs.Readings.{Arena}
+use Rattle.read_arena.specs.declared.Node.the-variants.{Pair}
+use Rattle.read_parts.proofs.Levels.{was, by, from, far, left, hand-on, then, stop, join, wrap, shut, unshut, shut-keep, unshut-keep, hand-on-keep, held-next}
+use Rattle.read_parts.proofs.Rooms.{on, room-for, bare}
+use Rattle.read_parts.proofs.Steps.{sign-inside, sign-some, below-told, more-none, more-one, onward, onward-more, onward-stop, deny-full, deny-on, paren-full, paren-on, keep-full, keep-on, kept-none, second-none, second-some, class-told, byte-inside, plain-letter, plain-digit, plain-other, plain-deny, plain-sign, plain-paren, plain-bracket, since-inside, until-inside, word-since, word-until, word-name, remaining, rank, rank-most}
+use Rattle.read_parts.specs.Grammar.{timedPart, level, below, plain}
+use Rattle.read_parts.specs.Parsed.Parses.{refuses}
+use Rattle.read_bytes.specs.Bytes.{byte}
+use Rattle.read_names.specs.Words.{namesAt}
+use borrow.Author.Needs.{needs}
+use borrow.Author.Tests.{not-true, not-false}
+use denote.Ref.{now}
+use mathlib.Core.Path.{refl, sym, ap, subst, _∙_}
+use native.Mathlib.Omega.{arith}
+use borrow.Fn.Kinds.{In}
+use borrow.Fn.PlainCycle.{Measures, is, falls, and}
+use Rattle.read_formula.proofs.below_part.Reads as below-part
+use Rattle.read_formula.proofs.below_part.Kinds as below-part-kinds
+use Rattle.read_formula.proofs.+below_part+deny+joined+keep+more+paren+plain_part+second+timed+word.Lts-below_part as below-part-lts
+use Rattle.read_formula.proofs.deny.Reads as deny
+use Rattle.read_formula.proofs.deny.Kinds as deny-kinds
+use Rattle.read_formula.proofs.+below_part+deny+joined+keep+more+paren+plain_part+second+timed+word.Lts-deny as deny-lts
+use Rattle.read_formula.proofs.joined.Reads as joined
+use Rattle.read_formula.proofs.joined.Kinds as joined-kinds
+use Rattle.read_formula.proofs.+below_part+deny+joined+keep+more+paren+plain_part+second+timed+word.Lts-joined as joined-lts
+use Rattle.read_formula.proofs.keep.Reads as keep
+use Rattle.read_formula.proofs.keep.Kinds as keep-kinds
+use Rattle.read_formula.proofs.+below_part+deny+joined+keep+more+paren+plain_part+second+timed+word.Lts-keep as keep-lts
+use Rattle.read_formula.proofs.more.Reads as more
+use Rattle.read_formula.proofs.more.Kinds as more-kinds
+use Rattle.read_formula.proofs.+below_part+deny+joined+keep+more+paren+plain_part+second+timed+word.Lts-more as more-lts
+use Rattle.read_formula.proofs.paren.Reads as paren
+use Rattle.read_formula.proofs.paren.Kinds as paren-kinds
+use Rattle.read_formula.proofs.+below_part+deny+joined+keep+more+paren+plain_part+second+timed+word.Lts-paren as paren-lts
+use Rattle.read_formula.proofs.plain_part.Reads as plain-part
+use Rattle.read_formula.proofs.plain_part.Kinds as plain-part-kinds
+use Rattle.read_formula.proofs.+below_part+deny+joined+keep+more+paren+plain_part+second+timed+word.Lts-plain_part as plain-part-lts
+use Rattle.read_formula.proofs.second.Reads as second
+use Rattle.read_formula.proofs.second.Kinds as second-kinds
+use Rattle.read_formula.proofs.+below_part+deny+joined+keep+more+paren+plain_part+second+timed+word.Lts-second as second-lts
+use Rattle.read_formula.proofs.timed.Reads as timed
+use Rattle.read_formula.proofs.timed.Kinds as timed-kinds
+use Rattle.read_formula.proofs.+below_part+deny+joined+keep+more+paren+plain_part+second+timed+word.Lts-timed as timed-lts
+use Rattle.read_formula.proofs.word.Reads as word
+use Rattle.read_formula.proofs.word.Kinds as word-kinds
+use Rattle.read_formula.proofs.+below_part+deny+joined+keep+more+paren+plain_part+second+timed+word.Lts-word as word-lts
+use Rattle.read_arena.proofs.put_keep.Reads as put-keep-reads
+use Rattle.read_arena.proofs.put_node.Reads as put-node-reads
+use Rattle.read_parts.proofs.parts.name.Reads as name-reads
+use Rattle.read_parts.proofs.parts.repeats.Reads as repeats-reads
+use Rattle.read_parts.proofs.parts.sign_at.Reads as sign-at-reads
+use Rattle.read_parts.proofs.parts.sign_len.Reads as sign-len-reads
+use Rattle.read_parts.proofs.parts.times_at.Reads as times-at-reads
+use Rattle.read_bytes.proofs.bytes.byte_at.Reads as byte-at-reads
+use Rattle.read_bytes.proofs.bytes.class_of.Reads as class-of-reads
+use Rattle.read_names.proofs.is_since.Reads as is-since-reads
+use Rattle.read_names.proofs.is_until.Reads as is-until-reads
+use Rattle.read_formula.proofs.+below_part+deny+joined+keep+more+paren+plain_part+second+timed+word.{statement}
+use Rattle.read_formula.proofs.+below_part+deny+joined+keep+more+paren+plain_part+second+timed+word.Tie.{close}
+
+abbrev μ-below-part : Measures 3 below-part-kinds.ps ℕ
+μ-below-part κs a = remaining (a .1 .0 .now) (a .1 .1 .1 .1 .0) + (3 + 2 * rank (a .0))
+
+abbrev μ-deny : Measures 3 deny-kinds.ps ℕ
+μ-deny κs a = remaining (a .0 .now) (a .1 .1 .1 .0) + 0
+
+abbrev μ-joined : Measures 3 joined-kinds.ps ℕ
+μ-joined κs a = remaining (a .1 .0 .now) (a .1 .1 .1 .1 .0) + (4 + 2 * rank (a .0))
+
+abbrev μ-keep : Measures 3 keep-kinds.ps ℕ
+μ-keep κs a = remaining (a .0 .now) (a .1 .1 .1 .0) + 0
+
+abbrev μ-more : Measures 3 more-kinds.ps ℕ
+μ-more κs a = remaining (a .1 .0 .now) (a .1 .1 .1 .1 .0) + 0
+
+abbrev μ-paren : Measures 3 paren-kinds.ps ℕ
+μ-paren κs a = remaining (a .0 .now) (a .1 .1 .1 .0) + 0
+
+abbrev μ-plain-part : Measures 3 plain-part-kinds.ps ℕ
+μ-plain-part κs a = remaining (a .0 .now) (a .1 .1 .1 .0) + 1
+
+abbrev μ-second : Measures 3 second-kinds.ps ℕ
+μ-second κs a = remaining (a .0 .now) (a .1 .1 .1 .0) + 0
+
+abbrev μ-timed : Measures 3 timed-kinds.ps ℕ
+μ-timed κs a = remaining (a .0 .now) (a .1 .1 .1 .0) + 2
+
+abbrev μ-word : Measures 3 word-kinds.ps ℕ
+μ-word κs a = remaining (a .0 .now) (a .1 .1 .1 .0) + 0
+
+module _ (t : ℕ) where
+  abbrev below-part-at : In 3 below-part-kinds.ps
+  below-part-at = and 3 below-part-kinds.ps (is 3 below-part-kinds.ps μ-below-part t) below-part.Pre
+
+  abbrev below-part-below : In 3 below-part-kinds.ps
+  below-part-below = and 3 below-part-kinds.ps (falls 3 below-part-kinds.ps _<_ μ-below-part t) below-part.Pre
+
+  abbrev deny-at : In 3 deny-kinds.ps
+  deny-at = and 3 deny-kinds.ps (is 3 deny-kinds.ps μ-deny t) deny.Pre
+
+  abbrev deny-below : In 3 deny-kinds.ps
+  deny-below = and 3 deny-kinds.ps (falls 3 deny-kinds.ps _<_ μ-deny t) deny.Pre
+
+  abbrev joined-at : In 3 joined-kinds.ps
+  joined-at = and 3 joined-kinds.ps (is 3 joined-kinds.ps μ-joined t) joined.Pre
+
+  abbrev joined-below : In 3 joined-kinds.ps
+  joined-below = and 3 joined-kinds.ps (falls 3 joined-kinds.ps _<_ μ-joined t) joined.Pre
+
+  abbrev keep-at : In 3 keep-kinds.ps
+  keep-at = and 3 keep-kinds.ps (is 3 keep-kinds.ps μ-keep t) keep.Pre
+
+  abbrev keep-below : In 3 keep-kinds.ps
+  keep-below = and 3 keep-kinds.ps (falls 3 keep-kinds.ps _<_ μ-keep t) keep.Pre
+
+  abbrev more-at : In 3 more-kinds.ps
+  more-at = and 3 more-kinds.ps (is 3 more-kinds.ps μ-more t) more.Pre
+
+  abbrev more-below : In 3 more-kinds.ps
+  more-below = and 3 more-kinds.ps (falls 3 more-kinds.ps _<_ μ-more t) more.Pre
+
+  abbrev paren-at : In 3 paren-kinds.ps
+  paren-at = and 3 paren-kinds.ps (is 3 paren-kinds.ps μ-paren t) paren.Pre
+
+  abbrev paren-below : In 3 paren-kinds.ps
+  paren-below = and 3 paren-kinds.ps (falls 3 paren-kinds.ps _<_ μ-paren t) paren.Pre
+
+  abbrev plain-part-at : In 3 plain-part-kinds.ps
+  plain-part-at = and 3 plain-part-kinds.ps (is 3 plain-part-kinds.ps μ-plain-part t) plain-part.Pre
+
+  abbrev plain-part-below : In 3 plain-part-kinds.ps
+  plain-part-below = and 3 plain-part-kinds.ps (falls 3 plain-part-kinds.ps _<_ μ-plain-part t) plain-part.Pre
+
+  abbrev second-at : In 3 second-kinds.ps
+  second-at = and 3 second-kinds.ps (is 3 second-kinds.ps μ-second t) second.Pre
+
+  abbrev second-below : In 3 second-kinds.ps
+  second-below = and 3 second-kinds.ps (falls 3 second-kinds.ps _<_ μ-second t) second.Pre
+
+  abbrev timed-at : In 3 timed-kinds.ps
+  timed-at = and 3 timed-kinds.ps (is 3 timed-kinds.ps μ-timed t) timed.Pre
+
+  abbrev timed-below : In 3 timed-kinds.ps
+  timed-below = and 3 timed-kinds.ps (falls 3 timed-kinds.ps _<_ μ-timed t) timed.Pre
+
+  abbrev word-at : In 3 word-kinds.ps
+  word-at = and 3 word-kinds.ps (is 3 word-kinds.ps μ-word t) word.Pre
+
+  abbrev word-below : In 3 word-kinds.ps
+  word-below = and 3 word-kinds.ps (falls 3 word-kinds.ps _<_ μ-word t) word.Pre
+
+  abbrev below-part-calls : below-part-lts.Claims
+  below-part-calls = (timed-below, timed.Post, joined-below, joined.Post)
+
+  abbrev deny-calls : deny-lts.Claims
+  deny-calls = (plain-part-below, plain-part.Post, put-node-reads.Asked, put-node-reads.Learnt)
+
+  abbrev joined-calls : joined-lts.Claims
+  joined-calls = (below-part-below, below-part.Post, more-below, more.Post)
+
+  abbrev keep-calls : keep-lts.Claims
+  keep-calls = (byte-at-reads.Asked, byte-at-reads.Learnt, joined-below, joined.Post, second-below, second.Post)
+
+  abbrev more-calls : more-lts.Claims
+  more-calls = (sign-at-reads.Asked, sign-at-reads.Learnt, sign-len-reads.Asked, sign-len-reads.Learnt, below-part-below, below-part.Post, put-node-reads.Asked, put-node-reads.Learnt, repeats-reads.Asked, repeats-reads.Learnt, more-below, more.Post)
+
+  abbrev paren-calls : paren-lts.Claims
+  paren-calls = (joined-below, joined.Post, byte-at-reads.Asked, byte-at-reads.Learnt)
+
+  abbrev plain-part-calls : plain-part-lts.Claims
+  plain-part-calls = (byte-at-reads.Asked, byte-at-reads.Learnt, class-of-reads.Asked, class-of-reads.Learnt, word-below, word.Post, deny-below, deny.Post, paren-below, paren.Post)
+
+  abbrev second-calls : second-lts.Claims
+  second-calls = (byte-at-reads.Asked, byte-at-reads.Learnt, joined-below, joined.Post, put-keep-reads.Asked, put-keep-reads.Learnt)
+
+  abbrev timed-calls : timed-lts.Claims
+  timed-calls = (plain-part-below, plain-part.Post, times-at-reads.Asked, times-at-reads.Learnt)
+
+  abbrev word-calls : word-lts.Claims
+  word-calls = (is-since-reads.Asked, is-since-reads.Learnt, keep-below, keep.Post, is-until-reads.Asked, is-until-reads.Learnt, name-reads.Asked, name-reads.Learnt)
+
+  below-part-enum-told : below-part-lts.Need-enum-told below-part-calls below-part-at below-part.Post
+  below-part-enum-told c = search needs
+
+  below-part-timed-requires : below-part-lts.Need-timed-requires below-part-calls below-part-at below-part.Post
+  below-part-timed-requires c κs = (omega arith, c .before .before .before .before .before .before .pre .1)
+
+  below-part-enum-told-2 : below-part-lts.Need-enum-told-2 below-part-calls below-part-at below-part.Post
+  below-part-enum-told-2 c = search needs
+
+  below-part-joined-requires : below-part-lts.Need-joined-requires below-part-calls below-part-at below-part.Post
+  below-part-joined-requires c κs = (omega (arith, ap rank (c .before .enum-told2 .given .1)), c .before .before .before .before .before .before .pre .1)
+
+  below-part-enum-told-3 : below-part-lts.Need-enum-told-3 below-part-calls below-part-at below-part.Post
+  below-part-enum-told-3 c = search needs
+
+  below-part-joined-requires-2 : below-part-lts.Need-joined-requires-2 below-part-calls below-part-at below-part.Post
+  below-part-joined-requires-2 c κs = (omega (arith, ap rank (c .before .enum-told3 .given .1)), c .before .before .before .before .before .before .pre .1)
+
+  below-part-enum-told-4 : below-part-lts.Need-enum-told-4 below-part-calls below-part-at below-part.Post
+  below-part-enum-told-4 c = search needs
+
+  below-part-joined-requires-3 : below-part-lts.Need-joined-requires-3 below-part-calls below-part-at below-part.Post
+  below-part-joined-requires-3 c κs = (omega (arith, ap rank (c .before .enum-told4 .given .1)), c .before .before .before .before .before .before .pre .1)
+
+  below-part-same-length : below-part-lts.Need-same-length below-part-calls below-part-at below-part.Post
+  below-part-same-length c = search needs
+
+  below-part-returns : below-part-lts.Need-returns below-part-calls below-part-at below-part.Post
+  below-part-returns c = by (below-told _ _ _ (c .before .before .before .before .enum-told .given .1)) (c .before .before .timed .ensures)
+
+  below-part-same-length-2 : below-part-lts.Need-same-length-2 below-part-calls below-part-at below-part.Post
+  below-part-same-length-2 c = search needs
+
+  below-part-returns-2 : below-part-lts.Need-returns-2 below-part-calls below-part-at below-part.Post
+  below-part-returns-2 c = by (below-told _ _ _ (c .before .before .before .before .enum-told2 .given .1)) (c .before .before .joined .ensures)
+
+  below-part-same-length-3 : below-part-lts.Need-same-length-3 below-part-calls below-part-at below-part.Post
+  below-part-same-length-3 c = search needs
+
+  below-part-returns-3 : below-part-lts.Need-returns-3 below-part-calls below-part-at below-part.Post
+  below-part-returns-3 c = by (below-told _ _ _ (c .before .before .before .before .enum-told3 .given .1)) (c .before .before .joined2 .ensures)
+
+  below-part-same-length-4 : below-part-lts.Need-same-length-4 below-part-calls below-part-at below-part.Post
+  below-part-same-length-4 c = search needs
+
+  below-part-returns-4 : below-part-lts.Need-returns-4 below-part-calls below-part-at below-part.Post
+  below-part-returns-4 c = by (below-told _ _ _ (c .before .before .before .before .enum-told4 .given .1)) (c .before .before .joined3 .ensures)
+
+  deny-returns : deny-lts.Need-returns deny-calls deny-at deny.Post
+  deny-returns c = refuses (deny-full _ _ _ _ (c .if1 .taken))
+
+  deny-add-inner : deny-lts.Need-add-inner deny-calls deny-at deny.Post
+  deny-add-inner c = search needs
+
+  deny-sub-plain-part : deny-lts.Need-sub-plain-part deny-calls deny-at deny.Post
+  deny-sub-plain-part c = search needs
+
+  deny-plain-part-requires : deny-lts.Need-plain-part-requires deny-calls deny-at deny.Post
+  deny-plain-part-requires c κs = (omega (arith, c .before .before .before .before .before .pre .1 .1), on (c .before .before .before .before .before .pre .1 .0) _ _ _ (omega (arith, c .before .before .before .before .before .pre .1 .1)) (omega arith) (omega arith) (c .before .before .before .before .before .pre .1 .0 .arena) refl)
+
+  deny-enum-known-r : deny-lts.Need-enum-known-r deny-calls deny-at deny.Post
+  deny-enum-known-r c = search needs
+
+  deny-enum-told : deny-lts.Need-enum-told deny-calls deny-at deny.Post
+  deny-enum-told c = search needs
+
+  deny-same-length : deny-lts.Need-same-length deny-calls deny-at deny.Post
+  deny-same-length c = search needs
+
+  deny-returns-2 : deny-lts.Need-returns-2 deny-calls deny-at deny.Post
+  deny-returns-2 c = by (deny-on _ _ _ _ (c .before .before .before .before .before .before .if1 .left)) (hand-on _ (c .before .before .before .before .plain-part .ensures) (c .enum-told .given .1))
+
+  deny-sub-child : deny-lts.Need-sub-child deny-calls deny-at deny.Post
+  deny-sub-child c = let w = far (c .before .before .before .before .before .plain-part .ensures) (c .before .r .given .1) in omega (arith, w .ahead, w .inside, w .fresh, w .nodes, w .rows, w .hidden)
+
+  deny-put-node-requires : deny-lts.Need-put-node-requires deny-calls deny-at deny.Post
+  deny-put-node-requires c κs = let w = far (c .before .before .before .before .before .before .plain-part .ensures) (c .before .before .r .given .1) in (room-for (c .before .before .before .before .before .before .before .before .before .before .before .before .pre .1 .0) _ 1 (omega (arith, w .ahead, w .inside, w .fresh, w .nodes, w .rows, w .hidden)) (search needs), omega (arith, w .ahead, w .inside, w .fresh, w .nodes, w .rows, w .hidden))
+
+  deny-add-count : deny-lts.Need-add-count deny-calls deny-at deny.Post
+  deny-add-count c = let w = far (c .before .before .before .before .before .before .before .before .before .plain-part .ensures) (c .before .before .before .before .before .r .given .1) in omega (arith, w .nodes, w .inside, c .before .before .before .before .before .before .before .before .before .before .before .before .before .before .before .pre .1 .0 .room .few)
+
+  deny-same-length-2 : deny-lts.Need-same-length-2 deny-calls deny-at deny.Post
+  deny-same-length-2 c = search needs
+
+  deny-returns-3 : deny-lts.Need-returns-3 deny-calls deny-at deny.Post
+  deny-returns-3 c = let w = far (c .before .before .before .before .before .before .before .before .before .plain-part .ensures) (c .before .before .before .before .before .r .given .1) in by (deny-on _ _ _ _ (c .before .before .before .before .before .before .before .before .before .before .before .if1 .left)) (wrap _ _ (omega arith) (was (c .before .before .before .before .before .before .before .before .before .plain-part .ensures) (c .before .before .before .before .before .r .given .1)) (room-for (c .before .before .before .before .before .before .before .before .before .before .before .before .before .before .before .pre .1 .0) _ 1 (omega (arith, w .ahead, w .inside, w .fresh, w .nodes, w .rows, w .hidden)) (search needs)) (c .before .before .put-node .ensures))
+
+  joined-below-part-requires : joined-lts.Need-below-part-requires joined-calls joined-at joined.Post
+  joined-below-part-requires c κs = (omega arith, c .before .before .before .before .pre .1)
+
+  joined-enum-known-r : joined-lts.Need-enum-known-r joined-calls joined-at joined.Post
+  joined-enum-known-r c = search needs
+
+  joined-enum-told : joined-lts.Need-enum-told joined-calls joined-at joined.Post
+  joined-enum-told c = search needs
+
+  joined-same-length : joined-lts.Need-same-length joined-calls joined-at joined.Post
+  joined-same-length c = search needs
+
+  joined-returns : joined-lts.Need-returns joined-calls joined-at joined.Post
+  unfolding level
+  joined-returns c = hand-on _ (c .before .before .before .before .below-part .ensures) (c .enum-told .given .1)
+
+  joined-more-requires : joined-lts.Need-more-requires joined-calls joined-at joined.Post
+  joined-more-requires c κs = let w = far (c .before .before .before .before .before .before .below-part .ensures) (c .before .before .r .given .1) in (omega (arith, w .ahead, w .inside, w .fresh, w .nodes, w .rows, w .hidden), (on (c .before .before .before .before .before .before .before .before .before .before .before .pre .1) _ _ _ (w .inside) (omega (arith, w .ahead, w .inside, w .fresh, w .nodes, w .rows, w .hidden)) (omega (arith, w .ahead, w .inside, w .fresh, w .nodes, w .rows, w .hidden)) (left (c .before .before .before .before .before .before .below-part .ensures) (c .before .before .r .given .1)) (search needs), omega (arith, w .ahead, w .inside, w .fresh, w .nodes, w .rows, w .hidden)))
+
+  joined-same-length-2 : joined-lts.Need-same-length-2 joined-calls joined-at joined.Post
+  joined-same-length-2 c = search needs
+
+  joined-returns-2 : joined-lts.Need-returns-2 joined-calls joined-at joined.Post
+  unfolding level
+  joined-returns-2 c = let w = far (c .before .before .before .before .before .before .before .before .before .below-part .ensures) (c .before .before .before .before .before .r .given .1) in then _ _ _ (omega (arith, w .ahead, w .inside, w .fresh, w .nodes, w .rows, w .hidden)) (omega arith) (omega arith) (omega arith) (was (c .before .before .before .before .before .before .before .before .before .below-part .ensures) (c .before .before .before .before .before .r .given .1)) (λ f hf hs. c .before .before .more .ensures _ _ f (omega arith) hf hs)
+
+  keep-byte-at-requires : keep-lts.Need-byte-at-requires keep-calls keep-at keep.Post
+  keep-byte-at-requires c κs = search needs
+
+  keep-returns : keep-lts.Need-returns keep-calls keep-at keep.Post
+  keep-returns c = refuses (kept-none _ _ _ _ (λ e. c .if1 .taken (c .before .byte-at .ensures ∙ e)))
+
+  keep-returns-2 : keep-lts.Need-returns-2 keep-calls keep-at keep.Post
+  keep-returns-2 c = refuses (keep-full _ _ _ _ _ (sym (c .before .before .byte-at .ensures) ∙ c .before .if1 .left) (c .if2 .taken))
+
+  keep-add-inner : keep-lts.Need-add-inner keep-calls keep-at keep.Post
+  keep-add-inner c = search needs
+
+  keep-add-first : keep-lts.Need-add-first keep-calls keep-at keep.Post
+  keep-add-first c = search needs
+
+  keep-sub-joined : keep-lts.Need-sub-joined keep-calls keep-at keep.Post
+  keep-sub-joined c = search needs
+
+  keep-joined-requires : keep-lts.Need-joined-requires keep-calls keep-at keep.Post
+  keep-joined-requires c κs = let i = byte-inside _ _ (byte "(") (c .before .before .before .byte-at .ensures) (c .before .before .if1 .left) (λ z. omega arith) in (omega (arith, i), on (c .before .before .before .before .before .before .before .pre .1 .0) _ _ _ (omega (arith, i)) (omega arith) (omega arith) (c .before .before .before .before .before .before .before .pre .1 .0 .arena) refl)
+
+  keep-enum-known-r : keep-lts.Need-enum-known-r keep-calls keep-at keep.Post
+  keep-enum-known-r c = search needs
+
+  keep-enum-told : keep-lts.Need-enum-told keep-calls keep-at keep.Post
+  keep-enum-told c = search needs
+
+  keep-same-length : keep-lts.Need-same-length keep-calls keep-at keep.Post
+  keep-same-length c = search needs
+
+  keep-returns-3 : keep-lts.Need-returns-3 keep-calls keep-at keep.Post
+  keep-returns-3 c = by (keep-on _ _ _ _ _ (sym (c .before .before .before .before .before .before .before .before .byte-at .ensures) ∙ c .before .before .before .before .before .before .before .if1 .left) (c .before .before .before .before .before .before .if2 .left)) (hand-on _ (c .before .before .before .before .joined .ensures) (c .enum-told .given .1))
+
+  keep-sub-second : keep-lts.Need-sub-second keep-calls keep-at keep.Post
+  keep-sub-second c = search needs
+
+  keep-second-requires : keep-lts.Need-second-requires keep-calls keep-at keep.Post
+  keep-second-requires c κs = let w = far (c .before .before .before .before .before .before .joined .ensures) (c .before .before .r .given .1) in (omega (arith, w .ahead, w .inside, w .fresh, w .nodes, w .rows, w .hidden), (on (c .before .before .before .before .before .before .before .before .before .before .before .before .before .before .pre .1 .0) _ _ _ (omega (arith, w .ahead, w .inside, w .fresh, w .nodes, w .rows, w .hidden)) (omega (arith, w .ahead, w .inside, w .fresh, w .nodes, w .rows, w .hidden)) (omega (arith, w .ahead, w .inside, w .fresh, w .nodes, w .rows, w .hidden)) (left (c .before .before .before .before .before .before .joined .ensures) (c .before .before .r .given .1)) (search needs), omega (arith, w .ahead, w .inside, w .fresh, w .nodes, w .rows, w .hidden), omega (arith, w .ahead, w .inside, w .fresh, w .nodes, w .rows, w .hidden), omega (arith, w .ahead, w .inside, w .fresh, w .nodes, w .rows, w .hidden), w .inside))
+
+  keep-same-length-2 : keep-lts.Need-same-length-2 keep-calls keep-at keep.Post
+  keep-same-length-2 c = search needs
+
+  keep-returns-4 : keep-lts.Need-returns-4 keep-calls keep-at keep.Post
+  keep-returns-4 c =
+      let w = far (c .before .before .before .before .before .before .before .before .before .joined .ensures) (c .before .before .before .before .before .r .given .1) in
+      by (keep-on _ _ _ _ _ (sym (c .before .before .before .before .before .before .before .before .before .before .before .before .before .byte-at .ensures) ∙ c .before .before .before .before .before .before .before .before .before .before .before .before .if1 .left) (c .before .before .before .before .before .before .before .before .before .before .before .if2 .left))
+      (then _ _ _ (omega (arith, w .ahead, w .inside, w .fresh, w .nodes, w .rows, w .hidden)) (omega (arith, w .ahead, w .inside, w .fresh, w .nodes, w .rows, w .hidden)) (omega arith) (omega (arith, w .ahead, w .inside, w .fresh, w .nodes, w .rows, w .hidden)) (was (c .before .before .before .before .before .before .before .before .before .joined .ensures) (c .before .before .before .before .before .r .given .1))
+      (λ f hf hs. c .before .before .second .ensures f (held-next _ hf) (omega arith)))
+
+  more-sign-at-requires : more-lts.Need-sign-at-requires more-calls more-at more.Post
+  more-sign-at-requires c κs = search needs
+
+  more-returns : more-lts.Need-returns more-calls more-at more.Post
+  more-returns c = λ n x f l he hs. by (more-none _ _ _ n f _ (sym (c .before .sign-at .ensures) ∙ not-true _ (c .if1 .taken))) (stop (c .before .before .before .before .before .pre .1 .0 .within) (c .before .before .before .before .before .pre .1 .0 .arena) he hs)
+
+  more-sign-len-requires : more-lts.Need-sign-len-requires more-calls more-at more.Post
+  more-sign-len-requires c κs = search needs
+
+  more-add-part : more-lts.Need-add-part more-calls more-at more.Post
+  more-add-part c = let st = sym (c .before .before .sign-at .ensures) ∙ not-false _ (c .before .if1 .left) in let g = sign-inside (opOf (c .before .before .before .before .before .before .args .sign)) (now (c .before .before .before .before .before .before .args .s)) (c .before .before .before .before .before .before .args .at) (c .before .before .before .before .before .before .pre .1 .0 .within) st in let k = sign-some (opOf (c .before .before .before .before .before .before .args .sign)) in let y = c .sign-len .ensures in omega (arith, g, k, y)
+
+  more-below-part-requires : more-lts.Need-below-part-requires more-calls more-at more.Post
+  more-below-part-requires c κs = let st = sym (c .before .before .before .sign-at .ensures) ∙ not-false _ (c .before .before .if1 .left) in let g = sign-inside (opOf (c .before .before .before .before .before .before .before .args .sign)) (now (c .before .before .before .before .before .before .before .args .s)) (c .before .before .before .before .before .before .before .args .at) (c .before .before .before .before .before .before .before .pre .1 .0 .within) st in let k = sign-some (opOf (c .before .before .before .before .before .before .before .args .sign)) in let y = c .before .sign-len .ensures in (omega (arith, g, k, y, rank-most (c .before .before .before .before .before .before .before .args .sign)), on (c .before .before .before .before .before .before .before .pre .1 .0) _ _ _ (omega (arith, g, k, y)) (omega (arith, g, k, y)) (omega (arith, g, k, y)) (c .before .before .before .before .before .before .before .pre .1 .0 .arena) refl)
+
+  more-enum-known-r : more-lts.Need-enum-known-r more-calls more-at more.Post
+  more-enum-known-r c = search needs
+
+  more-enum-told : more-lts.Need-enum-told more-calls more-at more.Post
+  more-enum-told c = search needs
+
+  more-same-length : more-lts.Need-same-length more-calls more-at more.Post
+  more-same-length c = search needs
+
+  more-returns-2 : more-lts.Need-returns-2 more-calls more-at more.Post
+  more-returns-2 c = let st = sym (c .before .before .before .before .before .before .before .before .sign-at .ensures) ∙ not-false _ (c .before .before .before .before .before .before .before .if1 .left) in let g = sign-inside (opOf (c .before .before .before .before .before .before .before .before .before .before .before .before .args .sign)) (now (c .before .before .before .before .before .before .before .before .before .before .before .before .args .s)) (c .before .before .before .before .before .before .before .before .before .before .before .before .args .at) (c .before .before .before .before .before .before .before .before .before .before .before .before .pre .1 .0 .within) st in let k = sign-some (opOf (c .before .before .before .before .before .before .before .before .before .before .before .before .args .sign)) in let y = c .before .before .before .before .before .before .sign-len .ensures in λ n x f l he hs. by (more-one _ _ _ n f _ st (omega (arith, g, k, y)) l) (hand-on _ (by (ap (below (opOf (c .before .before .before .before .before .before .before .before .before .before .before .before .args .sign)) _ _) (omega (arith, y))) (c .before .before .before .before .below-part .ensures)) (c .enum-told .given .1))
+
+  more-sub-left : more-lts.Need-sub-left more-calls more-at more.Post
+  more-sub-left c = search needs
+
+  more-sub-right : more-lts.Need-sub-right more-calls more-at more.Post
+  more-sub-right c = let w = far (c .before .before .before .before .before .below-part .ensures) (c .before .r .given .1) in omega (arith, w .ahead, w .inside, w .fresh, w .nodes, w .rows, w .hidden)
+
+  more-put-node-requires : more-lts.Need-put-node-requires more-calls more-at more.Post
+  more-put-node-requires c κs = let st = sym (c .before .before .before .before .before .before .before .before .before .before .sign-at .ensures) ∙ not-false _ (c .before .before .before .before .before .before .before .before .before .if1 .left) in let g = sign-inside (opOf (c .before .before .before .before .before .before .before .before .before .before .before .before .before .before .args .sign)) (now (c .before .before .before .before .before .before .before .before .before .before .before .before .before .before .args .s)) (c .before .before .before .before .before .before .before .before .before .before .before .before .before .before .args .at) (c .before .before .before .before .before .before .before .before .before .before .before .before .before .before .pre .1 .0 .within) st in let k = sign-some (opOf (c .before .before .before .before .before .before .before .before .before .before .before .before .before .before .args .sign)) in let y = c .before .before .before .before .before .before .before .before .sign-len .ensures in let w = far (c .before .before .before .before .before .before .below-part .ensures) (c .before .before .r .given .1) in (room-for (c .before .before .before .before .before .before .before .before .before .before .before .before .before .before .pre .1 .0) _ 1 (omega (arith, g, k, y, w .ahead, w .inside, w .fresh, w .nodes, w .rows, w .hidden)) (search needs), (omega (arith, w .ahead, w .inside, w .fresh, w .nodes, w .rows, w .hidden), omega (arith, w .ahead, w .inside, w .fresh, w .nodes, w .rows, w .hidden)))
+
+  more-add-count : more-lts.Need-add-count more-calls more-at more.Post
+  more-add-count c = let st = sym (c .before .before .before .before .before .before .before .before .before .before .before .before .before .sign-at .ensures) ∙ not-false _ (c .before .before .before .before .before .before .before .before .before .before .before .before .if1 .left) in let g = sign-inside (opOf (c .before .before .before .before .before .before .before .before .before .before .before .before .before .before .before .before .before .args .sign)) (now (c .before .before .before .before .before .before .before .before .before .before .before .before .before .before .before .before .before .args .s)) (c .before .before .before .before .before .before .before .before .before .before .before .before .before .before .before .before .before .args .at) (c .before .before .before .before .before .before .before .before .before .before .before .before .before .before .before .before .before .pre .1 .0 .within) st in let k = sign-some (opOf (c .before .before .before .before .before .before .before .before .before .before .before .before .before .before .before .before .before .args .sign)) in let y = c .before .before .before .before .before .before .before .before .before .before .before .sign-len .ensures in let w = far (c .before .before .before .before .before .before .before .before .before .below-part .ensures) (c .before .before .before .before .before .r .given .1) in omega (arith, g, k, y, w .ahead, w .inside, w .fresh, w .nodes, w .rows, w .hidden, c .before .before .before .before .before .before .before .before .before .before .before .before .before .before .before .before .before .pre .1 .0 .room .few)
+
+  more-repeats-requires : more-lts.Need-repeats-requires more-calls more-at more.Post
+  more-repeats-requires c κs = search needs
+
+  more-more-requires : more-lts.Need-more-requires more-calls more-at more.Post
+  more-more-requires c κs = let st = sym (c .before .before .before .before .before .before .before .before .before .before .before .before .before .before .before .before .sign-at .ensures) ∙ not-false _ (c .before .before .before .before .before .before .before .before .before .before .before .before .before .before .before .if1 .left) in let g = sign-inside (opOf (c .before .before .before .before .before .before .before .before .before .before .before .before .before .before .before .before .before .before .before .before .args .sign)) (now (c .before .before .before .before .before .before .before .before .before .before .before .before .before .before .before .before .before .before .before .before .args .s)) (c .before .before .before .before .before .before .before .before .before .before .before .before .before .before .before .before .before .before .before .before .args .at) (c .before .before .before .before .before .before .before .before .before .before .before .before .before .before .before .before .before .before .before .before .pre .1 .0 .within) st in let k = sign-some (opOf (c .before .before .before .before .before .before .before .before .before .before .before .before .before .before .before .before .before .before .before .before .args .sign)) in let y = c .before .before .before .before .before .before .before .before .before .before .before .before .before .before .sign-len .ensures in let w = far (c .before .before .before .before .before .before .before .before .before .before .before .before .below-part .ensures) (c .before .before .before .before .before .before .before .before .r .given .1) in (omega (arith, g, k, y, w .ahead, w .inside, w .fresh, w .nodes, w .rows, w .hidden), (on (c .before .before .before .before .before .before .before .before .before .before .before .before .before .before .before .before .before .before .before .before .pre .1 .0) _ _ _ (w .inside) (omega (arith, g, k, y, w .ahead, w .inside, w .fresh, w .nodes, w .rows, w .hidden)) (omega (arith, g, k, y, w .ahead, w .inside, w .fresh, w .nodes, w .rows, w .hidden)) (subst (Arena _) (sym (c .before .before .before .before .before .put-node .ensures)) (arena-put (Pair _ _ _) (left (c .before .before .before .before .before .before .before .before .before .before .before .before .below-part .ensures) (c .before .before .before .before .before .before .before .before .r .given .1)) (room-for (c .before .before .before .before .before .before .before .before .before .before .before .before .before .before .before .before .before .before .before .before .pre .1 .0) _ 1 (omega (arith, g, k, y, w .ahead, w .inside, w .fresh, w .nodes, w .rows, w .hidden)) (search needs)) (omega (arith, w .ahead, w .inside, w .fresh, w .nodes, w .rows, w .hidden), omega (arith, w .ahead, w .inside, w .fresh, w .nodes, w .rows, w .hidden)))) (search needs), omega arith))
+
+  more-same-length-2 : more-lts.Need-same-length-2 more-calls more-at more.Post
+  more-same-length-2 c = search needs
+
+  more-returns-3 : more-lts.Need-returns-3 more-calls more-at more.Post
+  more-returns-3 c =
+      let st = sym (c .before .before .before .before .before .before .before .before .before .before .before .before .before .before .before .before .before .before .before .sign-at .ensures) ∙ not-false _ (c .before .before .before .before .before .before .before .before .before .before .before .before .before .before .before .before .before .before .if1 .left) in let g = sign-inside (opOf (c .before .before .before .before .before .before .before .before .before .before .before .before .before .before .before .before .before .before .before .before .before .before .before .args .sign)) (now (c .before .before .before .before .before .before .before .before .before .before .before .before .before .before .before .before .before .before .before .before .before .before .before .args .s)) (c .before .before .before .before .before .before .before .before .before .before .before .before .before .before .before .before .before .before .before .before .before .before .before .args .at) (c .before .before .before .before .before .before .before .before .before .before .before .before .before .before .before .before .before .before .before .before .before .before .before .pre .1 .0 .within) st in let k = sign-some (opOf (c .before .before .before .before .before .before .before .before .before .before .before .before .before .before .before .before .before .before .before .before .before .before .before .args .sign)) in let y = c .before .before .before .before .before .before .before .before .before .before .before .before .before .before .before .before .before .sign-len .ensures in let w = far (c .before .before .before .before .before .before .before .before .before .before .before .before .before .before .before .below-part .ensures) (c .before .before .before .before .before .before .before .before .before .before .before .r .given .1) in
+      λ n x f l he hs. by (more-one _ _ _ n f _ st (omega (arith, g, k, y)) l)
+      (join _ _ (c .before .before .before .before .before .before .before .before .before .before .before .before .before .before .before .before .before .before .before .before .before .before .before .args .sign) f (onward (opOf (c .before .before .before .before .before .before .before .before .before .before .before .before .before .before .before .before .before .before .before .before .before .before .before .args .sign)) _ _ (n - 1)) (c .before .before .before .before .before .before .before .before .before .before .before .before .before .before .before .before .before .before .before .before .before .before .before .pre .1 .1) (omega (arith, g, k, y)) (c .before .before .before .before .before .before .before .before .before .before .before .before .before .before .before .before .before .before .before .before .before .before .before .pre .1 .0 .arena) he hs (was (by (ap (below (opOf (c .before .before .before .before .before .before .before .before .before .before .before .before .before .before .before .before .before .before .before .before .before .before .before .args .sign)) _ _) (omega (arith, y))) (c .before .before .before .before .before .before .before .before .before .before .before .before .before .before .before .below-part .ensures)) (c .before .before .before .before .before .before .before .before .before .before .before .r .given .1)) (room-for (c .before .before .before .before .before .before .before .before .before .before .before .before .before .before .before .before .before .before .before .before .before .before .before .pre .1 .0) _ 1 (omega (arith, g, k, y, w .ahead, w .inside, w .fresh, w .nodes, w .rows, w .hidden)) (search needs)) (c .before .before .before .before .before .before .before .before .put-node .ensures)
+      (λ z hz hs′ ar. by (onward-more _ _ _ _ z _ (c .before .before .before .before .before .repeats .ensures) (c .before .before .before .before .if2 .taken)) (c .before .before .more .ensures (n - 1) x z (omega (arith, g, k, y, w .ahead, w .inside, w .fresh, w .nodes, w .rows, w .hidden)) hz hs′)))
+
+  more-same-length-3 : more-lts.Need-same-length-3 more-calls more-at more.Post
+  more-same-length-3 c = search needs
+
+  more-returns-4 : more-lts.Need-returns-4 more-calls more-at more.Post
+  more-returns-4 c =
+      let st = sym (c .before .before .before .before .before .before .before .before .before .before .before .before .before .before .before .sign-at .ensures) ∙ not-false _ (c .before .before .before .before .before .before .before .before .before .before .before .before .before .before .if1 .left) in let g = sign-inside (opOf (c .before .before .before .before .before .before .before .before .before .before .before .before .before .before .before .before .before .before .before .args .sign)) (now (c .before .before .before .before .before .before .before .before .before .before .before .before .before .before .before .before .before .before .before .args .s)) (c .before .before .before .before .before .before .before .before .before .before .before .before .before .before .before .before .before .before .before .args .at) (c .before .before .before .before .before .before .before .before .before .before .before .before .before .before .before .before .before .before .before .pre .1 .0 .within) st in let k = sign-some (opOf (c .before .before .before .before .before .before .before .before .before .before .before .before .before .before .before .before .before .before .before .args .sign)) in let y = c .before .before .before .before .before .before .before .before .before .before .before .before .before .sign-len .ensures in let w = far (c .before .before .before .before .before .before .before .before .before .before .before .below-part .ensures) (c .before .before .before .before .before .before .before .r .given .1) in
+      λ n x f l he hs. by (more-one _ _ _ n f _ st (omega (arith, g, k, y)) l)
+      (join _ _ (c .before .before .before .before .before .before .before .before .before .before .before .before .before .before .before .before .before .before .before .args .sign) f (onward (opOf (c .before .before .before .before .before .before .before .before .before .before .before .before .before .before .before .before .before .before .before .args .sign)) _ _ (n - 1)) (c .before .before .before .before .before .before .before .before .before .before .before .before .before .before .before .before .before .before .before .pre .1 .1) (omega (arith, g, k, y)) (c .before .before .before .before .before .before .before .before .before .before .before .before .before .before .before .before .before .before .before .pre .1 .0 .arena) he hs (was (by (ap (below (opOf (c .before .before .before .before .before .before .before .before .before .before .before .before .before .before .before .before .before .before .before .args .sign)) _ _) (omega (arith, y))) (c .before .before .before .before .before .before .before .before .before .before .before .below-part .ensures)) (c .before .before .before .before .before .before .before .r .given .1)) (room-for (c .before .before .before .before .before .before .before .before .before .before .before .before .before .before .before .before .before .before .before .pre .1 .0) _ 1 (omega (arith, g, k, y, w .ahead, w .inside, w .fresh, w .nodes, w .rows, w .hidden)) (search needs)) (c .before .before .before .before .put-node .ensures)
+      (λ z hz hs′ ar. by (onward-stop (opOf (c .before .before .before .before .before .before .before .before .before .before .before .before .before .before .before .before .before .before .before .args .sign)) (below (opOf (c .before .before .before .before .before .before .before .before .before .before .before .before .before .before .before .before .before .before .before .args .sign)) (plain (c .before .before .before .before .before .before .before .before .before .before .before .before .before .before .before .before .before .before .before .args .depth) (namesAt (now (c .before .before .before .before .before .before .before .before .before .before .before .before .before .before .before .before .before .before .before .args .s)) (now (c .before .before .before .before .before .before .before .before .before .before .before .before .before .before .before .before .before .before .before .args .names))) (now (c .before .before .before .before .before .before .before .before .before .before .before .before .before .before .before .before .before .before .before .args .s))) (now (c .before .before .before .before .before .before .before .before .before .before .before .before .before .before .before .before .before .before .before .args .s))) (now (c .before .before .before .before .before .before .before .before .before .before .before .before .before .before .before .before .before .before .before .args .s)) (n - 1) z _ (c .before .repeats .ensures) (c .if2 .left)) (stop (w .inside) ar hz hs′)))
+
+  paren-returns : paren-lts.Need-returns paren-calls paren-at paren.Post
+  paren-returns c = refuses (paren-full _ _ _ _ (c .if1 .taken))
+
+  paren-add-inner : paren-lts.Need-add-inner paren-calls paren-at paren.Post
+  paren-add-inner c = search needs
+
+  paren-sub-joined : paren-lts.Need-sub-joined paren-calls paren-at paren.Post
+  paren-sub-joined c = search needs
+
+  paren-joined-requires : paren-lts.Need-joined-requires paren-calls paren-at paren.Post
+  paren-joined-requires c κs = (omega (arith, c .before .before .before .before .before .pre .1 .1), on (c .before .before .before .before .before .pre .1 .0) _ _ _ (omega (arith, c .before .before .before .before .before .pre .1 .1)) (omega arith) (omega arith) (c .before .before .before .before .before .pre .1 .0 .arena) refl)
+
+  paren-enum-known-r : paren-lts.Need-enum-known-r paren-calls paren-at paren.Post
+  paren-enum-known-r c = search needs
+
+  paren-enum-told : paren-lts.Need-enum-told paren-calls paren-at paren.Post
+  paren-enum-told c = search needs
+
+  paren-same-length : paren-lts.Need-same-length paren-calls paren-at paren.Post
+  paren-same-length c = search needs
+
+  paren-returns-2 : paren-lts.Need-returns-2 paren-calls paren-at paren.Post
+  paren-returns-2 c = by (paren-on _ _ _ _ (c .before .before .before .before .before .before .if1 .left)) (hand-on _ (c .before .before .before .before .joined .ensures) (c .enum-told .given .1))
+
+  paren-byte-at-requires : paren-lts.Need-byte-at-requires paren-calls paren-at paren.Post
+  paren-byte-at-requires c κs = search needs
+
+  paren-same-length-2 : paren-lts.Need-same-length-2 paren-calls paren-at paren.Post
+  paren-same-length-2 c = search needs
+
+  paren-returns-3 : paren-lts.Need-returns-3 paren-calls paren-at paren.Post
+  paren-returns-3 c = by (paren-on _ _ _ _ (c .before .before .before .before .before .before .before .before .before .if1 .left)) (unshut _ _ (was (c .before .before .before .before .before .before .before .joined .ensures) (c .before .before .before .r .given .1)) (λ e. c .if2 .taken (c .before .byte-at .ensures ∙ e)) (λ f. refl))
+
+  paren-add-after : paren-lts.Need-add-after paren-calls paren-at paren.Post
+  paren-add-after c = let w = far (c .before .before .before .before .before .before .before .joined .ensures) (c .before .before .before .r .given .1) in omega (arith, w .ahead, w .inside, w .fresh, w .nodes, w .rows, w .hidden)
+
+  paren-same-length-3 : paren-lts.Need-same-length-3 paren-calls paren-at paren.Post
+  paren-same-length-3 c = search needs
+
+  paren-returns-4 : paren-lts.Need-returns-4 paren-calls paren-at paren.Post
+  paren-returns-4 c = let w = far (c .before .before .before .before .before .before .before .joined .ensures) (c .before .before .before .r .given .1) in let i = byte-inside _ _ (byte ")") (c .before .byte-at .ensures) (c .if2 .left) (λ z. omega arith) in by (paren-on _ _ _ _ (c .before .before .before .before .before .before .before .before .before .if1 .left)) (shut _ _ (omega arith) (was (c .before .before .before .before .before .before .before .joined .ensures) (c .before .before .before .r .given .1)) (sym (c .before .byte-at .ensures) ∙ c .if2 .left) i)
+
+  plain-part-byte-at-requires : plain-part-lts.Need-byte-at-requires plain-part-calls plain-part-at plain-part.Post
+  plain-part-byte-at-requires c κs = search needs
+
+  plain-part-class-of-requires : plain-part-lts.Need-class-of-requires plain-part-calls plain-part-at plain-part.Post
+  plain-part-class-of-requires c κs = search needs
+
+  plain-part-enum-told : plain-part-lts.Need-enum-told plain-part-calls plain-part-at plain-part.Post
+  plain-part-enum-told c = search needs
+
+  plain-part-word-requires : plain-part-lts.Need-word-requires plain-part-calls plain-part-at plain-part.Post
+  plain-part-word-requires c κs = (omega arith, (c .before .before .before .before .before .before .before .before .pre .1, class-told _ _ (c .before .before .before .before .byte-at .ensures) (c .before .before .before .class-of .ensures) (c .before .enum-told .given .1)))
+
+  plain-part-enum-told-2 : plain-part-lts.Need-enum-told-2 plain-part-calls plain-part-at plain-part.Post
+  plain-part-enum-told-2 c = search needs
+
+  plain-part-deny-requires : plain-part-lts.Need-deny-requires plain-part-calls plain-part-at plain-part.Post
+  plain-part-deny-requires c κs = (omega arith, (c .before .before .before .before .before .before .before .before .before .pre .1, byte-inside _ _ (byte "!") (c .before .before .before .before .before .byte-at .ensures) (c .before .if1 .taken) (λ z. omega arith)))
+
+  plain-part-enum-told-3 : plain-part-lts.Need-enum-told-3 plain-part-calls plain-part-at plain-part.Post
+  plain-part-enum-told-3 c = search needs
+
+  plain-part-paren-requires : plain-part-lts.Need-paren-requires plain-part-calls plain-part-at plain-part.Post
+  plain-part-paren-requires c κs = (omega arith, (c .before .before .before .before .before .before .before .before .before .pre .1, byte-inside _ _ (byte "(") (c .before .before .before .before .before .byte-at .ensures) (c .before .if2 .taken) (λ z. omega arith)))
+
+  plain-part-enum-told-4 : plain-part-lts.Need-enum-told-4 plain-part-calls plain-part-at plain-part.Post
+  plain-part-enum-told-4 c = search needs
+
+  plain-part-enum-told-5 : plain-part-lts.Need-enum-told-5 plain-part-calls plain-part-at plain-part.Post
+  plain-part-enum-told-5 c = search needs
+
+  plain-part-same-length : plain-part-lts.Need-same-length plain-part-calls plain-part-at plain-part.Post
+  plain-part-same-length c = search needs
+
+  plain-part-returns : plain-part-lts.Need-returns plain-part-calls plain-part-at plain-part.Post
+  plain-part-returns c = by (plain-letter _ _ _ _ (class-told _ _ (c .before .before .before .before .before .before .before .byte-at .ensures) (c .before .before .before .before .before .before .class-of .ensures) (c .before .before .before .before .enum-told .given .1))) (c .before .before .word .ensures)
+
+  plain-part-same-length-2 : plain-part-lts.Need-same-length-2 plain-part-calls plain-part-at plain-part.Post
+  plain-part-same-length-2 c = search needs
+
+  plain-part-returns-2 : plain-part-lts.Need-returns-2 plain-part-calls plain-part-at plain-part.Post
+  plain-part-returns-2 c = by (plain-deny _ _ _ _ (class-told _ _ (c .before .before .before .before .before .before .before .before .byte-at .ensures) (c .before .before .before .before .before .before .before .class-of .ensures) (c .before .before .before .before .before .enum-told2 .given .1)) (sym (c .before .before .before .before .before .before .before .before .byte-at .ensures) ∙ c .before .before .before .before .if1 .taken)) (c .before .before .deny .ensures)
+
+  plain-part-returns-3 : plain-part-lts.Need-returns-3 plain-part-calls plain-part-at plain-part.Post
+  plain-part-returns-3 c = refuses (plain-sign _ _ _ _ (class-told _ _ (c .before .before .before .before .byte-at .ensures) (c .before .before .before .class-of .ensures) (c .before .enum-told2 .given .1)) (λ e. c .if1 .left (c .before .before .before .before .byte-at .ensures ∙ e)))
+
+  plain-part-same-length-3 : plain-part-lts.Need-same-length-3 plain-part-calls plain-part-at plain-part.Post
+  plain-part-same-length-3 c = search needs
+
+  plain-part-returns-4 : plain-part-lts.Need-returns-4 plain-part-calls plain-part-at plain-part.Post
+  plain-part-returns-4 c = by (plain-paren _ _ _ _ (class-told _ _ (c .before .before .before .before .before .before .before .before .byte-at .ensures) (c .before .before .before .before .before .before .before .class-of .ensures) (c .before .before .before .before .before .enum-told3 .given .1)) (sym (c .before .before .before .before .before .before .before .before .byte-at .ensures) ∙ c .before .before .before .before .if2 .taken)) (c .before .before .paren .ensures)
+
+  plain-part-returns-5 : plain-part-lts.Need-returns-5 plain-part-calls plain-part-at plain-part.Post
+  plain-part-returns-5 c = refuses (plain-bracket _ _ _ _ (class-told _ _ (c .before .before .before .before .byte-at .ensures) (c .before .before .before .class-of .ensures) (c .before .enum-told3 .given .1)) (λ e. c .if2 .left (c .before .before .before .before .byte-at .ensures ∙ e)))
+
+  plain-part-returns-6 : plain-part-lts.Need-returns-6 plain-part-calls plain-part-at plain-part.Post
+  plain-part-returns-6 c = refuses (plain-digit _ _ _ _ (class-told _ _ (c .before .before .before .byte-at .ensures) (c .before .before .class-of .ensures) (c .enum-told4 .given .1)))
+
+  plain-part-returns-7 : plain-part-lts.Need-returns-7 plain-part-calls plain-part-at plain-part.Post
+  plain-part-returns-7 c = refuses (plain-other _ _ _ _ (class-told _ _ (c .before .before .before .byte-at .ensures) (c .before .before .class-of .ensures) (c .enum-told5 .given .1)))
+
+  second-byte-at-requires : second-lts.Need-byte-at-requires second-calls second-at second.Post
+  second-byte-at-requires c κs = search needs
+
+  second-returns : second-lts.Need-returns second-calls second-at second.Post
+  second-returns c = λ f hf hs. refuses (second-none _ _ _ f _ (λ e. c .if1 .taken (c .before .byte-at .ensures ∙ e)))
+
+  second-add-inner : second-lts.Need-add-inner second-calls second-at second.Post
+  second-add-inner c = search needs
+
+  second-joined-requires : second-lts.Need-joined-requires second-calls second-at second.Post
+  second-joined-requires c κs = let i = byte-inside _ _ (byte ",") (c .before .before .byte-at .ensures) (c .before .if1 .left) (λ z. omega arith) in (omega (arith, i), on (c .before .before .before .before .before .before .pre .1 .0) _ _ _ (omega (arith, i)) (omega arith) (omega arith) (c .before .before .before .before .before .before .pre .1 .0 .arena) refl)
+
+  second-enum-known-r : second-lts.Need-enum-known-r second-calls second-at second.Post
+  second-enum-known-r c = search needs
+
+  second-enum-told : second-lts.Need-enum-told second-calls second-at second.Post
+  second-enum-told c = search needs
+
+  second-same-length : second-lts.Need-same-length second-calls second-at second.Post
+  second-same-length c = search needs
+
+  second-returns-2 : second-lts.Need-returns-2 second-calls second-at second.Post
+  second-returns-2 c = λ f hf hs. by (second-some _ _ _ f _ (sym (c .before .before .before .before .before .before .before .byte-at .ensures) ∙ c .before .before .before .before .before .before .if1 .left)) (hand-on-keep _ _ f (c .before .before .before .before .joined .ensures) (c .enum-told .given .1))
+
+  second-byte-at-requires-2 : second-lts.Need-byte-at-requires-2 second-calls second-at second.Post
+  second-byte-at-requires-2 c κs = search needs
+
+  second-same-length-2 : second-lts.Need-same-length-2 second-calls second-at second.Post
+  second-same-length-2 c = search needs
+
+  second-returns-3 : second-lts.Need-returns-3 second-calls second-at second.Post
+  second-returns-3 c = λ f hf hs. by (second-some _ _ _ f _ (sym (c .before .before .before .before .before .before .before .before .before .before .byte-at .ensures) ∙ c .before .before .before .before .before .before .before .before .before .if1 .left)) (unshut-keep _ _ f (was (c .before .before .before .before .before .before .before .joined .ensures) (c .before .before .before .r .given .1)) (λ e. c .if2 .taken (c .before .byte-at2 .ensures ∙ e)))
+
+  second-sub-left : second-lts.Need-sub-left second-calls second-at second.Post
+  second-sub-left c = search needs
+
+  second-sub-right : second-lts.Need-sub-right second-calls second-at second.Post
+  second-sub-right c = let w = far (c .before .before .before .before .before .before .before .joined .ensures) (c .before .before .before .r .given .1) in omega (arith, w .ahead, w .inside, w .fresh, w .nodes, w .rows, w .hidden)
+
+  second-cast-put-keep : second-lts.Need-cast-put-keep second-calls second-at second.Post
+  second-cast-put-keep c = omega (arith, c .before .before .before .before .before .before .before .before .before .before .before .before .before .before .before .pre .1 .0 .rows)
+
+  second-put-keep-requires : second-lts.Need-put-keep-requires second-calls second-at second.Post
+  second-put-keep-requires c κs = let w = far (c .before .before .before .before .before .before .before .before .joined .ensures) (c .before .before .before .before .r .given .1) in let i = byte-inside _ _ (byte ")") (c .before .before .byte-at2 .ensures) (c .before .if2 .left) (λ z. omega arith) in (room-for (c .before .before .before .before .before .before .before .before .before .before .before .before .before .before .before .pre .1 .0) _ 6 (omega (arith, w .ahead, w .inside, w .fresh, w .nodes, w .rows, w .hidden, i)) (search needs), (omega (arith, w .ahead, w .inside, w .fresh, w .nodes, w .rows, w .hidden), omega (arith, w .ahead, w .inside, w .fresh, w .nodes, w .rows, w .hidden)))
+
+  second-add-after : second-lts.Need-add-after second-calls second-at second.Post
+  second-add-after c = let w = far (c .before .before .before .before .before .before .before .before .before .before .before .joined .ensures) (c .before .before .before .before .before .before .before .r .given .1) in omega (arith, w .ahead, w .inside, w .fresh, w .nodes, w .rows, w .hidden)
+
+  second-add-count : second-lts.Need-add-count second-calls second-at second.Post
+  second-add-count c = let w = far (c .before .before .before .before .before .before .before .before .before .before .before .joined .ensures) (c .before .before .before .before .before .before .before .r .given .1) in omega (arith, w .ahead, w .inside, w .fresh, w .nodes, w .rows, w .hidden, c .before .before .before .before .before .before .before .before .before .before .before .before .before .before .before .before .before .before .pre .1 .0 .room .few)
+
+  second-same-length-3 : second-lts.Need-same-length-3 second-calls second-at second.Post
+  second-same-length-3 c = search needs
+
+  second-returns-4 : second-lts.Need-returns-4 second-calls second-at second.Post
+  second-returns-4 c =
+      let w = far (c .before .before .before .before .before .before .before .before .before .before .before .joined .ensures) (c .before .before .before .before .before .before .before .r .given .1) in let i = byte-inside _ _ (byte ")") (c .before .before .before .before .before .byte-at2 .ensures) (c .before .before .before .before .if2 .left) (λ z. omega arith) in
+      λ f hf hs. by (second-some _ _ _ f _ (sym (c .before .before .before .before .before .before .before .before .before .before .before .before .before .before .byte-at .ensures) ∙ c .before .before .before .before .before .before .before .before .before .before .before .before .before .if1 .left))
+      (shut-keep _ _ f (was (c .before .before .before .before .before .before .before .before .before .before .before .joined .ensures) (c .before .before .before .before .before .before .before .r .given .1)) _ _ _ (c .before .before .before .before .before .before .before .before .before .before .before .before .before .before .before .before .before .before .pre .1 .1) (omega arith) (c .before .before .before .before .before .before .before .before .before .before .before .before .before .before .before .before .before .before .pre .1 .0 .arena) hf hs (room-for (c .before .before .before .before .before .before .before .before .before .before .before .before .before .before .before .before .before .before .pre .1 .0) _ 6 (omega (arith, w .ahead, w .inside, w .fresh, w .nodes, w .rows, w .hidden, i)) (search needs)) (c .before .before .put-keep .ensures) (sym (c .before .before .before .before .before .byte-at2 .ensures) ∙ c .before .before .before .before .if2 .left) i)
+
+  timed-plain-part-requires : timed-lts.Need-plain-part-requires timed-calls timed-at timed.Post
+  timed-plain-part-requires c κs = (omega arith, c .before .before .before .before .pre .1)
+
+  timed-enum-known-r : timed-lts.Need-enum-known-r timed-calls timed-at timed.Post
+  timed-enum-known-r c = search needs
+
+  timed-enum-told : timed-lts.Need-enum-told timed-calls timed-at timed.Post
+  timed-enum-told c = search needs
+
+  timed-same-length : timed-lts.Need-same-length timed-calls timed-at timed.Post
+  timed-same-length c = search needs
+
+  timed-returns : timed-lts.Need-returns timed-calls timed-at timed.Post
+  unfolding timedPart
+  timed-returns c = hand-on _ (c .before .before .before .before .plain-part .ensures) (c .enum-told .given .1)
+
+  timed-times-at-requires : timed-lts.Need-times-at-requires timed-calls timed-at timed.Post
+  timed-times-at-requires c κs = let w = far (c .before .before .before .before .before .before .plain-part .ensures) (c .before .before .r .given .1) in (bare (on (c .before .before .before .before .before .before .before .before .before .before .before .pre .1) _ _ _ (w .inside) (omega (arith, w .ahead, w .inside, w .fresh, w .nodes, w .rows, w .hidden)) (omega (arith, w .ahead, w .inside, w .fresh, w .nodes, w .rows, w .hidden)) (left (c .before .before .before .before .before .before .plain-part .ensures) (c .before .before .r .given .1)) (search needs)), omega (arith, w .ahead, w .inside, w .fresh, w .nodes, w .rows, w .hidden))
+
+  timed-same-length-2 : timed-lts.Need-same-length-2 timed-calls timed-at timed.Post
+  timed-same-length-2 c = search needs
+
+  timed-returns-2 : timed-lts.Need-returns-2 timed-calls timed-at timed.Post
+  unfolding timedPart
+  timed-returns-2 c = let w = far (c .before .before .before .before .before .before .before .before .before .plain-part .ensures) (c .before .before .before .before .before .r .given .1) in then _ _ _ (omega (arith, w .ahead, w .inside, w .fresh, w .nodes, w .rows, w .hidden)) (omega arith) (omega arith) (omega arith) (was (c .before .before .before .before .before .before .before .before .before .plain-part .ensures) (c .before .before .before .before .before .r .given .1)) (λ f hf hs. c .before .before .times-at .ensures _ _ f (omega arith) hf hs)
+
+  word-is-since-requires : word-lts.Need-is-since-requires word-calls word-at word.Post
+  word-is-since-requires c κs = search needs
+
+  word-add-next : word-lts.Need-add-next word-calls word-at word.Post
+  word-add-next c = search needs
+
+  word-keep-requires : word-lts.Need-keep-requires word-calls word-at word.Post
+  word-keep-requires c κs = let i = since-inside _ _ (c .before .before .before .before .before .before .pre .1 .0 .within) (c .before .before .is-since .ensures) (c .before .if1 .taken) in (omega arith, (on (c .before .before .before .before .before .before .pre .1 .0) _ _ _ (omega arith) (omega arith) (omega arith) (c .before .before .before .before .before .before .pre .1 .0 .arena) refl, omega arith, i))
+
+  word-is-until-requires : word-lts.Need-is-until-requires word-calls word-at word.Post
+  word-is-until-requires c κs = search needs
+
+  word-add-next-2 : word-lts.Need-add-next-2 word-calls word-at word.Post
+  word-add-next-2 c = search needs
+
+  word-keep-requires-2 : word-lts.Need-keep-requires-2 word-calls word-at word.Post
+  word-keep-requires-2 c κs = let i = until-inside _ _ (c .before .before .before .before .before .before .before .before .pre .1 .0 .within) (c .before .before .is-until .ensures) (c .before .if2 .taken) in (omega arith, (on (c .before .before .before .before .before .before .before .before .pre .1 .0) _ _ _ (omega arith) (omega arith) (omega arith) (c .before .before .before .before .before .before .before .before .pre .1 .0 .arena) refl, omega arith, i))
+
+  word-name-requires : word-lts.Need-name-requires word-calls word-at word.Post
+  word-name-requires c κs = search needs
+
+  word-same-length : word-lts.Need-same-length word-calls word-at word.Post
+  word-same-length c = search needs
+
+  word-returns : word-lts.Need-returns word-calls word-at word.Post
+  word-returns c = by (word-since _ _ _ _ (sym (c .before .before .before .before .before .is-since .ensures) ∙ c .before .before .before .before .if1 .taken)) (from (omega arith) (c .before .before .keep .ensures))
+
+  word-same-length-2 : word-lts.Need-same-length-2 word-calls word-at word.Post
+  word-same-length-2 c = search needs
+
+  word-returns-2 : word-lts.Need-returns-2 word-calls word-at word.Post
+  word-returns-2 c = by (word-until _ _ _ _ (sym (c .before .before .before .before .before .before .before .is-since .ensures) ∙ c .before .before .before .before .before .before .if1 .left) (sym (c .before .before .before .before .before .is-until .ensures) ∙ c .before .before .before .before .if2 .taken)) (from (omega arith) (c .before .before .keep2 .ensures))
+
+  word-same-length-3 : word-lts.Need-same-length-3 word-calls word-at word.Post
+  word-same-length-3 c = search needs
+
+  word-returns-3 : word-lts.Need-returns-3 word-calls word-at word.Post
+  word-returns-3 c = by (word-name _ _ _ _ (sym (c .before .before .before .before .before .before .before .is-since .ensures) ∙ c .before .before .before .before .before .before .if1 .left) (sym (c .before .before .before .before .before .is-until .ensures) ∙ c .before .before .before .before .if2 .left)) (c .before .before .name .ensures)
+
+pub +below-part+deny+joined+keep+more+paren+plain-part+second+timed+word-spec : {M : Type 1} → statement M
++below-part+deny+joined+keep+more+paren+plain-part+second+timed+word-spec =
+    close μ-below-part μ-deny μ-joined μ-keep μ-more μ-paren μ-plain-part μ-second μ-timed μ-word
+    (λ t. below-part-lts.spec (below-part-calls t) (below-part-at t) below-part.Post (below-part-enum-told t) (below-part-timed-requires t) (below-part-enum-told-2 t) (below-part-joined-requires t) (below-part-enum-told-3 t) (below-part-joined-requires-2 t) (below-part-enum-told-4 t) (below-part-joined-requires-3 t) (below-part-same-length t) (below-part-returns t) (below-part-same-length-2 t) (below-part-returns-2 t) (below-part-same-length-3 t) (below-part-returns-3 t) (below-part-same-length-4 t) (below-part-returns-4 t))
+    (λ t. deny-lts.spec (deny-calls t) (deny-at t) deny.Post (deny-returns t) (deny-add-inner t) (deny-sub-plain-part t) (deny-plain-part-requires t) (deny-enum-known-r t) (deny-enum-told t) (deny-same-length t) (deny-returns-2 t) (deny-sub-child t) (deny-put-node-requires t) (deny-add-count t) (deny-same-length-2 t) (deny-returns-3 t))
+    (λ t. joined-lts.spec (joined-calls t) (joined-at t) joined.Post (joined-below-part-requires t) (joined-enum-known-r t) (joined-enum-told t) (joined-same-length t) (joined-returns t) (joined-more-requires t) (joined-same-length-2 t) (joined-returns-2 t))
+    (λ t. keep-lts.spec (keep-calls t) (keep-at t) keep.Post (keep-byte-at-requires t) (keep-returns t) (keep-returns-2 t) (keep-add-inner t) (keep-add-first t) (keep-sub-joined t) (keep-joined-requires t) (keep-enum-known-r t) (keep-enum-told t) (keep-same-length t) (keep-returns-3 t) (keep-sub-second t) (keep-second-requires t) (keep-same-length-2 t) (keep-returns-4 t))
+    (λ t. more-lts.spec (more-calls t) (more-at t) more.Post (more-sign-at-requires t) (more-returns t) (more-sign-len-requires t) (more-add-part t) (more-below-part-requires t) (more-enum-known-r t) (more-enum-told t) (more-same-length t) (more-returns-2 t) (more-sub-left t) (more-sub-right t) (more-put-node-requires t) (more-add-count t) (more-repeats-requires t) (more-more-requires t) (more-same-length-2 t) (more-returns-3 t) (more-same-length-3 t) (more-returns-4 t))
+    (λ t. paren-lts.spec (paren-calls t) (paren-at t) paren.Post (paren-returns t) (paren-add-inner t) (paren-sub-joined t) (paren-joined-requires t) (paren-enum-known-r t) (paren-enum-told t) (paren-same-length t) (paren-returns-2 t) (paren-byte-at-requires t) (paren-same-length-2 t) (paren-returns-3 t) (paren-add-after t) (paren-same-length-3 t) (paren-returns-4 t))
+    (λ t. plain-part-lts.spec (plain-part-calls t) (plain-part-at t) plain-part.Post (plain-part-byte-at-requires t) (plain-part-class-of-requires t) (plain-part-enum-told t) (plain-part-word-requires t) (plain-part-enum-told-2 t) (plain-part-deny-requires t) (plain-part-enum-told-3 t) (plain-part-paren-requires t) (plain-part-enum-told-4 t) (plain-part-enum-told-5 t) (plain-part-same-length t) (plain-part-returns t) (plain-part-same-length-2 t) (plain-part-returns-2 t) (plain-part-returns-3 t) (plain-part-same-length-3 t) (plain-part-returns-4 t) (plain-part-returns-5 t) (plain-part-returns-6 t) (plain-part-returns-7 t))
+    (λ t. second-lts.spec (second-calls t) (second-at t) second.Post (second-byte-at-requires t) (second-returns t) (second-add-inner t) (second-joined-requires t) (second-enum-known-r t) (second-enum-told t) (second-same-length t) (second-returns-2 t) (second-byte-at-requires-2 t) (second-same-length-2 t) (second-returns-3 t) (second-sub-left t) (second-sub-right t) (second-cast-put-keep t) (second-put-keep-requires t) (second-add-after t) (second-add-count t) (second-same-length-3 t) (second-returns-4 t))
+    (λ t. timed-lts.spec (timed-calls t) (timed-at t) timed.Post (timed-plain-part-requires t) (timed-enum-known-r t) (timed-enum-told t) (timed-same-length t) (timed-returns t) (timed-times-at-requires t) (timed-same-length-2 t) (timed-returns-2 t))
+    (λ t. word-lts.spec (word-calls t) (word-at t) word.Post (word-is-since-requires t) (word-add-next t) (word-keep-requires t) (word-is-until-requires t) (word-add-next-2 t) (word-keep-requires-2 t) (word-name-requires t) (word-same-length t) (word-returns t) (word-same-length-2 t) (word-returns-2 t) (word-same-length-3 t) (word-returns-3 t))

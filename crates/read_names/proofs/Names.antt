@@ -1,0 +1,226 @@
+-- Names: when two texts are the same, and which of a list of names a text is.
+-- Assumes nothing.
+use mathlib.Core.Path.{_≡_, refl, sym, ap, _∙_}
+use mathlib.Core.Logic.{_↔_}
+use mathlib.Core.Bool.{Bool, true, false, false≢true, not, and-eq-true-iff}
+use mathlib.Core.List.{List, [], _∷_, _++_, List·Memᴰ}
+use Prim.Native.Nat.{ℕ, zero, suc, _+_, _-_, _<_, _≤_}
+use native.Mathlib.Omega.{arith}
+use borrow.Author.Tests.{eqb-true, eqb-false, eq-eqb, ne-eqb, le-leb, lt-leb, leb-true, not-true}
+use lib.Dec.{leb, eqb}
+use lib.ListN.{length, getD, take, drop, drop-of-length-le}
+use lib.Seq.{getD-drop, getD-take}
+use Rattle.read_names.specs.declared.Word.the-variants.{Name, Other}
+use Rattle.read_bytes.specs.Bytes.{bytes, byte, peek, pick, letter, nameByte, runEnd}
+use Rattle.read_names.specs.Words.{wordAt, wordEnd, namesAt, sameText, findName, isWord, nameAt}
+use Rattle.read_bytes.proofs.Tests.{between-in}
+use Rattle.read_bytes.proofs.Places.{Reach, drop-in}
+use Rattle.read_bytes.proofs.Runs.{every, run-every, run-byte, run-slice}
+use Rattle.read_names.proofs.Spelling.{word-ahead, is-word}
+
+same-is : (a b : List ℕ) → sameText a b ≡ true → a ≡ b
+unfolding sameText
+same-is [] [] e = refl
+same-is [] (y ∷ b) e = absurd (false≢true e)
+same-is (x ∷ a) [] e = absurd (false≢true e)
+same-is (x ∷ a) (y ∷ b) e =
+    let w = and-eq-true-iff (eqb x y) (sameText a b) .0 e in
+    let i = eqb-true x y (w .0) in
+    let j = same-is a b (w .1) in
+    cc
+
+same-self : (a : List ℕ) → sameText a a ≡ true
+unfolding sameText
+same-self [] = refl
+same-self (x ∷ a) = rw (eq-eqb x x refl, same-self a)
+
+eqb-sym : (x y : ℕ) → eqb x y ≡ eqb y x
+eqb-sym x y = go (eqb x y) refl
+  where
+    go : (b : Bool) → eqb x y ≡ b → b ≡ eqb y x
+    go true e = sym (eq-eqb y x (sym (eqb-true x y e)))
+    go false e = sym (ne-eqb y x (λ i. eqb-false x y e (sym i)))
+
+same-sym : (a b : List ℕ) → sameText a b ≡ sameText b a
+unfolding sameText
+same-sym [] [] = refl
+same-sym [] (y ∷ b) = refl
+same-sym (x ∷ a) [] = refl
+same-sym (x ∷ a) (y ∷ b) = rw (eqb-sym x y, same-sym a b)
+
+pub same-text : (a b : List ℕ) → (sameText a b ≡ true) ↔ (a ≡ b)
+same-text a b = (same-is a b, λ e. rw e (same-self b))
+
+-- The word at a, held against a word w.
+module _ (s : List ℕ) (a : ℕ) (w : List ℕ) where
+  pub word-same : every nameByte w ≡ true → isWord s a w ≡ sameText (wordAt s a) w
+  word-same h = is-word s a w h ∙ same-sym w (wordAt s a)
+
+  -- Where there is no room for w, or another byte in the place of the one at k, it is another word.
+  pub word-other : (k : ℕ) → k < length w → (a + length w ≤ length s → getD s (k + a) 0 ≡ getD w k 0 → ⊥) → sameText (wordAt s a) w ≡ false
+  word-other k h differs = go (sameText (wordAt s a) w) refl
+    where
+      go : (b : Bool) → sameText (wordAt s a) w ≡ b → b ≡ false
+      go false e = refl
+      go true e =
+          let i = same-is (wordAt s a) w e in
+          let n = ap length i in
+          let r = run-byte nameByte s a k (omega arith) in
+          absurd (differs (omega (arith, r .0)) (sym (r .1) ∙ ap (λ l. getD l k 0) i))
+
+-- The word of r at p, cut out up to e, held against the word of s at a. The byte of s at a from k on is the one at k from a on.
+module _ (r : List ℕ) (p e : ℕ) (ends : e ≡ wordEnd r p) where
+  pub cut-long : length (take (e - p) (drop p r)) ≡ e - p
+  unfolding runEnd
+  cut-long = rw (run-slice nameByte r p e ends) (omega arith)
+
+  module _ (s : List ℕ) (a : ℕ) where
+    pub cut-same : isWord s a (take (e - p) (drop p r)) ≡ sameText (wordAt s a) (wordAt r p)
+    cut-same = rw (run-slice nameByte r p e ends) (word-same s a (wordAt r p) (run-every nameByte r p))
+
+    pub cut-other : (k : ℕ) → k < e - p → (a + (e - p) ≤ length s → getD (take (length s - k) (drop k s)) a 0 ≡ getD (take (e - p) (drop p r)) k 0 → ⊥) → sameText (wordAt s a) (wordAt r p) ≡ false
+    unfolding runEnd
+    cut-other k h differs =
+        word-other s a (wordAt r p) k (omega arith)
+        (λ l i. differs (omega arith) (getD-take (length s - k) (drop k s) a 0 (omega arith) ∙ getD-drop k s a 0 ∙ i ∙ sym (ap (λ w. getD w k 0) (run-slice nameByte r p e ends))))
+
+-- Whether the first name is w settles the search there, or moves it on by one.
+module _ (w n : List ℕ) (ns : List (List ℕ)) where
+  pub find-here : sameText n w ≡ true → findName w (n ∷ ns) ≡ 0
+  unfolding findName
+  find-here e = rw e
+
+  pub find-later : sameText n w ≡ false → findName w (n ∷ ns) ≡ suc (findName w ns)
+  unfolding findName
+  find-later e = rw e
+
+-- A number found is that of a name which is w.
+pub find-is : (w : List ℕ) (ns : List (List ℕ)) → findName w ns < length ns → getD ns (findName w ns) [] ≡ w
+find-is w [] h = let z : ⊥ = omega arith in absurd z
+find-is w (n ∷ ns) h = go (sameText n w) refl (find-is w ns)
+  where
+    go : (b : Bool) → sameText n w ≡ b → (findName w ns < length ns → getD ns (findName w ns) [] ≡ w) → getD (n ∷ ns) (findName w (n ∷ ns)) [] ≡ w
+    go true e k = rw (find-here w n ns e) (same-is n w e)
+    go false e k = let l = find-later w n ns e in rw l (k (omega arith))
+
+-- A number is found for each of the names.
+find-of : (w : List ℕ) (ns : List (List ℕ)) → List·Memᴰ w ns → findName w ns < length ns
+find-of w (n ∷ ns) (List·Memᴰ.List·Memᴰ·head i) =
+    let e = find-here w n ns (rw i (same-self n)) in
+    omega arith
+find-of w (n ∷ ns) (List·Memᴰ.List·Memᴰ·tail m) = go (sameText n w) refl (find-of w ns m)
+  where
+    go : (b : Bool) → sameText n w ≡ b → findName w ns < length ns → findName w (n ∷ ns) < length (n ∷ ns)
+    go true e k = let l = find-here w n ns e in omega arith
+    go false e k = let l = find-later w n ns e in omega arith
+
+member : (ns : List (List ℕ)) (i : ℕ) (w : List ℕ) → i < length ns → getD ns i [] ≡ w → List·Memᴰ w ns
+member [] i w h e = let z : ⊥ = omega arith in absurd z
+member (n ∷ ns) zero w h e = List·Memᴰ.List·Memᴰ·head (sym e)
+member (n ∷ ns) (suc i) w h e = let k : i < length ns = omega arith in List·Memᴰ.List·Memᴰ·tail (member ns i w k e)
+
+pub find-in : (w : List ℕ) (ns : List (List ℕ)) → (findName w ns < length ns) ↔ List·Memᴰ w ns
+find-in w ns = (λ h. member ns (findName w ns) w h (find-is w ns h), find-of w ns)
+
+pub find-most : (w : List ℕ) (ns : List (List ℕ)) → findName w ns ≤ length ns
+unfolding findName
+find-most w [] = omega arith
+find-most w (n ∷ ns) = go (sameText n w) refl (find-most w ns)
+  where
+    go : (b : Bool) → sameText n w ≡ b → findName w ns ≤ length ns → findName w (n ∷ ns) ≤ length (n ∷ ns)
+    go true e k = let l = find-here w n ns e in omega arith
+    go false e k = let l = find-later w n ns e in omega arith
+
+-- THE NAMES AT PLACES OF A TEXT
+pub names-many : (s ps : List ℕ) → length (namesAt s ps) ≡ length ps
+unfolding namesAt
+names-many s [] = refl
+names-many s (p ∷ ps) = ap suc (names-many s ps)
+
+pub names-append : (s ps qs : List ℕ) → namesAt s (ps ++ qs) ≡ namesAt s ps ++ namesAt s qs
+unfolding namesAt
+names-append s [] qs = refl
+names-append s (p ∷ ps) qs = rw (names-append s ps qs)
+
+-- The search from the place i on.
+module _ (s ps w : List ℕ) (i : ℕ) where
+  pub search-end : length ps ≤ i → i + findName w (namesAt s (drop i ps)) ≡ i
+  unfolding namesAt findName
+  search-end h = rw (drop-of-length-le ps h) (omega arith)
+
+  first : i < length ps → namesAt s (drop i ps) ≡ wordAt s (getD ps i 0) ∷ namesAt s (drop (i + 1) ps)
+  unfolding namesAt
+  first h = ap (namesAt s) (drop-in ps i 0 h)
+
+  pub search-here : i < length ps → sameText (wordAt s (getD ps i 0)) w ≡ true → i + findName w (namesAt s (drop i ps)) ≡ i
+  search-here h e = rw (first h, find-here w (wordAt s (getD ps i 0)) (namesAt s (drop (i + 1) ps)) e) (omega arith)
+
+  pub search-on : i < length ps → sameText (wordAt s (getD ps i 0)) w ≡ false → i + findName w (namesAt s (drop i ps)) ≡ i + 1 + findName w (namesAt s (drop (i + 1) ps))
+  search-on h e = rw (first h, find-later w (wordAt s (getD ps i 0)) (namesAt s (drop (i + 1) ps)) e) (omega arith)
+
+-- NAMES OF A SHEET
+module _ (s : List ℕ) (p b : ℕ) (eb : b ≡ peek s p) where
+  pub name-not : letter b ≡ false → Other ≡ nameAt s p
+  unfolding nameAt
+  name-not h = let m : letter (peek s p) ≡ false = rw eb at h in rw m
+
+  module _ (e : ℕ) (ee : e ≡ wordEnd s p) (lo : byte "a" ≤ b) (hi : b ≤ byte "z") where
+    first-letter : letter (peek s p) ≡ true
+    first-letter = rw eb at (between-in (byte "a") (byte "z") b lo hi)
+
+    pub name-long : 16 < e - p → Other ≡ nameAt s p
+    unfolding nameAt runEnd
+    name-long h = rw (first-letter, lt-leb (length (wordAt s p)) 16 (omega arith))
+
+    short : e - p ≤ 16 → leb (length (wordAt s p)) 16 ≡ true
+    unfolding runEnd
+    short h = le-leb (length (wordAt s p)) 16 (omega arith)
+
+    pub name-since : e - p ≤ 16 → isWord s p (bytes "since") ≡ true → Other ≡ nameAt s p
+    unfolding nameAt
+    name-since h a = rw (first-letter, short h, a)
+
+    module _ (h : e - p ≤ 16) (a : isWord s p (bytes "since") ≡ false) where
+      pub name-until : isWord s p (bytes "until") ≡ true → Other ≡ nameAt s p
+      unfolding nameAt
+      name-until d = rw (first-letter, short h, a, d)
+
+      pub name-is : isWord s p (bytes "until") ≡ false → Name e ≡ nameAt s p
+      unfolding nameAt
+      name-is d = rw (first-letter, short h, a, d, ← ee)
+
+-- What a name is.
+pub record Named (s : List ℕ) (p q : ℕ) : Type 0 where
+  pub first : letter (peek s p) ≡ true
+  pub short : length (wordAt s p) ≤ 16
+  pub not-since : isWord s p (bytes "since") ≡ false
+  pub not-until : isWord s p (bytes "until") ≡ false
+  pub ends : q ≡ wordEnd s p
+
+passed : (b : Bool) (e : ℕ) {q : ℕ} → pick b (λ _. Name e) Other ≡ Name q → (b ≡ true) × (q ≡ e)
+passed true e f = (refl, cc)
+passed false e f = let z : _≡_ {A = ℕ} 0 1 = cc in let w : ⊥ = omega arith in absurd w
+
+pub named : (s : List ℕ) (p : ℕ) {q : ℕ} → nameAt s p ≡ Name q → Named s p q
+unfolding nameAt
+named s p h =
+    let t = passed _ (wordEnd s p) h in
+    let d = and-eq-true-iff _ (not (isWord s p (bytes "until"))) .0 (t .0) in
+    let b = and-eq-true-iff _ (not (isWord s p (bytes "since"))) .0 (d .0) in
+    let a = and-eq-true-iff (letter (peek s p)) (leb (length (wordAt s p)) 16) .0 (b .0) in
+    record {
+      first = a .0;
+      short = leb-true (length (wordAt s p)) 16 (a .1);
+      not-since = not-true (isWord s p (bytes "since")) (b .1);
+      not-until = not-true (isWord s p (bytes "until")) (d .1);
+      ends = t .1;
+    }
+
+-- Where a name ends.
+pub name-reach : (s : List ℕ) (p : ℕ) {q : ℕ} → nameAt s p ≡ Name q → Reach s (p + 1) q × (q ≤ p + 16)
+unfolding runEnd nameByte
+name-reach s p h =
+    let n = named s p h in
+    let f : nameByte (peek s p) ≡ true = rw (n .first) in
+    let r = word-ahead s p f in
+    (record { ahead = omega (arith, n .ends, r .ahead); inside = omega (arith, n .ends, r .inside) }, omega (arith, n .ends, n .short))

@@ -1,0 +1,35 @@
+-- `find_name` meets its contract. Assumes nothing.
+use borrow.Author.Needs.{needs}
+use native.Mathlib.Omega.{arith}
+use denote.Ref.{now}
+use Rattle.read_bytes.specs.Bytes.{nameByte}
+use Rattle.read_bytes.proofs.Runs.{end-reach}
+use Rattle.read_names.proofs.find_name.Statement.{statement}
+use Rattle.read_names.proofs.find_name.Tie as tie
+
+word-end-requires : tie.Need-word-end-requires
+word-end-requires c κs = search needs
+
+sub-n : tie.Need-sub-n
+sub-n c =
+    let w = end-reach nameByte (now (c .before .before .before .before .args .r)) (c .before .before .before .before .args .at) (omega arith) in
+    omega (arith, w .ahead, c .word-end .ensures)
+
+find-quick-requires : tie.Need-find-quick-requires
+find-quick-requires c κs =
+    let w = end-reach nameByte (now (c .before .before .before .before .before .before .args .r)) (c .before .before .before .before .before .before .args .at) (omega arith) in
+    (omega arith, c .before .before .word-end .ensures, omega (arith, w .inside, c .before .before .word-end .ensures), omega arith)
+
+returns : tie.Need-returns
+returns c = search needs
+
+find-plain-requires : tie.Need-find-plain-requires
+find-plain-requires c κs = search needs
+
+returns-2 : tie.Need-returns-2
+returns-2 c = search needs
+
+pub find-name-spec : {M : Type 1} → statement M
+find-name-spec =
+    tie.close
+    (tie.spec word-end-requires sub-n find-quick-requires returns find-plain-requires returns-2)

@@ -1,0 +1,118 @@
+-- `find_quick` meets its contract. The invariant: the search among all the names is `i` names ahead of that from `i` on. Assumes nothing.
+use borrow.Author.Needs.{needs}
+use native.Mathlib.Omega.{arith}
+use mathlib.Core.Path.{_≡_, sym, _∙_}
+use mathlib.Core.Logic.{⊎-elim}
+use mathlib.Core.List.{List}
+use Prim.Native.Nat.{ℕ, _+_, _-_}
+use denote.Ref.{now}
+use lib.ListN.{length, take, drop, length-drop}
+use Rattle.read_names.specs.Words.{wordAt, namesAt, findName}
+use Rattle.read_names.proofs.Names.{cut-long, cut-same, cut-other, search-end, search-here, search-on}
+use Rattle.read_names.proofs.find_quick.Statement.{statement}
+use Rattle.read_names.proofs.find_quick.Tie as tie
+
+-- The word's bytes.
+abbrev cut : List ℕ → ℕ → ℕ → List ℕ
+cut r at e = take (e - at) (drop at r)
+
+abbrev Inv-loop : tie.InvT-loop
+Inv-loop s names r at e w before last lasts i₀ i = findName (wordAt r at) (namesAt s names) ≡ i + findName (wordAt r at) (namesAt s (drop i names))
+
+abbrev μ-loop : tie.MeasureT-loop
+μ-loop s names r at e w before last lasts i₀ i = length names - i
+
+sub-w : tie.Need-sub-w Inv-loop μ-loop
+sub-w c = search needs
+
+part-w-start : tie.Need-part-w-start Inv-loop μ-loop
+part-w-start c = search needs
+
+part-w-end : tie.Need-part-w-end Inv-loop μ-loop
+part-w-end c = search needs
+
+sub-before : tie.Need-sub-before Inv-loop μ-loop
+sub-before c = search needs
+
+shared-slice-read-last : tie.Need-shared-slice-read-last Inv-loop μ-loop
+shared-slice-read-last c = search needs
+
+sub-lasts : tie.Need-sub-lasts Inv-loop μ-loop
+sub-lasts c = search needs
+
+part-lasts-start : tie.Need-part-lasts-start Inv-loop μ-loop
+part-lasts-start c = search needs
+
+part-lasts-end : tie.Need-part-lasts-end Inv-loop μ-loop
+part-lasts-end c = search needs
+
+loop-holds : tie.Need-loop-holds Inv-loop μ-loop
+loop-holds c = omega arith
+
+mul-a : tie.Need-mul-a Inv-loop μ-loop
+mul-a c = search needs
+
+shared-slice-read-a : tie.Need-shared-slice-read-a Inv-loop μ-loop
+shared-slice-read-a c = search needs
+
+shared-slice-read-if2 : tie.Need-shared-slice-read-if2 Inv-loop μ-loop
+shared-slice-read-if2 c = search needs
+
+word-stands-requires : tie.Need-word-stands-requires Inv-loop μ-loop
+word-stands-requires c κs =
+    let a = c .before .before .before .before .before .before .before .before .before .before .before .before .args in
+    let n = cut-long (now (a .r)) (a .at) (a .e) (c .before .before .before .before .before .before .before .before .before .before .before .before .pre .1) in
+    omega (arith, length-drop (length (cut (now (a .r)) (a .at) (a .e)) - 1) (now (a .s)))
+
+returns : tie.Need-returns Inv-loop μ-loop
+returns c =
+    sym (c .before .before .before .before .before .before .before .loop .inv ∙ search-here _ _ _ _ (omega arith) (sym (cut-same _ _ _ (c .before .before .before .before .before .before .before .before .before .before .before .before .before .before .pre .1) _ _) ∙ sym (c .before .word-stands .ensures) ∙ c .if3 .taken))
+
+add-i : tie.Need-add-i Inv-loop μ-loop
+add-i c = search needs
+
+loop-less : tie.Need-loop-less Inv-loop μ-loop
+loop-less c = search needs
+
+loop-again : tie.Need-loop-again Inv-loop μ-loop
+loop-again c =
+    let a = c .before .before .before .before .before .before .before .before .before .before .args in
+    let ends = c .before .before .before .before .before .before .before .before .before .before .pre .1 in
+    let k = length (cut (now (a .r)) (a .at) (a .e)) - 1 in
+    let n = cut-long (now (a .r)) (a .at) (a .e) ends in
+    c .before .before .before .loop .inv
+    ∙ search-on _ _ _ _ (omega arith)
+    (⊎-elim (λ w. sym (cut-same _ _ _ ends _ _) ∙ sym (w .3 .ensures) ∙ w .4 .left)
+    (⊎-elim
+    (λ w. cut-other _ _ _ ends _ _ k (omega arith) (λ l. w .2 .left))
+    (λ w. cut-other _ _ _ ends _ _ k (omega arith) (λ l i. omega (arith, length-drop k (now (a .s))))))
+    (c .if1 .came))
+
+returns-2 : tie.Need-returns-2 Inv-loop μ-loop
+returns-2 c =
+    sym (c .before .loop .inv ∙ search-end _ _ _ _ (omega arith))
+
+pub find-quick-spec : {M : Type 1} → statement M
+find-quick-spec =
+    tie.close
+    (tie.spec
+    Inv-loop
+    μ-loop
+    sub-w
+    part-w-start
+    part-w-end
+    sub-before
+    shared-slice-read-last
+    sub-lasts
+    part-lasts-start
+    part-lasts-end
+    loop-holds
+    mul-a
+    shared-slice-read-a
+    shared-slice-read-if2
+    word-stands-requires
+    returns
+    add-i
+    loop-less
+    loop-again
+    returns-2)

@@ -1,0 +1,69 @@
+-- `name_at` meets its contract. Assumes nothing.
+use borrow.Author.Needs.{needs}
+use native.Mathlib.Omega.{arith}
+use mathlib.Core.Path.{sym, _∙_}
+use denote.Ref.{now}
+use Rattle.read_bytes.specs.Bytes.{byte, nameByte}
+use Rattle.read_bytes.proofs.Runs.{end-reach}
+use Rattle.read_bytes.proofs.Tests.{between-low, between-high}
+use Rattle.read_names.proofs.Names.{name-not, name-long, name-since, name-until, name-is}
+use Rattle.read_names.proofs.name_at.Statement.{statement}
+use Rattle.read_names.proofs.name_at.Tie as tie
+
+byte-at-requires : tie.Need-byte-at-requires
+byte-at-requires c κs = search needs
+
+word-end-requires : tie.Need-word-end-requires
+word-end-requires c κs = search needs
+
+sub-if3 : tie.Need-sub-if3
+sub-if3 c =
+    let a = c .before .before .before .before .before .args in
+    let w = end-reach nameByte (now (a .s)) (a .at) (omega arith) in
+    omega (arith, w .ahead, c .word-end .ensures)
+
+is-since-requires : tie.Need-is-since-requires
+is-since-requires c κs = search needs
+
+returns : tie.Need-returns
+returns c =
+    name-since _ _ _ (c .before .before .before .before .before .before .byte-at .ensures) _ (c .before .before .before .word-end .ensures) (omega arith) (omega arith) (c .before .before .if3 .taken) (sym (c .before .is-since .ensures) ∙ c .if4 .taken)
+
+is-until-requires : tie.Need-is-until-requires
+is-until-requires c κs = search needs
+
+returns-2 : tie.Need-returns-2
+returns-2 c =
+    name-until _ _ _ (c .before .before .before .before .before .before .before .before .byte-at .ensures) _ (c .before .before .before .before .before .word-end .ensures) (omega arith) (omega arith) (c .before .before .before .before .if3 .taken) (sym (c .before .before .before .is-since .ensures) ∙ c .before .before .if4 .left) (sym (c .before .is-until .ensures) ∙ c .if5 .taken)
+
+returns-3 : tie.Need-returns-3
+returns-3 c =
+    name-is _ _ _ (c .before .before .before .before .before .before .before .before .byte-at .ensures) _ (c .before .before .before .before .before .word-end .ensures) (omega arith) (omega arith) (c .before .before .before .before .if3 .taken) (sym (c .before .before .before .is-since .ensures) ∙ c .before .before .if4 .left) (sym (c .before .is-until .ensures) ∙ c .if5 .left)
+
+returns-4 : tie.Need-returns-4
+returns-4 c =
+    name-long _ _ _ (c .before .before .before .before .byte-at .ensures) _ (c .before .word-end .ensures) (omega arith) (omega arith) (c .if3 .left)
+
+returns-5 : tie.Need-returns-5
+returns-5 c =
+    name-not _ _ _ (c .before .byte-at .ensures) (between-low (byte "a") (byte "z") (c .before .byte-at .result) (omega arith))
+
+returns-6 : tie.Need-returns-6
+returns-6 c =
+    name-not _ _ _ (c .before .before .byte-at .ensures) (between-high (byte "a") (byte "z") (c .before .before .byte-at .result) (omega arith))
+
+pub name-at-spec : {M : Type 1} → statement M
+name-at-spec =
+    tie.close
+    (tie.spec
+    byte-at-requires
+    word-end-requires
+    sub-if3
+    is-since-requires
+    returns
+    is-until-requires
+    returns-2
+    returns-3
+    returns-4
+    returns-5
+    returns-6)

@@ -1,0 +1,50 @@
+-- Words, and names among them (01, "The sheet").
+-- Assumes nothing.
+use Prim.Native.Nat.{ℕ, suc, _+_}
+use mathlib.Core.List.{List, [], _∷_}
+use mathlib.Core.Bool.{Bool, true, false, not, _&&_}
+use lib.ListN.{length}
+use lib.Dec.{leb, eqb}
+use Rattle.read_names.specs.declared.Word.{Word}
+use Rattle.read_names.specs.declared.Word.the-variants.{Name, Other}
+use Rattle.read_bytes.specs.Bytes.{bytes, peek, pick, letter, nameByte, starts, run, runAt, runEnd}
+
+-- The word that a text starts with: its letters and digits up to the first byte that is neither.
+abbrev pub word : List ℕ → List ℕ
+word = run nameByte
+
+-- The word at p.
+abbrev pub wordAt : List ℕ → ℕ → List ℕ
+wordAt = runAt nameByte
+
+-- The place after the word at p.
+abbrev pub wordEnd : List ℕ → ℕ → ℕ
+wordEnd = runEnd nameByte
+
+-- The names at these places of a text.
+unfoldable pub namesAt : List ℕ → List ℕ → List (List ℕ)
+namesAt s [] = []
+namesAt s (p ∷ ps) = wordAt s p ∷ namesAt s ps
+
+-- Are two texts the same?
+unfoldable pub sameText : List ℕ → List ℕ → Bool
+sameText [] [] = true
+sameText [] (y ∷ b) = false
+sameText (x ∷ a) [] = false
+sameText (x ∷ a) (y ∷ b) = eqb x y && sameText a b
+
+-- The number, from 0, of the first name that is w; or how many names there are.
+unfoldable pub findName : List ℕ → List (List ℕ) → ℕ
+findName w [] = 0
+findName w (n ∷ ns) = pick (not (sameText n w)) (λ _. suc (findName w ns)) 0
+
+-- Is the word at p the word w?
+unfoldable pub isWord : List ℕ → ℕ → List ℕ → Bool
+isWord s p w = starts s p w && not (nameByte (peek s (p + length w)))
+
+-- A name from p on: a letter, then letters or digits, 1 to 16 in all, and neither since nor until. Or no name.
+unfoldable pub nameAt : List ℕ → ℕ → Word
+nameAt s p =
+    pick
+    (letter (peek s p) && leb (length (wordAt s p)) 16 && not (isWord s p (bytes "since")) && not (isWord s p (bytes "until")))
+    (λ _. Name (wordEnd s p)) Other

@@ -1,0 +1,48 @@
+-- `name` meets its contract. Assumes nothing.
+use borrow.Author.Needs.{needs}
+use native.Mathlib.Omega.{arith}
+use denote.Ref.{now}
+use Rattle.read_parts.specs.Parsed.Parses.{refuses}
+use Rattle.read_parts.proofs.Levels.{leaf}
+use Rattle.read_parts.proofs.Steps.{letter-ahead, name-found, name-unknown}
+use Rattle.read_parts.proofs.parts.name.Statement.{statement}
+use Rattle.read_parts.proofs.parts.name.Tie as tie
+
+find-name-requires : tie.Need-find-name-requires
+find-name-requires c κs = search needs
+
+cast-t16 : tie.Need-cast-t16
+cast-t16 c = search needs
+
+put-node-requires : tie.Need-put-node-requires
+put-node-requires c κs = let w = letter-ahead (now (c .before .before .before .before .before .before .args .s)) (c .before .before .before .before .before .before .args .at) (c .before .before .before .before .before .before .pre .1) in (record { fits = omega (arith, w .ahead, w .inside); few = omega (arith, w .ahead, w .inside) }, tt)
+
+word-end-requires : tie.Need-word-end-requires
+word-end-requires c κs = search needs
+
+add-count : tie.Need-add-count
+add-count c = search needs
+
+same-length : tie.Need-same-length
+same-length c = search needs
+
+returns : tie.Need-returns
+returns c =
+    let w = letter-ahead (now (c .before .before .before .before .before .before .before .before .before .before .args .s)) (c .before .before .before .before .before .before .before .before .before .before .args .at) (c .before .before .before .before .before .before .before .before .before .before .pre .1) in
+    leaf _ _ _ _ (name-found _ _ _ _ (c .before .before .before .before .before .before .find-name .ensures) (c .before .before .before .before .before .if1 .taken) (c .word-end .ensures)) (omega (arith, w .ahead, c .word-end .ensures)) (omega (arith, w .inside, c .word-end .ensures)) (c .before .before .before .before .before .before .before .before .before .before .pre .0 .arena) (record { fits = omega (arith, w .ahead, w .inside); few = omega (arith, w .ahead, w .inside) }) (c .before .before .before .put-node .ensures)
+
+returns-2 : tie.Need-returns-2
+returns-2 c = refuses (name-unknown _ _ _ _ (c .before .find-name .ensures) (c .if1 .left))
+
+pub name-spec : {M : Type 1} → statement M
+name-spec =
+    tie.close
+    (tie.spec
+    find-name-requires
+    cast-t16
+    put-node-requires
+    word-end-requires
+    add-count
+    same-length
+    returns
+    returns-2)

@@ -1,0 +1,72 @@
+-- The marks of accepted readings: each is of a declared signal at a tick of the window, and the table has room for it.
+-- Assumes a window of at least one tick.
+use mathlib.Core.Path.{_≡_, refl, subst}
+use mathlib.Core.Bool.{Bool, true, false}
+use mathlib.Core.Logic.{⊎-elim}
+use mathlib.Core.List.{List, [], _∷_, _++_}
+use Prim.Native.Nat.{ℕ, zero, suc, _+_, _*_, _≤_}
+use native.Mathlib.Nat.{mul-le-mul-right}
+use native.Mathlib.Omega.{arith}
+use lib.Dec.{ltb}
+use lib.ListN.{length}
+use Rattle.read_bytes.specs.Read.{Read}
+use Rattle.read_bytes.specs.Read.Read.{got}
+use Rattle.read_lines.specs.Lines.{upTo}
+use Rattle.read_bytes.proofs.Answers.{same-value, came}
+use Rattle.read_names.specs.Words.{namesAt}
+use Rattle.read_names.proofs.Names.{names-many}
+use Rattle.spec_tilco.specs.Formula.{Sheet}
+use Rattle.spec_tilco.specs.Inference.{Mark, mark}
+use Rattle.spec_tilco.specs.Lists.{All}
+use Rattle.spec_tilco.specs.Table.{Stands, Reading, Inside}
+use Rattle.spec_tilco.proofs.Lists.{all-append, all-at, all-weaker}
+use Rattle.table_marks.specs.Puts.{Puts}
+use Rattle.read_reading.specs.OneReading.{reading}
+use Rattle.read_readings.specs.Readings.{readings}
+use Rattle.read_readings.specs.Noted.{Room}
+use Rattle.read_reading.proofs.Lines.{Within, reading-past}
+use Rattle.read_readings.proofs.Turns.{readings-every}
+
+-- What holds of each part that P reads holds of all that are read up to an end.
+up-all : {A : Type 0} (Q : A → Type 0) (P : ℕ → Read A) (end : ℕ) → ((p : ℕ) (a : A) (q : ℕ) → P p ≡ got a q → Q a)
+    → (n : ℕ) (t : List A) (p : ℕ) {u : List A} {q : ℕ} → All Q t → upTo P end n t p ≡ got u q → All Q u
+unfolding upTo
+up-all Q P end part zero t p h e = subst (All Q) (same-value e) h
+up-all {A} Q P end part (suc n) t p {u} {q} h e = go (ltb p end) refl (λ t′ p′ i f. up-all Q P end part n t′ p′ i f)
+  where
+    go : (b : Bool) → ltb p end ≡ b → ((t′ : List A) (p′ : ℕ) → All Q t′ → upTo P end n t′ p′ ≡ got u q → All Q u) → All Q u
+    go true l r =
+        let d = came (P p) (λ a x. upTo P end n (t ++ (a ∷ [])) x) (rw l at e) in
+        r (t ++ (d .value ∷ [])) (d .place) (all-append Q t (d .value ∷ []) h (part p (d .value) (d .place) (d .first), tt)) (d .then)
+    go false l r = subst (All Q) (same-value (rw l at e)) h
+
+-- Every mark of accepted readings is of one of the names at a tick of the window.
+pub readings-within : (names : List (List ℕ)) (W : ℕ) (r : List ℕ) {ms : List Mark} {q : ℕ} → 1 ≤ W → readings names W r ≡ got ms q → All (Within (length names) W) ms
+readings-within names W r some e =
+    up-all (Within (length names) W) (reading names W r) (length r) (λ p m q f. reading-past names W r p some m f .within)
+    (length r) [] 0 tt (readings-every names W r e)
+
+-- So each is a reading of a sheet that has this window and these names.
+pub readings-of-sheet : (s : Sheet) (names : List (List ℕ)) (r : List ℕ) {ms : List Mark} {q : ℕ} → 1 ≤ s .window → length names ≡ s .signals
+    → readings names (s .window) r ≡ got ms q → All (Reading s) ms
+readings-of-sheet s names r {ms} some k e =
+    all-weaker (Within (length names) (s .window)) (Reading s) of-sheet ms (readings-within names (s .window) r some e)
+  where
+    of-sheet : (m : Mark) → Within (length names) (s .window) m → Reading s m
+    of-sheet (mark x t v) h = (omega (arith, h .0), h .1)
+
+-- A table with no mark outside the window has none after such marks are put.
+pub puts-inside : (k W n : ℕ) {ms : List Mark} {T T′ : List ℕ} → All (Within k W) ms → Inside W (Stands n T) → Puts n ms T T′ → Inside W (Stands n T′)
+puts-inside k W n {ms} a i p =
+    λ r t v m. ⊎-elim (i r t v) (λ x. all-at (Within k W) ms a (mark r t v) x .1) (p .exactly (mark r t v) .0 m)
+
+-- A table with room for a declared signal's row has room for each of the marks.
+pub readings-room : (s ps : List ℕ) (W n m : ℕ) (r : List ℕ) {ms : List Mark} {q : ℕ} → 1 ≤ W → W ≤ 64 * n → 2 * length ps * n ≤ m
+    → readings (namesAt s ps) W r ≡ got ms q → All (Room n m) ms
+readings-room s ps W n m r {ms} some h l e =
+    all-weaker (Within (length (namesAt s ps)) W) (Room n m) room-for ms (readings-within (namesAt s ps) W r some e)
+  where
+    room-for : (k : Mark) → Within (length (namesAt s ps)) W k → Room n m k
+    room-for (mark x t v) i =
+        let b : 2 * (x + 1) * n ≤ 2 * length ps * n = mul-le-mul-right n (omega (arith, names-many s ps, i .0)) in
+        (omega (arith, i .1), omega arith)

@@ -1,0 +1,74 @@
+-- A loop over the parts of a text up to its end: where it stands, and how it goes on and ends. And the length of a readings text.
+-- Assumes nothing.
+use mathlib.Core.Path.{_≡_, refl, sym, _∙_}
+use mathlib.Core.Bool.{Bool, true, false}
+use mathlib.Core.List.{List, [], _∷_, _++_}
+use Prim.Native.Nat.{ℕ, _+_, _-_, _<_, _≤_}
+use native.Mathlib.Omega.{arith}
+use borrow.Author.Tests.{le-leb, lt-leb}
+use lib.Dec.{leb}
+use lib.ListN.{length}
+use Rattle.read_bytes.specs.Read.{Read}
+use Rattle.read_bytes.specs.Read.Read.{got, refused}
+use Rattle.read_bytes.specs.Bytes.{pick}
+use Rattle.read_lines.specs.Lines.{upTo}
+use Rattle.read_bytes.proofs.Answers.{not-both}
+use Rattle.read_lines.proofs.Loops.{up-end, up-on, up-off}
+use Rattle.read_bytes.proofs.Places.{Reach}
+use Rattle.spec_tilco.specs.Inference.{Mark}
+use Rattle.read_reading.specs.OneReading.{reading}
+use Rattle.read_readings.specs.Readings.{readings}
+
+-- All the parts that P reads in the text s.
+abbrev pub every : {A : Type 0} → (ℕ → Read A) → List ℕ → Read (List A)
+every P s = upTo P (length s) (length s) [] 0
+
+-- The loop stands at p and has read t.
+pub record Passed {A : Type 0} (P : ℕ → Read A) (s : List ℕ) (t : List A) (p : ℕ) : Type 0 where
+  pub left : ℕ
+  pub same : every P s ≡ upTo P (length s) left t p
+  pub enough : length s ≤ p + left
+  pub inside : p ≤ length s
+
+module _ {A : Type 0} (P : ℕ → Read A) (s : List ℕ) where
+  -- it starts with nothing read
+  pub passed-none : Passed P s [] 0
+  passed-none = record { left = length s; same = refl; enough = omega arith; inside = omega arith }
+
+  module _ {t : List A} {p : ℕ} (z : Passed P s t p) where
+    -- a part more is read
+    pub passed-one : {a : A} {q : ℕ} → p < length s → P p ≡ got a q → Reach s (p + 1) q → Passed P s (t ++ (a ∷ [])) q
+    passed-one l e w = record {
+      left = z .left - 1;
+      same = z .same ∙ up-on P (length s) (z .left) t p (omega (arith, z .enough)) l e;
+      enough = omega (arith, z .enough, w .ahead);
+      inside = w .inside;
+    }
+
+    -- a part is refused, and so is the whole
+    pub passed-off : {n k : ℕ} → p < length s → P p ≡ refused n k → every P s ≡ refused n k
+    passed-off l e = z .same ∙ up-off P (length s) (z .left) t p (omega (arith, z .enough)) l e
+
+    -- the end is reached, and what was read is the whole
+    pub passed-all : length s ≤ p → every P s ≡ got t p
+    passed-all h = z .same ∙ up-end P (length s) (z .left) t p h
+
+module _ (names : List (List ℕ)) (W : ℕ) (r : List ℕ) where
+  -- A text over its length is refused.
+  pub readings-long : 32768 < length r → readings names W r ≡ refused 10 0
+  unfolding readings
+  readings-long h = rw (lt-leb (length r) 32768 h)
+
+  -- Any other is read reading by reading.
+  pub readings-short : length r ≤ 32768 → readings names W r ≡ every (reading names W r) r
+  unfolding readings
+  readings-short h = rw (le-leb (length r) 32768 h)
+
+  -- A text that is accepted is short enough.
+  pub readings-every : {ms : List Mark} {q : ℕ} → readings names W r ≡ got ms q → every (reading names W r) r ≡ got ms q
+  unfolding readings
+  readings-every {ms} {q} e = go (leb (length r) 32768) e
+    where
+      go : (b : Bool) → pick b (λ _. every (reading names W r) r) (refused 10 0) ≡ got ms q → every (reading names W r) r ≡ got ms q
+      go true x = x
+      go false x = absurd (not-both (sym x))

@@ -1,0 +1,52 @@
+-- `take_readings` meets its contract. Assumes nothing.
+use borrow.Author.Needs.{needs}
+use Rattle.read_readings.specs.Taking.Took.{taken}
+use Rattle.read_readings.proofs.Outcomes.{not-taken, when-noted}
+use Rattle.read_readings.proofs.Bounds.{readings-room}
+use Rattle.read_readings.proofs.whole.take_readings.Statement.{statement}
+use Rattle.read_readings.proofs.whole.take_readings.Tie as tie
+
+slice-aggregate-note-readings : tie.Need-slice-aggregate-note-readings
+slice-aggregate-note-readings c = search needs
+
+note-readings-requires : tie.Need-note-readings-requires
+note-readings-requires c κs = search needs
+
+enum-known-c : tie.Need-enum-known-c
+enum-known-c c = search needs
+
+slice-aggregate-put-noted : tie.Need-slice-aggregate-put-noted
+slice-aggregate-put-noted c = search needs
+
+put-noted-requires : tie.Need-put-noted-requires
+put-noted-requires c κs =
+    let w = when-noted (c .before .before .before .before .before .before .note-readings .ensures) (c .before .before .before .c .given .1) in
+    (w .few, readings-room _ _ _ _ _ _ (c .before .before .before .before .before .before .before .before .before .before .before .before .pre .0) (c .before .before .before .before .before .before .before .before .before .before .before .before .pre .2) (c .before .before .before .before .before .before .before .before .before .before .before .before .pre .4) (w .all))
+
+enum-known-c-2 : tie.Need-enum-known-c-2
+enum-known-c-2 c = search needs
+
+same-length : tie.Need-same-length
+same-length c = search needs
+
+returns : tie.Need-returns
+returns c =
+    let w = when-noted (c .before .before .before .before .before .before .before .before .before .note-readings .ensures) (c .before .before .before .before .before .before .c .given .1) in
+    taken _ _ (w .all) (c .before .before .put-noted .ensures)
+
+returns-2 : tie.Need-returns-2
+returns-2 c = not-taken _ _ (c .before .before .before .before .note-readings .ensures) (c .before .c2 .given .1)
+
+pub take-readings-spec : {M : Type 1} → statement M
+take-readings-spec =
+    tie.close
+    (tie.spec
+    slice-aggregate-note-readings
+    note-readings-requires
+    enum-known-c
+    slice-aggregate-put-noted
+    put-noted-requires
+    enum-known-c-2
+    same-length
+    returns
+    returns-2)

@@ -1,0 +1,16 @@
+-- Readings taken into a lent table: what each outcome says of the text and of the table's words (01, "Readings" and "Numbers of refusal").
+-- Assumes nothing. R is what the text holds, n how many words a row has for each value, T the table before and T′ after.
+use mathlib.Core.Path.{_≡_}
+use mathlib.Core.List.{List}
+use Prim.Native.Nat.{ℕ}
+use Rattle.read_bytes.specs.Read.{Read}
+use Rattle.read_bytes.specs.Read.Read.{got, refused}
+use Rattle.spec_tilco.specs.Inference.{Mark}
+use Rattle.table_marks.specs.Puts.{Puts}
+use Rattle.read_readings.specs.declared.whole.Outcome.{Outcome}
+use Rattle.read_readings.specs.declared.whole.Outcome.the-variants.{Accepted, Refused}
+
+-- What each outcome of taking says of the text and the table: every reading is put, or every word is kept.
+pub data Took (R : Read (List Mark)) (n : ℕ) (T T′ : List ℕ) : Outcome → Type 0 where
+  taken : (ms : List Mark) (q : ℕ) → R ≡ got ms q → Puts n ms T T′ → Took R n T T′ Accepted
+  kept : (k p : ℕ) → R ≡ refused k p → T′ ≡ T → Took R n T T′ (Refused k p)

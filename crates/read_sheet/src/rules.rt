@@ -1,0 +1,38 @@
+// A rule's line. Assumes nothing of the text. The names are those at `places` of the sheet text `s`, before the rules.
+use crate::whole_rule::rule;
+use read_lines::Step;
+use read_lines::line_at;
+use read_parts::parts::Parsed;
+ghost use Rattle.read_names.specs.Words.{namesAt};
+ghost use Rattle.read_sheet.specs.Sheet.{ruleTo, ruleLine};
+ghost use Rattle.read_sheet.specs.Reading.{Ready, Ended, RuleRead};
+
+// The rule from `v` to its LF at `e`, read into the arena. Its hidden signals are numbered from `hidden`.
+fn rule_to(s: &[u8], places: &[u64], arena: &mut [u16], v: usize, e: usize, hidden: usize) -> Parsed
+    requires { ⌜ Ready (now s) (now arena) (now places) v hidden × Ended (now s) v e ⌝ }
+    ensures { λ r. ⌜ RuleRead (now (arena .exit)) hidden (ruleTo (namesAt (now (s .entry)) (now (places .entry))) (now (s .entry)) v e) r ⌝ }
+{
+    let n = e - v;
+    match n {
+        1..=256 => {}
+        _ => return Parsed::Refused(5, v),
+    }
+    let r = rule(&s[..e], places, arena, v, hidden);
+    let Parsed::Got(_, nodes, rows) = r else {
+        return r;
+    };
+    let next = e + 1;
+    Parsed::Got(next, nodes, rows)
+}
+
+// The line at `at` with a rule, read into the arena: the place after the line, the nodes used, and the next hidden signal's row.
+pub fn rule_line(s: &[u8], places: &[u64], arena: &mut [u16], at: usize, hidden: usize) -> Parsed
+    requires { ⌜ Ready (now s) (now arena) (now places) at hidden ⌝ }
+    ensures { λ r. ⌜ RuleRead (now (arena .exit)) hidden (ruleLine (namesAt (now (s .entry)) (now (places .entry))) (now (s .entry)) at) r ⌝ }
+{
+    let l = line_at(s, at, b"rule=", 2);
+    match l {
+        Step::Got(v, e) => rule_to(s, places, arena, v, e, hidden),
+        Step::Refused(n, p) => Parsed::Refused(n, p),
+    }
+}

@@ -1,0 +1,24 @@
+// A whole rule. Assumes nothing of the text. `s` is the sheet up to the rule's LF, `names` are the places of the declared names in it.
+use read_arena::Sign;
+use read_formula::joined;
+use read_parts::parts::Parsed;
+ghost use lib.ListN.{length};
+ghost use Rattle.read_names.specs.Words.{namesAt};
+ghost use Rattle.read_parts.specs.Grammar.{rule as ruleOf};
+ghost use Rattle.read_parts.specs.Parsed.{Ready, Parses};
+
+// A whole rule, from `at` to the text's end, into an empty arena that has a node for each byte.
+pub fn rule(s: &[u8], names: &[u64], arena: &mut [u16], at: usize, hidden: usize) -> Parsed
+    requires { ⌜ Ready (now s) (now arena) (now names) at 0 hidden ⌝ }
+    ensures { λ r. ⌜ Parses (now (arena .entry)) (now (arena .exit)) (length (now (s .entry))) 1 at 0 hidden hidden (ruleOf (namesAt (now (s .entry)) (now (names .entry))) (now (s .entry)) at) r ⌝ }
+{
+    let r = joined(Sign::Iff, s, names, arena, at, 0, hidden, 32);
+    let Parsed::Got(next, count, rows) = r else {
+        return r;
+    };
+    if next == s.len() {
+        Parsed::Got(next, count, rows)
+    } else {
+        Parsed::Refused(5, next)
+    }
+}

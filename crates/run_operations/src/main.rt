@@ -1,0 +1,195 @@
+// Runs check, add and ask on a table of cases and prints each case with its answer. Assumes nothing of the cases, which are on standard input.
+// A heading says what is run, then what it shows: `=== sheet` with the sheet for what follows; `=== table N` with the table for what follows,
+// of N words, all 0 but those of its lines `I W`; `=== check`; `=== add` with the readings; `=== ask X T`.
+use libc::STDIN_FILENO;
+use op_add::Adding;
+use op_add::add;
+use op_ask::Asking;
+use op_ask::ask;
+use op_check::Checking;
+use op_check::check;
+use read_bytes::bytes::byte_at;
+use read_bytes::bytes::starts_at;
+use read_names::word_end;
+use run_cases::heading;
+use run_cases::next_line;
+use run_cases::print;
+use run_cases::print_number;
+use run_cases::print_refusal;
+use run_cases::text_under;
+use table_marks::Value;
+ghost use mathlib.Core.Path.{_≡_};
+ghost use Prim.Native.Nat.{_<_, _≤_};
+ghost use lib.ListN.{length};
+ghost use Rattle.io.specs.Counts.{Counts};
+
+// The number with one more decimal digit, as long as it stays below 2^64; a byte that is no digit changes nothing.
+fn with_digit(v: u64, b: u8) -> u64 {
+    match b {
+        b'0'..=b'9' => {
+            if v <= 1844674407370955161 {
+                std::num::wrapping_add_u64(10 * v, b as u64 - 48)
+            } else {
+                v
+            }
+        }
+        _ => v,
+    }
+}
+
+// The number that the word at `at` spells in decimal digits.
+fn decimal_at(cases: &[u8], at: usize) -> u64 {
+    let end = word_end(cases, at);
+    let mut v = 0;
+    let mut p = at;
+    while p < end {
+        let b = byte_at(cases, p);
+        v = with_digit(v, b);
+        p += 1;
+    }
+    v
+}
+
+// The place of the word after the one at `at`.
+fn next_word(cases: &[u8], at: usize) -> usize {
+    let e = word_end(cases, at);
+    if e < cases.len() { e + 1 } else { e }
+}
+
+// Sets a word of the table as the line at `at` says, where there is such a word.
+fn set_word(cases: &[u8], at: usize, words: &mut [u64]) {
+    let i = decimal_at(cases, at) as usize;
+    let second = next_word(cases, at);
+    let w = decimal_at(cases, second);
+    if i < words.len() {
+        words[i] = w;
+    }
+}
+
+// The words that the lines from `from` to `to` give.
+fn words_from(cases: &[u8], from: usize, to: usize) -> [u64; 2048]
+    requires { ⌜ to ≤ length (now cases) ⌝ }
+    ensures { λ r. ⌜ 2048 ≡ length r ⌝ }
+{
+    let mut words = [0u64; 2048];
+    let mut p = from;
+    while p < to {
+        set_word(cases, p, &mut words);
+        p = next_line(cases, p);
+    }
+    words
+}
+
+// How many words the table of the heading at `at` has, 2,048 at the most.
+fn length_at(cases: &[u8], at: usize) -> usize
+    ensures { λ r. ⌜ r ≤ 2048 ⌝ }
+{
+    let second = next_word(cases, at);
+    let n = decimal_at(cases, second) as usize;
+    if n < 2048 { n } else { 2048 }
+}
+
+// Prints each word that is not 0.
+fn print_words(words: &[u64]) {
+    let mut i = 0;
+    while i < words.len() {
+        let w = words[i];
+        if w != 0 {
+            print_number(b"--- word ", i as u64, b" ");
+            print_number(b"", w, b"\n");
+        }
+        i += 1;
+    }
+}
+
+// Checks the sheet.
+fn run_check(s: &[u8]) {
+    let answer = check(s);
+    match answer {
+        Checking::Rows(n) => print_number(b"--- rows ", n as u64, b"\n"),
+        Checking::Refused(number, place) => print_refusal(number, place),
+    }
+}
+
+// Adds the readings under the heading at `at`, and prints the table after it.
+fn run_add(s: &[u8], cases: &[u8], at: usize, words: &mut [u64])
+    requires { ⌜ at < length (now cases) ⌝ }
+{
+    let mut buffer = io::large_buffer();
+    let n = text_under(cases, at, &mut buffer);
+    let answer = add(s, &buffer[..n], words);
+    match answer {
+        Adding::Added { new, clash } => {
+            print_number(b"--- new facts ", new as u64, b", clash ");
+            print_number(b"", clash as u64, b"\n");
+        }
+        Adding::Refused(number, place) => print_refusal(number, place),
+    }
+    print_words(words);
+}
+
+// Prints what a cell says.
+fn print_value(v: Value) {
+    match v {
+        Value::Unsettled => print(b"--- unsettled\n"),
+        Value::True => print(b"--- true\n"),
+        Value::False => print(b"--- false\n"),
+        Value::Contradiction => print(b"--- contradiction\n"),
+    }
+}
+
+// Asks for the cell that the heading names, whose numbers start at `at`.
+fn run_ask(s: &[u8], cases: &[u8], at: usize, words: &[u64]) {
+    let signal = decimal_at(cases, at) as usize;
+    let second = next_word(cases, at);
+    let tick = decimal_at(cases, second) as usize;
+    let answer = ask(s, words, signal, tick);
+    match answer {
+        Asking::Given(v) => print_value(v),
+        Asking::Refused(number, place) => print_refusal(number, place),
+    }
+}
+
+// Runs the operation of the heading at `at`, if it names one, on the sheet under the heading at `above` and the first `used` words.
+fn run_operation(cases: &[u8], above: usize, at: usize, words: &mut [u64], used: usize)
+    requires { ⌜ (above < length (now cases)) × (at < length (now cases)) × Counts used (now words) ⌝ }
+{
+    let mut lines = io::large_buffer();
+    let n = text_under(cases, above, &mut lines);
+    let s = &lines[..n];
+    if starts_at(cases, at, b"=== check") {
+        run_check(s);
+    } else if starts_at(cases, at, b"=== add") {
+        run_add(s, cases, at, &mut words[..used]);
+    } else if starts_at(cases, at, b"=== ask") {
+        run_ask(s, cases, at + 8, &words[..used]);
+    }
+}
+
+// Runs each case.
+fn run_all(cases: &[u8]) {
+    let mut words = [0u64; 2048];
+    let mut used = 0;
+    let mut above = 0;
+    let mut at = heading(cases, 0);
+    while at < cases.len() {
+        let line = next_line(cases, at);
+        let end = heading(cases, line);
+        print(&cases[at..end]);
+        if starts_at(cases, at, b"=== sheet") {
+            above = at;
+        } else if starts_at(cases, at, b"=== table") {
+            words = words_from(cases, line, end);
+            used = length_at(cases, at + 4);
+        } else {
+            run_operation(cases, above, at, &mut words, used);
+        }
+        at = end;
+    }
+}
+
+fn main() {
+    let mut cases = io::large_buffer();
+    let n = io::read_full(STDIN_FILENO, &mut cases);
+    run_all(&cases[..n]);
+}

@@ -1,0 +1,84 @@
+// Runs the readers on a table of cases and prints each text with its answer. Assumes nothing of the cases, which are on standard input.
+// A text stands under a heading: `=== sheet` or `=== readings`, then what it shows. Readings are read against the sheet before them.
+use libc::STDIN_FILENO;
+use op_check::Checking;
+use op_check::check;
+use read_bytes::bytes::starts_at;
+use read_head::Heading;
+use read_head::head;
+use read_readings::whole::Outcome;
+use read_readings::whole::take_readings;
+use run_cases::heading;
+use run_cases::next_line;
+use run_cases::print;
+use run_cases::print_number;
+use run_cases::print_refusal;
+use run_cases::text_under;
+ghost use Prim.Native.Nat.{_<_};
+ghost use lib.ListN.{length};
+
+// Checks the sheet under the heading at `at`.
+fn run_sheet(cases: &[u8], at: usize)
+    requires { ⌜ at < length (now cases) ⌝ }
+{
+    let mut buffer = io::large_buffer();
+    let n = text_under(cases, at, &mut buffer);
+    let answer = check(&buffer[..n]);
+    match answer {
+        Checking::Rows(rows) => print_number(b"--- accepted, rows: ", rows as u64, b"\n"),
+        Checking::Refused(number, place) => print_refusal(number, place),
+    }
+}
+
+// Reads the readings under the heading at `at`, against the head of the sheet under that at `above`, into a table with a word for each of 64
+// signals and each value.
+fn run_readings(cases: &[u8], above: usize, at: usize)
+    requires { ⌜ (above < length (now cases)) × (at < length (now cases)) ⌝ }
+{
+    let mut lines = io::large_buffer();
+    let n = text_under(cases, above, &mut lines);
+    let mut buffer = io::large_buffer();
+    let m = text_under(cases, at, &mut buffer);
+    let mut places = [0u64; 64];
+    let s = &lines[..n];
+    let Heading::Lines {
+        window,
+        signals,
+        rules: _,
+        first: _,
+    } = head(s, &mut places)
+    else {
+        print(b"--- no sheet\n");
+        return;
+    };
+    let mut table = [0u64; 128];
+    let answer = take_readings(s, &places[..signals], window, 1, &buffer[..m], &mut table);
+    match answer {
+        Outcome::Accepted => print(b"--- accepted\n"),
+        Outcome::Refused(number, place) => print_refusal(number, place),
+    }
+}
+
+// Runs each case.
+fn run_all(cases: &[u8]) {
+    let mut above = 0;
+    let mut at = heading(cases, 0);
+    while at < cases.len() {
+        let line = next_line(cases, at);
+        let end = heading(cases, line);
+        print(&cases[at..end]);
+        if starts_at(cases, at, b"=== sheet") {
+            above = at;
+            run_sheet(cases, at);
+        } else {
+            run_readings(cases, above, at);
+        }
+        at = end;
+    }
+}
+
+fn main() {
+    let mut cases = io::large_buffer();
+    let n = io::read_full(STDIN_FILENO, &mut cases);
+    run_all(&cases[..n]);
+}
