@@ -1,0 +1,2 @@
+-- The limits.
+pub mod Limits

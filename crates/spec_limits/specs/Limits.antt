@@ -1,0 +1,70 @@
+-- Every limit by its name. Those of 01 first, then those of our own buffers. Assumes nothing.
+-- Each has a constant of the same number in src/lib.rt, for the code.
+use Prim.Native.Nat.{ℕ, _+_, _*_}
+
+-- ---- 01's limits
+
+-- "A sheet is at most 32,768 bytes"; readings the same.
+abbrev pub mostBytes : ℕ
+mostBytes = 32768
+
+-- "Window 1 to 64 ticks."
+abbrev pub mostTicks : ℕ
+mostTicks = 64
+
+-- "Signals 1 to 64."
+abbrev pub mostSignals : ℕ
+mostSignals = 64
+
+-- "Rules 0 to 64."
+abbrev pub mostRules : ℕ
+mostRules = 64
+
+-- "A name is .. 1 to 16 in all."
+abbrev pub mostNameBytes : ℕ
+mostNameBytes = 16
+
+-- "A rule has 1 to 256 bytes."
+abbrev pub mostRuleBytes : ℕ
+mostRuleBytes = 256
+
+-- "At most 32 of `(` and `!` may be open at one place."
+abbrev pub mostOpen : ℕ
+mostOpen = 32
+
+-- "At most 32 hidden signals."
+abbrev pub mostHidden : ℕ
+mostHidden = 32
+
+-- "1,024 rows."
+abbrev pub mostRows : ℕ
+mostRows = 1024
+
+-- ---- our own
+
+-- A rule's formula has at most a node for each of its bytes, of four numbers each.
+abbrev pub arenaNumbers : ℕ
+arenaNumbers = 4 * mostRuleBytes
+
+-- Each rule has a top, and so has each defining rule.
+abbrev pub mostTops : ℕ
+mostTops = mostRules + mostHidden
+
+-- A reading has at least 22 bytes.
+abbrev pub mostReadings : ℕ
+mostReadings = 1489
+
+-- A listing of 64 signals and 64 ticks has no more bytes.
+abbrev pub mostListed : ℕ
+mostListed = 8192
+
+-- A table of so many ticks can be closed.
+abbrev pub mostClosed : ℕ
+mostClosed = 4096
+
+-- A row's code is kind + kinds * (a + numbers * b): so many kinds, and so many numbers for a.
+abbrev pub codeKinds : ℕ
+codeKinds = 8
+
+abbrev pub codeNumbers : ℕ
+codeNumbers = 65536

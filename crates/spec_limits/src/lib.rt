@@ -1,0 +1,49 @@
+// Every limit by its name, for the code. specs/Limits.antt has each number's definition, with the sentence that it comes from. Assumes nothing.
+
+// mostBytes: of a sheet, and of readings.
+pub const BYTES: usize = 32768;
+
+// mostTicks: of a window.
+pub const TICKS: usize = 64;
+
+// mostSignals
+pub const SIGNALS: usize = 64;
+
+// mostRules
+pub const RULES: usize = 64;
+
+// mostNameBytes
+pub const NAME_BYTES: usize = 16;
+
+// mostRuleBytes
+pub const RULE_BYTES: usize = 256;
+
+// mostOpen
+pub const OPEN: usize = 32;
+
+// mostHidden
+pub const HIDDEN: usize = 32;
+
+// mostRows
+pub const ROWS: usize = 1024;
+
+// arenaNumbers
+pub const ARENA: usize = 4 * RULE_BYTES;
+
+// mostTops
+pub const TOPS: usize = RULES + HIDDEN;
+
+// mostReadings
+pub const READINGS: usize = 1489;
+
+// mostListed
+pub const LISTED: usize = 8192;
+
+// codeKinds
+pub const KINDS: u64 = 8;
+
+// codeNumbers
+pub const NUMBERS: u64 = 65536;
+
+// codeKinds * codeNumbers: what stands above both in a row's code.
+pub const ABOVE: u64 = KINDS * NUMBERS;
