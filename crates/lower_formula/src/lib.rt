@@ -9,13 +9,12 @@ use read_arena::Node;
 use read_arena::Sign;
 use read_arena::node_at;
 ghost use mathlib.Core.Path.{_≡_};
-ghost use Prim.Native.Nat.{_+_, _≤_};
-ghost use lib.ListN.{length};
-ghost use Rattle.spec_tilco.specs.Formula.{Iff, Formula};
-ghost use Rattle.spec_tilco.specs.Lowering.{join as joinOf, timed as timedOf, turn, lowered as loweredOf};
+ghost use Rattle.spec_tilco.specs.Formula.{Iff};
+ghost use Rattle.spec_tilco.specs.Lowering.{join as joinOf, timed as timedOf, turn};
 ghost use Rattle.read_arena.specs.Nodes.{opOf};
-ghost use Rattle.read_arena.specs.Readings.{formAt, Arena};
-ghost use Rattle.lower_rows.specs.Writes.{Lowers};
+ghost use Rattle.read_arena.specs.Readings.{NodeIn, NodesIn};
+ghost use Rattle.lower_rows.specs.Writes.{RowBuffer, Near, Lowers};
+ghost use Rattle.lower_formula.specs.Lowers.{loweredAt, pairAt};
 
 // And (true) for @ and or (false) for ?, traded in the false sense.
 fn turned(always: bool, sense: bool) -> bool
@@ -26,9 +25,9 @@ fn turned(always: bool, sense: bool) -> bool
 
 // The formula at a node.
 pub fn lower(arena: &[u16], node: usize, sense: bool, out: &mut [u64], used: usize) -> Lowered
-    requires { ⌜ Arena (node + 1) (now arena) ⌝ }
-    requires { ⌜ (length (now out) ≤ 1024) × (used ≤ length (now out)) ⌝ }
-    ensures { λ r. ⌜ Lowers (loweredOf sense (formAt (now (arena .entry)) node)) used (now (out .entry)) (now (out .exit)) r ⌝ }
+    requires { ⌜ NodeIn (now arena) node ⌝ }
+    requires { ⌜ RowBuffer (now out) used ⌝ }
+    ensures { λ r. ⌜ Lowers (loweredAt (now (arena .entry)) sense node) used (now (out .entry)) (now (out .exit)) r ⌝ }
 {
     match node_at(arena, node) {
         Node::Name(row) => name_row(row, sense, out, used),
@@ -58,9 +57,9 @@ fn pair(
     out: &mut [u64],
     used: usize,
 ) -> Lowered
-    requires { ⌜ Arena (left + 1) (now arena) × Arena (right + 1) (now arena) ⌝ }
-    requires { ⌜ (length (now out) ≤ 1024) × (used ≤ length (now out)) ⌝ }
-    ensures { λ r. ⌜ Lowers (loweredOf sense (Formula.pair (opOf sign) (formAt (now (arena .entry)) left) (formAt (now (arena .entry)) right))) used (now (out .entry)) (now (out .exit)) r ⌝ }
+    requires { ⌜ NodesIn (now arena) left right ⌝ }
+    requires { ⌜ RowBuffer (now out) used ⌝ }
+    ensures { λ r. ⌜ Lowers (pairAt (now (arena .entry)) (opOf sign) sense left right) used (now (out .entry)) (now (out .exit)) r ⌝ }
 {
     match sign {
         Sign::And => join(arena, left, sense, right, sense, sense, out, used),
@@ -81,9 +80,9 @@ fn join(
     out: &mut [u64],
     used: usize,
 ) -> Lowered
-    requires { ⌜ Arena (left + 1) (now arena) × Arena (right + 1) (now arena) ⌝ }
-    requires { ⌜ (length (now out) ≤ 1024) × (used ≤ length (now out)) ⌝ }
-    ensures { λ r. ⌜ Lowers (joinOf gate (loweredOf «left_sense» (formAt (now (arena .entry)) left)) (loweredOf «right_sense» (formAt (now (arena .entry)) right))) used (now (out .entry)) (now (out .exit)) r ⌝ }
+    requires { ⌜ NodesIn (now arena) left right ⌝ }
+    requires { ⌜ RowBuffer (now out) used ⌝ }
+    ensures { λ r. ⌜ Lowers (joinOf gate (loweredAt (now (arena .entry)) «left_sense» left) (loweredAt (now (arena .entry)) «right_sense» right)) used (now (out .entry)) (now (out .exit)) r ⌝ }
 {
     let Lowered::Top { row: a, used: next } = lower(arena, left, left_sense, out, used) else {
         return Lowered::Full;
@@ -103,9 +102,9 @@ fn same(
     out: &mut [u64],
     used: usize,
 ) -> Lowered
-    requires { ⌜ Arena (left + 1) (now arena) × Arena (right + 1) (now arena) ⌝ }
-    requires { ⌜ (length (now out) ≤ 1024) × (used ≤ length (now out)) ⌝ }
-    ensures { λ r. ⌜ Lowers (loweredOf sense (Formula.pair Iff (formAt (now (arena .entry)) left) (formAt (now (arena .entry)) right))) used (now (out .entry)) (now (out .exit)) r ⌝ }
+    requires { ⌜ NodesIn (now arena) left right ⌝ }
+    requires { ⌜ RowBuffer (now out) used ⌝ }
+    ensures { λ r. ⌜ Lowers (pairAt (now (arena .entry)) Iff sense left right) used (now (out .entry)) (now (out .exit)) r ⌝ }
 {
     let opposite = !sense;
     let Lowered::Top { row: a, used: next } = join(
@@ -146,10 +145,10 @@ fn timed(
     out: &mut [u64],
     used: usize,
 ) -> Lowered
-    requires { ⌜ Arena (child + 1) (now arena) ⌝ }
-    requires { ⌜ (1 ≤ first) × (first + more ≤ 127) ⌝ }
-    requires { ⌜ (length (now out) ≤ 1024) × (used ≤ length (now out)) ⌝ }
-    ensures { λ r. ⌜ Lowers (timedOf gate first more (loweredOf sense (formAt (now (arena .entry)) child))) used (now (out .entry)) (now (out .exit)) r ⌝ }
+    requires { ⌜ NodeIn (now arena) child ⌝ }
+    requires { ⌜ Near first more ⌝ }
+    requires { ⌜ RowBuffer (now out) used ⌝ }
+    ensures { λ r. ⌜ Lowers (timedOf gate first more (loweredAt (now (arena .entry)) sense child)) used (now (out .entry)) (now (out .exit)) r ⌝ }
 {
     let Lowered::Top {
         row: top,

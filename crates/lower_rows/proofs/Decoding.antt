@@ -7,28 +7,29 @@ use Prim.Native.Nat.{ℕ, zero, suc, _+_, _*_, _/_, _%_, _≤_, _<_}
 use native.Mathlib.Omega.{arith}
 use lib.ListN.{length, getD, take, drop, replicate, length-map, List·getD-map}
 use lib.Seq.{sets, sets-eq, getD-drop}
+use Rattle.spec_limits.specs.Limits.{codeKinds, codeNumbers}
 use Rattle.spec_tilco.specs.Inference.{Node, signal, notOf, gate, look}
 use Rattle.lower_rows.specs.Words.{packed, word, unpacked, rowOf, rowAt, Blank}
 
 -- A row that its word tells: its first number has at most two bytes.
 abbrev pub Coded : Node → Type 0
 Coded signal = Unit {0}
-Coded (notOf x) = x < 65536
-Coded (gate u a b) = a < 65536
-Coded (look k c) = c < 65536
+Coded (notOf x) = x < codeNumbers
+Coded (gate u a b) = a < codeNumbers
+Coded (look k c) = c < codeNumbers
 
-module _ (kind a b : ℕ) (few : kind < 8) (low : a < 65536) where
-  first : packed kind a b % 8 ≡ kind
+module _ (kind a b : ℕ) (few : kind < codeKinds) (low : a < codeNumbers) where
+  first : packed kind a b % codeKinds ≡ kind
   unfolding packed
   first = omega arith
 
-  left : packed kind a b / 8 % 65536 ≡ a
+  left : packed kind a b / codeKinds % codeNumbers ≡ a
   unfolding packed
   left =
-      let x : (kind + 8 * (a + 65536 * b)) / 8 ≡ a + 65536 * b = omega arith in
+      let x : (kind + codeKinds * (a + codeNumbers * b)) / codeKinds ≡ a + codeNumbers * b = omega arith in
       rw x (omega arith)
 
-  right : packed kind a b / 524288 ≡ b
+  right : packed kind a b / (codeKinds * codeNumbers) ≡ b
   unfolding packed
   right = omega arith
 
@@ -46,22 +47,21 @@ decoded (look k c) h = unpack 3 c k (omega arith) h
 
 -- The blank part before the rows is their signals' words.
 before : (b : ℕ) (m : List ℕ) (rows : List Node) → Blank m → b ≤ length m → (r : ℕ)
-    → getD (take b m ++ map word rows) r 8 ≡ getD (map word (replicate b signal ++ rows)) r 8
-unfolding word packed
+    → getD (take b m ++ map word rows) r (word signal) ≡ getD (map word (replicate b signal ++ rows)) r (word signal)
 before zero m rows z h r = refl
 before (suc b) [] rows z h r = absurd (omega arith)
 before (suc b) (x ∷ m) rows z h zero = z 0
 before (suc b) (x ∷ m) rows z h (suc r) = before b m rows (λ i. z (suc i)) (omega arith) r
 
 -- The blank part after them says nothing more.
-after : (ws m : List ℕ) → Blank m → (r : ℕ) → getD (ws ++ m) r 8 ≡ getD ws r 8
-unfolding word packed
+after : (ws m : List ℕ) → Blank m → (r : ℕ) → getD (ws ++ m) r (word signal) ≡ getD ws r (word signal)
 after [] m z r = z r
 after (w ∷ ws) m z zero = refl
 after (w ∷ ws) m z (suc r) = after ws m z r
 
 -- Past the end a buffer says a signal, as the blank word does.
-past-end : (m : List ℕ) (r : ℕ) → rowOf (getD m r 0) ≡ rowOf (getD m r 8)
+past-end : (m : List ℕ) (r : ℕ) → rowOf (getD m r 0) ≡ rowOf (getD m r (word signal))
+unfolding word packed
 past-end [] r = refl
 past-end (w ∷ m) zero = refl
 past-end (w ∷ m) (suc r) = past-end m r
@@ -69,13 +69,12 @@ past-end (w ∷ m) (suc r) = past-end m r
 -- Rows written from b on into a blank buffer: it says every row, the b signals' before them too.
 pub row-at : (rows : List Node) (m : List ℕ) (b : ℕ) → Blank m → b + length rows ≤ length m → (r : ℕ) → Coded (getD (replicate b signal ++ rows) r signal)
     → rowAt (sets m b (map word rows)) r ≡ getD (replicate b signal ++ rows) r signal
-unfolding word packed
 row-at rows m b z fits r k =
     let e = length-map rows word in
     past-end (sets m b (map word rows)) r
     ∙ ap rowOf
-    (ap (λ (l : List ℕ). getD l r 8) (sets-eq (map word rows) m b (omega arith))
-    ∙ after (take b m ++ map word rows) (drop (b + length (map word rows)) m) (λ i. getD-drop (b + length (map word rows)) m i 8 ∙ z (b + length (map word rows) + i)) r
+    (ap (λ (l : List ℕ). getD l r (word signal)) (sets-eq (map word rows) m b (omega arith))
+    ∙ after (take b m ++ map word rows) (drop (b + length (map word rows)) m) (λ i. getD-drop (b + length (map word rows)) m i (word signal) ∙ z (b + length (map word rows) + i)) r
     ∙ before b m rows z (omega arith) r
     ∙ List·getD-map word (replicate b signal ++ rows) r signal)
     ∙ decoded (getD (replicate b signal ++ rows) r signal) k

@@ -8,13 +8,13 @@ use native.Mathlib.Nat.{add-zero, add-suc, suc-add}
 use native.Mathlib.Numerals.{add-one}
 use native.Mathlib.Decide.{ℕ-discrete}
 use native.Mathlib.Omega.{arith}
-use lib.ListN.{length, set, getD, length-append}
+use lib.ListN.{length, set, getD, length-append, length-set}
 use lib.Seq.{sets, length-sets, getD-set-same, getD-set-other}
 use Rattle.spec_tilco.specs.Lists.{tab}
 use Rattle.spec_tilco.specs.Inference.{Node, gate, look}
 use Rattle.spec_tilco.specs.Lowering.{joined}
 use Rattle.lower_rows.specs.Words.{word}
-use Rattle.lower_rows.specs.Writes.{looks, gates, lastGate, Wrote, Spreads}
+use Rattle.lower_rows.specs.Writes.{RowBuffer, CountsUp, Fits, looks, gates, lastGate, Wrote, Spreads}
 use Rattle.lower_rows.specs.declared.words.Lowered.{Lowered}
 use Rattle.lower_rows.specs.declared.words.Lowered.the-variants.{Top, Full}
 
@@ -24,26 +24,26 @@ sets-append m b [] vs = rw add-zero
 sets-append m b (w ∷ ws) vs = rw (add-suc, ← suc-add) (sets-append (set m b w) (suc b) ws vs)
 
 -- What is known where the words fit.
-pub record Fits (ws : List ℕ) (t b : ℕ) (m m₁ : List ℕ) (row u : ℕ) : Type 0 where
-  pub top : row ≡ t
-  pub next : u ≡ b + length ws
-  pub room : u ≤ length m
-  pub holds : m₁ ≡ sets m b ws
-  pub long : length m₁ ≡ length m
-
 pub fits : (ws : List ℕ) (t b : ℕ) (m m₁ : List ℕ) (r : Lowered) (row u : ℕ) → r ≡ Top row u → Wrote ws t b m m₁ r → Fits ws t b m m₁ row u
 unfolding Wrote
-fits ws t b m m₁ r row u e h =
-    let k = rw e at h in
-    record { top = k .0; next = k .1; room = k .2; holds = k .3; long = ap length (k .3) ∙ length-sets m b ws }
+fits ws t b m m₁ r row u e h = rw e at h
+
+-- After a writer the buffer is a row buffer with other rows in use.
+pub buffer-on : {m m₁ : List ℕ} {b u : ℕ} → RowBuffer m b → u ≤ length m → length m₁ ≡ length m → RowBuffer m₁ u
+buffer-on B room long = record { few = omega (arith, B .few); used-in = omega arith }
 
 -- One write after another is one write, whatever the second answers.
 extend : (ws vs : List ℕ) (t t′ b : ℕ) (m m₁ m₂ : List ℕ) (row u : ℕ) (r : Lowered)
     → Fits ws t b m m₁ row u → Wrote vs t′ u m₁ m₂ r → Wrote (ws ++ vs) t′ b m m₂ r
 unfolding Wrote
-extend ws vs t t′ b m m₁ m₂ row u (Top row′ v) R k =
-    (k .0, omega (arith, length-append ws vs), omega arith, k .3 ∙ rw (R .holds, R .next) (sets-append m b ws vs))
-extend ws vs t t′ b m m₁ m₂ row u Full R k = (omega (arith, length-append ws vs), k .1 ∙ R .long)
+extend ws vs t t′ b m m₁ m₂ row u (Top row′ v) R k = record {
+  top = k .top;
+  next = omega (arith, length-append ws vs);
+  room = omega arith;
+  holds = k .holds ∙ rw (R .holds, R .next) (sets-append m b ws vs);
+  long = k .long ∙ R .long;
+}
+extend ws vs t t′ b m m₁ m₂ row u Full R k = record { over = omega (arith, length-append ws vs); long = k .long ∙ R .long }
 
 pub and-then : (ws vs : List ℕ) (t t′ b : ℕ) (m m₁ m₂ : List ℕ) (r₁ : Lowered) (row u : ℕ) (r : Lowered)
     → r₁ ≡ Top row u → Wrote ws t b m m₁ r₁ → Wrote vs t′ u m₁ m₂ r → Wrote (ws ++ vs) t′ b m m₂ r
@@ -52,22 +52,22 @@ and-then ws vs t t′ b m m₁ m₂ r₁ row u r e h k = extend ws vs t t′ b m
 -- Where the first part does not fit, the whole does not.
 pub no-room : (ws vs : List ℕ) (t t′ b : ℕ) (m m₁ : List ℕ) (r₁ : Lowered) → r₁ ≡ Full → Wrote ws t b m m₁ r₁ → Wrote (ws ++ vs) t′ b m m₁ Full
 unfolding Wrote
-no-room ws vs t t′ b m m₁ r₁ e h = let k = rw e at h in (omega (arith, length-append ws vs), k .1)
+no-room ws vs t t′ b m m₁ r₁ e h = let k = rw e at h in record { over = omega (arith, length-append ws vs); long = k .long }
 
 -- One word more fits.
 pub stored : (w b : ℕ) (m : List ℕ) → b < length m → Wrote (w ∷ []) b b m (set m b w) (Top b (b + 1))
 unfolding Wrote
-stored w b m h = (refl, refl, omega arith, refl)
+stored w b m h = record { top = refl; next = refl; room = omega arith; holds = refl; long = length-set m b w }
 
 -- It does not.
 pub not-stored : (w b : ℕ) (m : List ℕ) → length m ≤ b → Wrote (w ∷ []) b b m m Full
 unfolding Wrote
-not-stored w b m h = (omega arith, refl)
+not-stored w b m h = record { over = omega arith; long = refl }
 
 -- Nothing is written.
 pub nothing : (t b : ℕ) (m : List ℕ) → b ≤ length m → Wrote [] t b m m (Top t b)
 unfolding Wrote
-nothing t b m h = (refl, rw add-zero, h, refl)
+nothing t b m h = record { top = refl; next = rw add-zero; room = h; holds = refl; long = refl }
 
 -- A run of rows that grows by one at the end: r i is the row that comes after i rows.
 module _ (R : ℕ → List Node) (r : ℕ → Node) (start : R zero ≡ []) (next : (i : ℕ) → R (suc i) ≡ R i ++ (r i ∷ [])) where
@@ -89,12 +89,18 @@ module _ (R : ℕ → List Node) (r : ℕ → Node) (start : R zero ≡ []) (nex
   -- All n of them stored.
   pub run-done : (t n b : ℕ) (m m′ : List ℕ) → b + n ≤ length m → m′ ≡ sets m b (map word (R n)) → Wrote (map word (R n)) t b m m′ (Top t (b + n))
   unfolding Wrote
-  run-done t n b m m′ h e = (refl, ap (λ (k : ℕ). b + k) (sym (run-length n)), h, e)
+  run-done t n b m m′ h e = record {
+    top = refl;
+    next = ap (λ (k : ℕ). b + k) (sym (run-length n));
+    room = h;
+    holds = e;
+    long = ap length e ∙ length-sets m b (map word (R n));
+  }
 
   -- They do not fit.
   pub run-full : (t n b : ℕ) (m : List ℕ) → length m < b + n → Wrote (map word (R n)) t b m m Full
   unfolding Wrote
-  run-full t n b m h = (omega (arith, run-length n), refl)
+  run-full t n b m h = record { over = omega (arith, run-length n); long = refl }
 
 tab-snoc : (f : ℕ → Node) (n : ℕ) → tab f (suc n) ≡ tab f n ++ (f n ∷ [])
 tab-snoc f zero = refl
@@ -126,8 +132,7 @@ pub gate-row : (g : Bool) (x i k : ℕ) → word (gate g x (i + k + 1)) ≡ word
 gate-row g x i k = let e : i + k + 1 ≡ i + suc k = omega arith in ap (λ (y : ℕ). word (gate g x y)) e
 
 -- One number more of those that follow one another.
-pub numbers-more : (l : List ℕ) (i lo : ℕ) → i < length l → ((j : ℕ) → j < i → getD l j 0 ≡ lo + j)
-    → (j : ℕ) → j < i + 1 → getD (set l i (lo + i)) j 0 ≡ lo + j
+pub numbers-more : (l : List ℕ) (i lo : ℕ) → i < length l → CountsUp lo i l → CountsUp lo (i + 1) (set l i (lo + i))
 numbers-more l i lo h before j lt = go (ℕ-discrete j i)
   where
     go : Dec (j ≡ i) → getD (set l i (lo + i)) j 0 ≡ lo + j

@@ -1,15 +1,16 @@
--- Rows as words: kind + 8 * (a + 65536 * b), with kind 0 for a signal, 1 for an and, 2 for an or, 3 for a look, 4 for a not-row.
+-- Rows as words: kind + codeKinds * (a + codeNumbers * b), with kind 0 for a signal, 1 for an and, 2 for an or, 3 for a look, 4 for a not-row.
 -- Assumes nothing.
 use mathlib.Core.Path.{_≡_}
 use mathlib.Core.Bool.{true, false}
 use mathlib.Core.List.{List}
 use Prim.Native.Nat.{ℕ, zero, suc, _+_, _*_, _/_, _%_}
 use lib.ListN.{getD}
+use Rattle.spec_limits.specs.Limits.{codeKinds, codeNumbers}
 use Rattle.spec_tilco.specs.Inference.{Node, signal, notOf, gate, look}
 
 -- The word of a kind with the numbers a and b.
 unfoldable pub packed : ℕ → ℕ → ℕ → ℕ
-packed kind a b = kind + 8 * (a + 65536 * b)
+packed kind a b = kind + codeKinds * (a + codeNumbers * b)
 
 -- A row's word.
 unfoldable pub word : Node → ℕ
@@ -29,7 +30,7 @@ unpacked (suc (suc (suc (suc kind)))) a b = notOf a
 
 -- The row that a word says.
 abbrev pub rowOf : ℕ → Node
-rowOf w = unpacked (w % 8) (w / 8 % 65536) (w / 524288)
+rowOf w = unpacked (w % codeKinds) (w / codeKinds % codeNumbers) (w / (codeKinds * codeNumbers))
 
 -- Row r of a buffer. Past its end a row is a signal's, as in a program.
 abbrev pub rowAt : List ℕ → ℕ → Node

@@ -4,8 +4,9 @@ use mathlib.Core.Path.{_≡_}
 use mathlib.Core.Bool.{Bool}
 use mathlib.Core.List.{List, _++_, map}
 use Prim.Native.Nat.{ℕ, suc, _+_, _≤_, _<_}
-use lib.ListN.{length}
+use lib.ListN.{length, getD}
 use lib.Seq.{sets}
+use Rattle.spec_limits.specs.Limits.{mostRows}
 use Rattle.read_bytes.specs.Read.{Read}
 use Rattle.read_bytes.specs.Read.Read.{got, refused}
 use Rattle.spec_tilco.specs.Lists.{tab}
@@ -14,6 +15,20 @@ use Rattle.spec_tilco.specs.Lowering.{BTL, joined, topOf, rowsOf}
 use Rattle.lower_rows.specs.Words.{word}
 use Rattle.lower_rows.specs.declared.words.Lowered.{Lowered}
 use Rattle.lower_rows.specs.declared.words.Lowered.the-variants.{Top, Full}
+
+-- A row buffer whose first `used` rows are in use: it has no more places than a sheet may have rows.
+pub record RowBuffer (m : List ℕ) (used : ℕ) : Type 0 where
+  pub few : length m ≤ mostRows
+  pub used-in : used ≤ length m
+
+-- An interval's first offset and how many more follow: from -63 to 63, each written with 64 added.
+pub record Near (first more : ℕ) : Type 0 where
+  pub low : 1 ≤ first
+  pub high : first + more ≤ 127
+
+-- The first n numbers of l count up from lo.
+abbrev pub CountsUp : ℕ → ℕ → List ℕ → Type 0
+CountsUp lo n l = (i : ℕ) → i < n → getD l i 0 ≡ lo + i
 
 -- The looks at row c: n of them, from the offset lo up.
 unfoldable pub looks : ℕ → ℕ → ℕ → List Node
@@ -36,10 +51,23 @@ abbrev pub loweredSays : Lowered → Read ℕ
 loweredSays (Top row used) = got row used
 loweredSays Full = noRoom
 
--- The words ws with the top row t: they stand from b on and nothing else has changed; or they do not fit.
+-- The words ws with the top row t are written: they stand from b on, and nothing else has changed.
+pub record Fits (ws : List ℕ) (t b : ℕ) (m m′ : List ℕ) (row used : ℕ) : Type 0 where
+  pub top : row ≡ t
+  pub next : used ≡ b + length ws
+  pub room : used ≤ length m
+  pub holds : m′ ≡ sets m b ws
+  pub long : length m′ ≡ length m
+
+-- They do not fit.
+pub record NoFit (ws : List ℕ) (b : ℕ) (m m′ : List ℕ) : Type 0 where
+  pub over : length m < b + length ws
+  pub long : length m′ ≡ length m
+
+-- What each case of a writer's answer promises.
 abbrev pub WroteAs : List ℕ → ℕ → ℕ → List ℕ → List ℕ → Read ℕ → Type 0
-WroteAs ws t b m m′ (got row used) = (row ≡ t) × (used ≡ b + length ws) × (used ≤ length m) × (m′ ≡ sets m b ws)
-WroteAs ws t b m m′ (refused n p) = (length m < b + length ws) × (length m′ ≡ length m)
+WroteAs ws t b m m′ (got row used) = Fits ws t b m m′ row used
+WroteAs ws t b m m′ (refused n p) = NoFit ws b m m′
 
 -- So says the writer's answer.
 unfoldable pub Wrote : List ℕ → ℕ → ℕ → List ℕ → List ℕ → Lowered → Type 0

@@ -2,17 +2,17 @@
 use crate::words::Lowered;
 use crate::words::gate_word;
 use crate::words::look_word;
-ghost use mathlib.Core.Path.{_≡_};
 ghost use mathlib.Core.List.{map};
-ghost use Prim.Native.Nat.{ℕ, _+_, _≤_, _<_};
-ghost use lib.ListN.{length, getD};
+ghost use Prim.Native.Nat.{_≤_, _<_};
+ghost use lib.ListN.{getD};
+ghost use Rattle.spec_limits.specs.Limits.{mostRows};
 ghost use Rattle.lower_rows.specs.Words.{word};
-ghost use Rattle.lower_rows.specs.Writes.{looks, gates, lastGate, Wrote, Spreads};
+ghost use Rattle.lower_rows.specs.Writes.{RowBuffer, Near, CountsUp, looks, gates, lastGate, Wrote, Spreads};
 
 // The offsets from the first up, as many as an interval can have.
 fn offsets_from(first: u16) -> [u16; 127]
     requires { ⌜ first < 128 ⌝ }
-    ensures { λ r. ⌜ ((i : ℕ) → i < 127 → getD r i 0 ≡ first + i) ⌝ }
+    ensures { λ r. ⌜ CountsUp first 127 r ⌝ }
 {
     let mut offsets = [0u16; 127];
     let mut i: usize = 0;
@@ -26,8 +26,8 @@ fn offsets_from(first: u16) -> [u16; 127]
 // A look at the row child for each of the first n offsets, in the rows from used on.
 fn write_looks(child: u16, offsets: &[u16; 127], n: usize, out: &mut [u64], used: usize) -> Lowered
     requires { ⌜ n ≤ 127 ⌝ }
-    requires { ⌜ (length (now out) ≤ 1024) × (used ≤ length (now out)) ⌝ }
-    requires { ⌜ ((i : ℕ) → i < n → getD (now offsets) i 0 ≡ getD (now offsets) 0 0 + i) ⌝ }
+    requires { ⌜ RowBuffer (now out) used ⌝ }
+    requires { ⌜ CountsUp (getD (now offsets) 0 0) n (now offsets) ⌝ }
     ensures { λ r. ⌜ Wrote (map word (looks child (getD (now (offsets .entry)) 0 0) n)) used used (now (out .entry)) (now (out .exit)) r ⌝ }
 {
     if out.len() - used < n {
@@ -45,8 +45,8 @@ fn write_looks(child: u16, offsets: &[u16; 127], n: usize, out: &mut [u64], used
 
 // The n gates that join the n + 1 rows from first on, from the left, in the rows from used on.
 fn write_gates(gate: bool, first: usize, n: usize, out: &mut [u64], used: usize) -> Lowered
-    requires { ⌜ (first ≤ 1024) × (n ≤ 127) ⌝ }
-    requires { ⌜ (length (now out) ≤ 1024) × (used ≤ length (now out)) ⌝ }
+    requires { ⌜ (first ≤ mostRows) × (n ≤ 127) ⌝ }
+    requires { ⌜ RowBuffer (now out) used ⌝ }
     ensures { λ r. ⌜ Wrote (map word (gates gate first used n)) (lastGate first used n) used (now (out .entry)) (now (out .exit)) r ⌝ }
 {
     if out.len() - used < n {
@@ -75,8 +75,8 @@ pub fn spread(
     out: &mut [u64],
     used: usize,
 ) -> Lowered
-    requires { ⌜ (1 ≤ first) × (first + more ≤ 127) ⌝ }
-    requires { ⌜ (length (now out) ≤ 1024) × (used ≤ length (now out)) ⌝ }
+    requires { ⌜ Near first more ⌝ }
+    requires { ⌜ RowBuffer (now out) used ⌝ }
     ensures { λ r. ⌜ Spreads gate first more child used (now (out .entry)) (now (out .exit)) r ⌝ }
 {
     let offsets = offsets_from(first);

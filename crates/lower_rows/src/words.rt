@@ -1,12 +1,15 @@
-// Rows as words, one row more in the buffer, and a signal in a sense. A signal's own row is not written: its word is 8, which the buffer is lent with.
+// Rows as words, one row more in the buffer, and a signal in a sense. A signal's own row is not written: its word is SIGNAL, which the buffer is lent with.
+use spec_limits::KINDS;
+use spec_limits::NUMBERS;
 ghost use mathlib.Core.Path.{_≡_};
 ghost use mathlib.Core.List.{[], _∷_};
-ghost use Prim.Native.Nat.{_≤_};
-ghost use lib.ListN.{length};
 ghost use Rattle.spec_tilco.specs.Inference.{gate as gateOf, look};
 ghost use Rattle.spec_tilco.specs.Lowering.{lit};
 ghost use Rattle.lower_rows.specs.Words.{word};
-ghost use Rattle.lower_rows.specs.Writes.{Wrote, Lowers};
+ghost use Rattle.lower_rows.specs.Writes.{RowBuffer, Wrote, Lowers};
+
+// The word of a signal: of kind 0, with the number 1.
+pub const SIGNAL: u64 = KINDS;
 
 // The top row of what was written and the rows then used; or there is no room.
 pub enum Lowered {
@@ -20,7 +23,7 @@ pub fn gate_word(gate: bool, a: u16, b: u16) -> u64
 {
     let left = a as u64;
     let right = b as u64;
-    let rows = 8 * (left + 65536 * right);
+    let rows = KINDS * (left + NUMBERS * right);
     if gate { 1 + rows } else { 2 + rows }
 }
 
@@ -30,12 +33,12 @@ pub fn look_word(child: u16, offset: u16) -> u64
 {
     let row = child as u64;
     let ticks = offset as u64;
-    3 + 8 * (row + 65536 * ticks)
+    3 + KINDS * (row + NUMBERS * ticks)
 }
 
 // One row more.
 pub fn push_row(word: u64, out: &mut [u64], used: usize) -> Lowered
-    requires { ⌜ (length (now out) ≤ 1024) × (used ≤ length (now out)) ⌝ }
+    requires { ⌜ RowBuffer (now out) used ⌝ }
     ensures { λ r. ⌜ Wrote (word ∷ []) used used (now (out .entry)) (now (out .exit)) r ⌝ }
 {
     if out.len() - used < 1 {
@@ -49,14 +52,14 @@ pub fn push_row(word: u64, out: &mut [u64], used: usize) -> Lowered
 
 // A signal in a sense: its own row in the true one, a not-row in the false one.
 pub fn name_row(signal: u16, sense: bool, out: &mut [u64], used: usize) -> Lowered
-    requires { ⌜ (length (now out) ≤ 1024) × (used ≤ length (now out)) ⌝ }
+    requires { ⌜ RowBuffer (now out) used ⌝ }
     ensures { λ r. ⌜ Lowers (lit sense signal) used (now (out .entry)) (now (out .exit)) r ⌝ }
 {
     if sense {
         Lowered::Top { row: signal, used }
     } else {
         let row = signal as u64;
-        let opposite = 4 + 8 * row;
+        let opposite = 4 + KINDS * row;
         push_row(opposite, out, used)
     }
 }

@@ -77,20 +77,41 @@ Right (Pair s x y) n = (x < n) × (y < n)
 Right (Time u x first more) n = (x < n) × (1 ≤ first) × (first + more ≤ 127)
 Right (Keep b x y row) n = (x < n) × (y < n)
 
+-- A number of the buffer has two bytes: it is less.
+abbrev pub twoBytes : ℕ
+twoBytes = 65536
+
+-- A node that can be put: its children's numbers have two bytes.
+abbrev pub Storable : Node → Type 0
+Storable k = Right k twoBytes
+
 -- Each of the nodes is right, from number n on.
 abbrev pub Rights : List Node → ℕ → Type 0
 Rights [] n = Unit {0}
 Rights (k ∷ ks) n = Right k n × Rights ks (suc n)
+
+-- Node n lies in the buffer.
+abbrev pub HasNode : List ℕ → ℕ → Type 0
+HasNode a n = 4 * n + 4 ≤ length a
 
 -- The first c nodes lie in the buffer, and each is as it should be.
 pub record Arena (c : ℕ) (a : List ℕ) : Type 0 where
   pub inside : 4 * c ≤ length a
   pub right : (n : ℕ) → n < c → Right (nodeAt a n) n
 
--- The buffer has room for k nodes past the first c, whose numbers fit.
+-- Node n stands in the arena, and so do all before it.
+abbrev pub NodeIn : List ℕ → ℕ → Type 0
+NodeIn a n = Arena (n + 1) a
+
+-- Two nodes do.
+pub record NodesIn (a : List ℕ) (l r : ℕ) : Type 0 where
+  pub left : NodeIn a l
+  pub right : NodeIn a r
+
+-- The buffer has room for k nodes past the first c, whose numbers have two bytes.
 pub record Room (a : List ℕ) (c k : ℕ) : Type 0 where
   pub fits : 4 * (c + k) ≤ length a
-  pub few : c + k ≤ 16000
+  pub few : c + k ≤ twoBytes
 
 -- The first c nodes are the same in a and in b.
 pub record Same (c : ℕ) (a b : List ℕ) : Type 0 where

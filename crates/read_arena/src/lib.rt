@@ -5,7 +5,7 @@ ghost use mathlib.Core.List.{[], _∷_};
 ghost use Prim.Native.Nat.{_+_, _*_, _≤_, _<_};
 ghost use lib.ListN.{length};
 ghost use Rattle.read_arena.specs.Nodes.{pick, signOf, signNumber, nodeAt, codeOf, putNode, putKeep};
-ghost use Rattle.read_arena.specs.Readings.{Right, Room};
+ghost use Rattle.read_arena.specs.Readings.{Right, Storable, HasNode, Room};
 
 // The signs & | => <=>.
 pub enum Sign {
@@ -72,7 +72,7 @@ fn sign_number(sign: Sign) -> u16
 
 // Node n of the buffer.
 pub fn node_at(arena: &[u16], n: usize) -> Node
-    requires { ⌜ 4 * n + 4 ≤ length (now arena) ⌝ }
+    requires { ⌜ HasNode (now arena) n ⌝ }
     ensures { λ r. ⌜ r ≡ nodeAt (now (arena .entry)) n ⌝ }
 {
     let at = 4 * n;
@@ -93,9 +93,9 @@ pub fn node_at(arena: &[u16], n: usize) -> Node
     }
 }
 
-// The four numbers of a node whose children's numbers fit.
+// The four numbers of a node.
 fn code_of(node: Node) -> Code
-    requires { ⌜ Right node 65536 ⌝ }
+    requires { ⌜ Storable node ⌝ }
     ensures { λ r. ⌜ r .0 ∷ r .1 ∷ r .2 ∷ r .3 ∷ [] ≡ codeOf node ⌝ }
 {
     match node {

@@ -4,6 +4,7 @@ use Prim.Native.Nat.{ℕ, _+_, _*_, _<_}
 use Rattle.read_arena.proofs.Puts.{arena-fewer}
 use Rattle.read_arena.proofs.Read.{form-step, right-step}
 use Rattle.read_arena.specs.Readings.{formAt}
+use Rattle.lower_rows.proofs.Runs.{buffer-on}
 use Rattle.lower_formula.proofs.Parts.{went, join-full, join-full-2, join-then, timed-full, timed-then}
 use Rattle.lower_formula.proofs.Sizes.{weight, weight-some}
 use borrow.Author.Needs.{needs}
@@ -97,7 +98,9 @@ module _ (t : ℕ) where
   timed-calls = (lower-below, lower.Post, spread-reads.Asked, spread-reads.Learnt)
 
   join-lower-requires : join-lts.Need-lower-requires join-calls join-at join.Post
-  join-lower-requires c κs = (omega (arith, weight-some (formAt (c .before .before .before .args .arena .now) (c .before .before .before .args .right))), (c .before .before .before .pre .1 .0 .0, (omega arith, omega arith)))
+  join-lower-requires c κs =
+      let here = c .before .before .before in
+      (omega (arith, weight-some (formAt (here .args .arena .now) (here .args .right))), (here .pre .1 .0 .left, here .pre .1 .1))
 
   join-enum-known-a : join-lts.Need-enum-known-a join-calls join-at join.Post
   join-enum-known-a c = search needs
@@ -114,7 +117,8 @@ module _ (t : ℕ) where
   join-lower-requires-2 : join-lts.Need-lower-requires-2 join-calls join-at join.Post
   join-lower-requires-2 c κs =
       let R = went _ _ _ _ _ (c .before .before .before .before .before .before .lower .ensures) _ _ (c .before .before .a .given .1) in
-      (omega (arith, weight-some (formAt (c .before .before .before .before .before .before .before .before .before .before .args .arena .now) (c .before .before .before .before .before .before .before .before .before .before .args .left))), (c .before .before .before .before .before .before .before .before .before .before .pre .1 .0 .1, (omega arith, omega arith)))
+      let here = c .before .before .before .before .before .before .before .before .before .before in
+      (omega (arith, weight-some (formAt (here .args .arena .now) (here .args .left))), (here .pre .1 .0 .right, buffer-on (here .pre .1 .1) (R .room) (R .long)))
 
   join-enum-known-b : join-lts.Need-enum-known-b join-calls join-at join.Post
   join-enum-known-b c = search needs
@@ -135,7 +139,7 @@ module _ (t : ℕ) where
   join-push-row-requires c κs =
       let R = went _ _ _ _ _ (c .before .before .before .before .before .before .before .before .before .before .before .before .before .before .lower .ensures) _ _ (c .before .before .before .before .before .before .before .before .before .before .a .given .1) in
       let S = went _ _ _ _ _ (c .before .before .before .before .before .before .before .lower2 .ensures) _ _ (c .before .before .before .b .given .1) in
-      (omega arith, omega arith)
+      record { few = omega arith; used-in = omega arith }
 
   join-same-length-3 : join-lts.Need-same-length-3 join-calls join-at join.Post
   join-same-length-3 c = search needs
@@ -160,11 +164,12 @@ module _ (t : ℕ) where
   lower-lower-requires : lower-lts.Need-lower-requires lower-calls lower-at lower.Post
   unfolding weight
   lower-lower-requires c κs =
-      let A = c .before .before .before .before .before .before .before .pre .1 .0 in
+      let given = c .before .before .before .before .before .before .before .pre .1 in
+      let A = given .0 in
       let e = sym (c .before .before .before .before .node-at .ensures) ∙ c .before .before .x .given .1 in
       let R = right-step _ _ A (omega arith) e in
       let z = ap weight (form-step _ _ A (omega arith) e) in
-      (omega arith, (arena-fewer _ (omega arith) A, (omega arith, omega arith)))
+      (omega arith, (arena-fewer _ (omega arith) A, given .1))
 
   lower-enum-known-sign : lower-lts.Need-enum-known-sign lower-calls lower-at lower.Post
   lower-enum-known-sign c = search needs
@@ -172,11 +177,12 @@ module _ (t : ℕ) where
   lower-pair-requires : lower-lts.Need-pair-requires lower-calls lower-at lower.Post
   unfolding weight
   lower-pair-requires c κs =
-      let A = c .before .before .before .before .before .before .before .pre .1 .0 in
+      let given = c .before .before .before .before .before .before .before .pre .1 in
+      let A = given .0 in
       let e = sym (c .before .before .before .before .node-at .ensures) ∙ c .before .before .sign .given .1 in
       let R = right-step _ _ A (omega arith) e in
       let z = ap weight (form-step _ _ A (omega arith) e) in
-      (omega arith, ((arena-fewer _ (omega arith) A, arena-fewer _ (omega arith) A), (omega arith, omega arith)))
+      (omega arith, (record { left = arena-fewer _ (omega arith) A; right = arena-fewer _ (omega arith) A }, given .1))
 
   lower-enum-known-always : lower-lts.Need-enum-known-always lower-calls lower-at lower.Post
   lower-enum-known-always c = search needs
@@ -187,11 +193,12 @@ module _ (t : ℕ) where
   lower-timed-requires : lower-lts.Need-timed-requires lower-calls lower-at lower.Post
   unfolding weight
   lower-timed-requires c κs =
-      let A = c .before .before .before .before .before .before .before .before .pre .1 .0 in
+      let given = c .before .before .before .before .before .before .before .before .pre .1 in
+      let A = given .0 in
       let e = sym (c .before .before .before .before .before .node-at .ensures) ∙ c .before .before .before .always .given .1 in
       let R = right-step _ _ A (omega arith) e in
       let z = ap weight (form-step _ _ A (omega arith) e) in
-      (omega arith, (arena-fewer _ (omega arith) A, ((omega arith, omega arith), (omega arith, omega arith))))
+      (omega arith, (arena-fewer _ (omega arith) A, (record { low = R .1; high = R .2 }, given .1)))
 
   lower-enum-known-row-2 : lower-lts.Need-enum-known-row-2 lower-calls lower-at lower.Post
   lower-enum-known-row-2 c = search needs
@@ -243,25 +250,25 @@ module _ (t : ℕ) where
   pair-enum-told c = search needs
 
   pair-join-requires : pair-lts.Need-join-requires pair-calls pair-at pair.Post
-  pair-join-requires c κs = (omega arith, (c .before .before .before .before .before .pre .1 .0, (omega arith, omega arith)))
+  pair-join-requires c κs = (omega arith, c .before .before .before .before .before .pre .1)
 
   pair-enum-told-2 : pair-lts.Need-enum-told-2 pair-calls pair-at pair.Post
   pair-enum-told-2 c = search needs
 
   pair-join-requires-2 : pair-lts.Need-join-requires-2 pair-calls pair-at pair.Post
-  pair-join-requires-2 c κs = (omega arith, (c .before .before .before .before .before .pre .1 .0, (omega arith, omega arith)))
+  pair-join-requires-2 c κs = (omega arith, c .before .before .before .before .before .pre .1)
 
   pair-enum-told-3 : pair-lts.Need-enum-told-3 pair-calls pair-at pair.Post
   pair-enum-told-3 c = search needs
 
   pair-join-requires-3 : pair-lts.Need-join-requires-3 pair-calls pair-at pair.Post
-  pair-join-requires-3 c κs = (omega arith, (c .before .before .before .before .before .pre .1 .0, (omega arith, omega arith)))
+  pair-join-requires-3 c κs = (omega arith, c .before .before .before .before .before .pre .1)
 
   pair-enum-told-4 : pair-lts.Need-enum-told-4 pair-calls pair-at pair.Post
   pair-enum-told-4 c = search needs
 
   pair-same-requires : pair-lts.Need-same-requires pair-calls pair-at pair.Post
-  pair-same-requires c κs = (omega arith, (c .before .before .before .before .before .pre .1 .0, (omega arith, omega arith)))
+  pair-same-requires c κs = (omega arith, c .before .before .before .before .before .pre .1)
 
   pair-same-length : pair-lts.Need-same-length pair-calls pair-at pair.Post
   pair-same-length c = search needs
@@ -288,7 +295,7 @@ module _ (t : ℕ) where
   pair-returns-4 c = rw (c .before .before .before .before .enum-told4 .given .1) (c .before .before .same .ensures)
 
   same-join-requires : same-lts.Need-join-requires same-calls same-at same.Post
-  same-join-requires c κs = (omega arith, (c .before .before .before .pre .1 .0, (omega arith, omega arith)))
+  same-join-requires c κs = (omega arith, c .before .before .before .pre .1)
 
   same-enum-known-a : same-lts.Need-enum-known-a same-calls same-at same.Post
   same-enum-known-a c = search needs
@@ -305,7 +312,8 @@ module _ (t : ℕ) where
   same-join-requires-2 : same-lts.Need-join-requires-2 same-calls same-at same.Post
   same-join-requires-2 c κs =
       let R = went _ _ _ _ _ (c .before .before .before .before .before .before .join .ensures) _ _ (c .before .before .a .given .1) in
-      (omega arith, ((c .before .before .before .before .before .before .before .before .before .before .pre .1 .0 .1, c .before .before .before .before .before .before .before .before .before .before .pre .1 .0 .0), (omega arith, omega arith)))
+      let given = c .before .before .before .before .before .before .before .before .before .before .pre .1 in
+      (omega arith, (record { left = given .0 .right; right = given .0 .left }, buffer-on (given .1) (R .room) (R .long)))
 
   same-enum-known-b : same-lts.Need-enum-known-b same-calls same-at same.Post
   same-enum-known-b c = search needs
@@ -326,7 +334,7 @@ module _ (t : ℕ) where
   same-push-row-requires c κs =
       let R = went _ _ _ _ _ (c .before .before .before .before .before .before .before .before .before .before .before .before .before .before .join .ensures) _ _ (c .before .before .before .before .before .before .before .before .before .before .a .given .1) in
       let S = went _ _ _ _ _ (c .before .before .before .before .before .before .before .join2 .ensures) _ _ (c .before .before .before .b .given .1) in
-      (omega arith, omega arith)
+      record { few = omega arith; used-in = omega arith }
 
   same-same-length-3 : same-lts.Need-same-length-3 same-calls same-at same.Post
   same-same-length-3 c = search needs
@@ -337,7 +345,7 @@ module _ (t : ℕ) where
       (rw (c .before .before .before .before .gate-word .ensures) at (c .before .before .push-row .ensures))
 
   timed-lower-requires : timed-lts.Need-lower-requires timed-calls timed-at timed.Post
-  timed-lower-requires c κs = (omega arith, (c .before .before .before .pre .1 .0, (omega arith, omega arith)))
+  timed-lower-requires c κs = let given = c .before .before .before .pre .1 in (omega arith, (given .0, given .1 .1))
 
   timed-enum-known-top : timed-lts.Need-enum-known-top timed-calls timed-at timed.Post
   timed-enum-known-top c = search needs
@@ -354,7 +362,8 @@ module _ (t : ℕ) where
   timed-spread-requires : timed-lts.Need-spread-requires timed-calls timed-at timed.Post
   timed-spread-requires c κs =
       let R = went _ _ _ _ _ (c .before .before .before .before .before .before .lower .ensures) _ _ (c .before .before .top .given .1) in
-      (c .before .before .before .before .before .before .before .before .before .before .pre .1 .1 .0, (omega arith, omega arith))
+      let given = c .before .before .before .before .before .before .before .before .before .before .pre .1 .1 in
+      (given .0, buffer-on (given .1) (R .room) (R .long))
 
   timed-same-length-2 : timed-lts.Need-same-length-2 timed-calls timed-at timed.Post
   timed-same-length-2 c = search needs

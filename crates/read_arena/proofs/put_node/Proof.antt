@@ -4,13 +4,14 @@ use native.Mathlib.Omega.{arith}
 use native.Mathlib.Numerals.{towards-suc}
 use lib.ListN.{length-set}
 use Rattle.read_arena.specs.Nodes.{putNode}
+use Rattle.read_arena.specs.Readings.{twoBytes}
 use Rattle.read_arena.proofs.Puts.{right-later}
 use borrow.Author.Needs.{needs}
 use Rattle.read_arena.proofs.put_node.Statement.{statement}
 use Rattle.read_arena.proofs.put_node.Tie as tie
 
 code-of-requires : tie.Need-code-of-requires
-code-of-requires c κs = right-later (c .before .args .node) (c .before .args .count) 65536 (omega arith) (c .before .pre .1)
+code-of-requires c κs = right-later (c .before .args .node) (c .before .args .count) twoBytes (omega arith) (c .before .pre .1)
 
 mul-at : tie.Need-mul-at
 mul-at c = search needs

@@ -2,7 +2,7 @@
 use mathlib.Core.Path.{_≡_}
 use native.Mathlib.Omega.{arith}
 use lib.ListN.{getD}
-use Rattle.lower_rows.proofs.Runs.{fits, spread-full, spread-then}
+use Rattle.lower_rows.proofs.Runs.{fits, buffer-on, spread-full, spread-then}
 use borrow.Author.Needs.{needs}
 use Rattle.lower_rows.proofs.interval.spread.Statement.{statement}
 use Rattle.lower_rows.proofs.interval.spread.Tie as tie
@@ -16,7 +16,7 @@ add-count c = search needs
 write-looks-requires : tie.Need-write-looks-requires
 write-looks-requires c κs =
     let run = c .before .before .offsets-from .ensures in
-    (omega arith, ((omega arith, omega arith), λ i h. omega (arith, run 0 (omega arith), run i (omega arith))))
+    (omega arith, (c .before .before .before .before .pre .1, λ i h. omega (arith, run 0 (omega arith), run i (omega arith))))
 
 enum-known-next : tie.Need-enum-known-next
 enum-known-next c = search needs
@@ -36,7 +36,7 @@ returns c =
 write-gates-requires : tie.Need-write-gates-requires
 write-gates-requires c κs =
     let R = fits _ _ _ _ _ _ _ _ (c .before .before .next .given .1) (c .before .before .before .before .before .before .write-looks .ensures) in
-    ((omega arith, omega arith), (omega arith, omega arith))
+    ((omega arith, omega arith), buffer-on (c .before .before .before .before .before .before .before .before .before .before .before .pre .1) (R .room) (R .long))
 
 same-length-2 : tie.Need-same-length-2
 same-length-2 c = search needs

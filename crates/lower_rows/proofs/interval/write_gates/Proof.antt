@@ -5,6 +5,7 @@ use Prim.Native.Nat.{_-_, _≤_}
 use native.Mathlib.Omega.{arith}
 use lib.ListN.{length, length-set}
 use lib.Seq.{sets}
+use Rattle.spec_limits.specs.Limits.{mostRows}
 use Rattle.lower_rows.specs.Words.{word}
 use Rattle.lower_rows.specs.Writes.{gates, lastGate}
 use Rattle.lower_rows.proofs.Runs.{run-step, run-none, run-done, run-full, gates-start, gates-next, last-next, gate-row}
@@ -12,7 +13,7 @@ use Rattle.lower_rows.proofs.interval.write_gates.Statement.{statement}
 use Rattle.lower_rows.proofs.interval.write_gates.Tie as tie
 
 abbrev Inv-loop : tie.InvT-loop
-Inv-loop gate first n out₀ used last₀ i₀ out last i = (i ≤ n) × (length out ≡ length out₀) × (last ≤ 1024) × (last ≡ lastGate first used i) × (out ≡ sets out₀ used (map word (gates gate first used i)))
+Inv-loop gate first n out₀ used last₀ i₀ out last i = (i ≤ n) × (length out ≡ length out₀) × (last ≤ mostRows) × (last ≡ lastGate first used i) × (out ≡ sets out₀ used (map word (gates gate first used i)))
 
 abbrev μ-loop : tie.MeasureT-loop
 μ-loop gate first n out₀ used last₀ i₀ out last i = n - i

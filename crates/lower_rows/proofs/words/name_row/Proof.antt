@@ -18,7 +18,7 @@ push-row-requires c κs = search needs
 
 returns : tie.Need-returns
 unfolding Lowers
-returns c = rw (c .if1 .taken) (nothing _ _ _ (c .before .before .pre .1))
+returns c = rw (c .if1 .taken) (nothing _ _ _ (c .before .before .pre .used-in))
 
 same-length : tie.Need-same-length
 same-length c = search needs
