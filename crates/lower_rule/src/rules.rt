@@ -4,13 +4,13 @@ use lower_formula::lower;
 use lower_rows::words::Lowered;
 use read_arena::Node;
 use read_arena::node_at;
-ghost use mathlib.Core.Path.{_≡_};
 ghost use mathlib.Core.List.{[], _∷_, _++_};
 ghost use Prim.Native.Nat.{_+_, _≤_, _<_};
 ghost use lib.ListN.{length};
 ghost use Rattle.spec_tilco.specs.Lowering.{lows};
-ghost use Rattle.read_arena.specs.Readings.{formAt, definingsAt, Arena};
-ghost use Rattle.lower_rule.specs.Rules.{LowersAll};
+ghost use Rattle.read_arena.specs.Readings.{formAt, definingsAt, NodeIn, NodesIn};
+ghost use Rattle.lower_rows.specs.Writes.{RowBuffer};
+ghost use Rattle.lower_rule.specs.Rules.{buffers, RuleIn, wholeAt, LowersAll};
 
 // The tops and rows in use after several formulas; or there is no room.
 pub enum AllLowered {
@@ -27,10 +27,10 @@ pub fn lower_rule(
     out: &mut [u64],
     used: usize,
 ) -> AllLowered
-    requires { ⌜ Arena (node + 1) (now arena) ⌝ }
+    requires { ⌜ NodeIn (now arena) node ⌝ }
     requires { ⌜ at < length (now tops) ⌝ }
-    requires { ⌜ (length (now out) ≤ 1024) × (used ≤ length (now out)) ⌝ }
-    ensures { λ r. ⌜ LowersAll (lows (formAt (now (arena .entry)) node ∷ [])) used (now (out .entry)) (now (out .exit)) at (now (tops .entry)) (now (tops .exit)) r ⌝ }
+    requires { ⌜ RowBuffer (now out) used ⌝ }
+    ensures { λ r. ⌜ LowersAll (lows (formAt (now (arena .entry)) node ∷ [])) used at (buffers (now (out .entry)) (now (tops .entry))) (buffers (now (out .exit)) (now (tops .exit))) r ⌝ }
 {
     let Lowered::Top { row, used: next } = lower(arena, node, true, out, used) else {
         return AllLowered::Full;
@@ -52,10 +52,10 @@ pub fn lower_definings(
     out: &mut [u64],
     used: usize,
 ) -> AllLowered
-    requires { ⌜ Arena (node + 1) (now arena) ⌝ }
+    requires { ⌜ NodeIn (now arena) node ⌝ }
     requires { ⌜ at + length (definingsAt (now arena) node) ≤ length (now tops) ⌝ }
-    requires { ⌜ (length (now out) ≤ 1024) × (used ≤ length (now out)) ⌝ }
-    ensures { λ r. ⌜ LowersAll (lows (definingsAt (now (arena .entry)) node)) used (now (out .entry)) (now (out .exit)) at (now (tops .entry)) (now (tops .exit)) r ⌝ }
+    requires { ⌜ RowBuffer (now out) used ⌝ }
+    ensures { λ r. ⌜ LowersAll (lows (definingsAt (now (arena .entry)) node)) used at (buffers (now (out .entry)) (now (tops .entry))) (buffers (now (out .exit)) (now (tops .exit))) r ⌝ }
 {
     match node_at(arena, node) {
         Node::Name(_) => AllLowered::Next { at, used },
@@ -86,10 +86,10 @@ fn both_definings(
     out: &mut [u64],
     used: usize,
 ) -> AllLowered
-    requires { ⌜ Arena (left + 1) (now arena) × Arena (right + 1) (now arena) ⌝ }
+    requires { ⌜ NodesIn (now arena) left right ⌝ }
     requires { ⌜ at + length (definingsAt (now arena) left ++ definingsAt (now arena) right) ≤ length (now tops) ⌝ }
-    requires { ⌜ (length (now out) ≤ 1024) × (used ≤ length (now out)) ⌝ }
-    ensures { λ r. ⌜ LowersAll (lows (definingsAt (now (arena .entry)) left ++ definingsAt (now (arena .entry)) right)) used (now (out .entry)) (now (out .exit)) at (now (tops .entry)) (now (tops .exit)) r ⌝ }
+    requires { ⌜ RowBuffer (now out) used ⌝ }
+    ensures { λ r. ⌜ LowersAll (lows (definingsAt (now (arena .entry)) left ++ definingsAt (now (arena .entry)) right)) used at (buffers (now (out .entry)) (now (tops .entry))) (buffers (now (out .exit)) (now (tops .exit))) r ⌝ }
 {
     let AllLowered::Next {
         at: free,
@@ -111,10 +111,10 @@ pub fn lower_whole_rule(
     out: &mut [u64],
     used: usize,
 ) -> AllLowered
-    requires { ⌜ Arena (node + 1) (now arena) × (length (definingsAt (now arena) node) ≡ hidden) ⌝ }
+    requires { ⌜ RuleIn (now arena) node hidden ⌝ }
     requires { ⌜ at + 1 + hidden ≤ length (now tops) ⌝ }
-    requires { ⌜ (length (now out) ≤ 1024) × (used ≤ length (now out)) ⌝ }
-    ensures { λ r. ⌜ LowersAll (lows (formAt (now (arena .entry)) node ∷ definingsAt (now (arena .entry)) node)) used (now (out .entry)) (now (out .exit)) at (now (tops .entry)) (now (tops .exit)) r ⌝ }
+    requires { ⌜ RowBuffer (now out) used ⌝ }
+    ensures { λ r. ⌜ LowersAll (wholeAt (now (arena .entry)) node) used at (buffers (now (out .entry)) (now (tops .entry))) (buffers (now (out .exit)) (now (tops .exit))) r ⌝ }
 {
     let r = lower_rule(arena, node, tops, at, out, used);
     if hidden == 0 {

@@ -4,6 +4,7 @@ use Prim.Native.Nat.{ℕ, _+_, _*_, _<_, max}
 use Rattle.read_arena.proofs.Puts.{arena-fewer}
 use Rattle.read_arena.proofs.Read.{definings-step, right-step}
 use Rattle.read_arena.specs.Readings.{definingsAt}
+use Rattle.lower_rows.proofs.Runs.{buffer-on}
 use Rattle.lower_rule.proofs.InTurn.{went-all, all-none, all-full, all-then, rules-full, rules-then, rules-tops}
 use borrow.Author.Needs.{needs}
 use lib.ListN.{length, length-append}
@@ -52,7 +53,7 @@ module _ (t : ℕ) where
   both-definings-lower-definings-requires c κs =
       let s = c .before .before .before .before .before .args in
       let n = length-append (definingsAt (s .arena .now) (s .left)) (definingsAt (s .arena .now) (s .right)) in
-      (omega arith, (search needs, (omega arith, (omega arith, omega arith))))
+      (omega arith, (search needs, (omega arith, search needs)))
 
   both-definings-enum-known-free : both-definings-lts.Need-enum-known-free both-definings-calls both-definings-at both-definings.Post
   both-definings-enum-known-free c = search needs
@@ -69,15 +70,16 @@ module _ (t : ℕ) where
   both-definings-returns : both-definings-lts.Need-returns both-definings-calls both-definings-at both-definings.Post
   both-definings-returns c =
       let s = c .before .before .before .before .before .before .before .before .before .before .before .before .args in
-      rules-full (definingsAt (s .arena .now) (s .left)) (definingsAt (s .arena .now) (s .right)) _ _ _ _ _ _ _ (c .before .before .before .before .before .before .lower-definings .ensures) _ (c .enum-told .given .1)
+      rules-full (definingsAt (s .arena .now) (s .left)) (definingsAt (s .arena .now) (s .right)) _ _ _ _ _ (c .before .before .before .before .before .before .lower-definings .ensures) _ (c .enum-told .given .1)
 
   both-definings-lower-definings-requires-2 : both-definings-lts.Need-lower-definings-requires-2 both-definings-calls both-definings-at both-definings.Post
   both-definings-lower-definings-requires-2 c κs =
       let s = c .before .before .before .before .before .before .before .before .before .before .before .before .before .before .before .args in
+      let given = c .before .before .before .before .before .before .before .before .before .before .before .before .before .before .before .pre .1 in
       let w = c .before .before .before .before .before .before .before .before .before .lower-definings .ensures in
-      let W = went-all _ _ _ _ _ _ _ _ w _ _ (c .before .before .before .free .given .1) in
-      let n = rules-tops (definingsAt (s .arena .now) (s .left)) (definingsAt (s .arena .now) (s .right)) _ _ _ _ _ _ _ w _ _ (c .before .before .before .free .given .1) _ (c .before .before .before .before .before .before .before .before .before .before .before .before .before .before .before .pre .1 .1 .0) in
-      (omega arith, (c .before .before .before .before .before .before .before .before .before .before .before .before .before .before .before .pre .1 .0 .1, (omega arith, (omega arith, omega arith))))
+      let W = went-all _ _ _ _ _ _ w _ _ (c .before .before .before .free .given .1) in
+      let n = rules-tops (definingsAt (s .arena .now) (s .left)) (definingsAt (s .arena .now) (s .right)) _ _ _ _ _ w _ _ (c .before .before .before .free .given .1) _ (given .1 .0) in
+      (omega arith, (given .0 .right, (omega arith, buffer-on (given .1 .1) (W .room) (W .long))))
 
   both-definings-same-length-3 : both-definings-lts.Need-same-length-3 both-definings-calls both-definings-at both-definings.Post
   both-definings-same-length-3 c = search needs
@@ -88,7 +90,7 @@ module _ (t : ℕ) where
   both-definings-returns-2 : both-definings-lts.Need-returns-2 both-definings-calls both-definings-at both-definings.Post
   both-definings-returns-2 c =
       let s = c .before .before .before .before .before .before .before .before .before .before .before .before .before .before .before .before .before .before .before .before .args in
-      rules-then (definingsAt (s .arena .now) (s .left)) (definingsAt (s .arena .now) (s .right)) _ _ _ _ _ _ _ (c .before .before .before .before .before .before .before .before .before .before .before .before .before .before .lower-definings .ensures) _ _ (c .before .before .before .before .before .before .before .before .free .given .1) _ _ _ (c .before .before .before .before .lower-definings2 .ensures)
+      rules-then (definingsAt (s .arena .now) (s .left)) (definingsAt (s .arena .now) (s .right)) _ _ _ _ _ (c .before .before .before .before .before .before .before .before .before .before .before .before .before .before .lower-definings .ensures) _ _ (c .before .before .before .before .before .before .before .before .free .given .1) _ _ (c .before .before .before .before .lower-definings2 .ensures)
 
   lower-definings-node-at-requires : lower-definings-lts.Need-node-at-requires lower-definings-calls lower-definings-at lower-definings.Post
   lower-definings-node-at-requires c κs = search needs
@@ -101,33 +103,36 @@ module _ (t : ℕ) where
 
   lower-definings-lower-definings-requires : lower-definings-lts.Need-lower-definings-requires lower-definings-calls lower-definings-at lower-definings.Post
   lower-definings-lower-definings-requires c κs =
-      let A = c .before .before .before .before .before .before .before .before .before .pre .1 .0 in
+      let given = c .before .before .before .before .before .before .before .before .before .pre .1 in
+      let A = given .0 in
       let e = sym (c .before .before .before .before .before .node-at .ensures) ∙ c .before .before .before .x .given .1 in
       let R = right-step _ _ A (omega arith) e in
       let z = ap length (definings-step _ _ A (omega arith) e) in
-      (omega arith, (arena-fewer _ (omega arith) A, (omega arith, (omega arith, omega arith))))
+      (omega arith, (arena-fewer _ (omega arith) A, (omega arith, given .1 .1)))
 
   lower-definings-enum-known-x-2 : lower-definings-lts.Need-enum-known-x-2 lower-definings-calls lower-definings-at lower-definings.Post
   lower-definings-enum-known-x-2 c = search needs
 
   lower-definings-both-definings-requires : lower-definings-lts.Need-both-definings-requires lower-definings-calls lower-definings-at lower-definings.Post
   lower-definings-both-definings-requires c κs =
-      let A = c .before .before .before .before .before .before .before .before .before .pre .1 .0 in
+      let given = c .before .before .before .before .before .before .before .before .before .pre .1 in
+      let A = given .0 in
       let e = sym (c .before .before .before .before .before .node-at .ensures) ∙ c .before .before .before .x2 .given .1 in
       let R = right-step _ _ A (omega arith) e in
       let z = ap length (definings-step _ _ A (omega arith) e) in
-      (omega arith, ((arena-fewer _ (omega arith) A, arena-fewer _ (omega arith) A), (omega arith, (omega arith, omega arith))))
+      (omega arith, (record { left = arena-fewer _ (omega arith) A; right = arena-fewer _ (omega arith) A }, (omega arith, given .1 .1)))
 
   lower-definings-enum-known-x-3 : lower-definings-lts.Need-enum-known-x-3 lower-definings-calls lower-definings-at lower-definings.Post
   lower-definings-enum-known-x-3 c = search needs
 
   lower-definings-lower-definings-requires-2 : lower-definings-lts.Need-lower-definings-requires-2 lower-definings-calls lower-definings-at lower-definings.Post
   lower-definings-lower-definings-requires-2 c κs =
-      let A = c .before .before .before .before .before .before .before .before .before .pre .1 .0 in
+      let given = c .before .before .before .before .before .before .before .before .before .pre .1 in
+      let A = given .0 in
       let e = sym (c .before .before .before .before .before .node-at .ensures) ∙ c .before .before .before .x3 .given .1 in
       let R = right-step _ _ A (omega arith) e in
       let z = ap length (definings-step _ _ A (omega arith) e) in
-      (omega arith, (arena-fewer _ (omega arith) A, (omega arith, (omega arith, omega arith))))
+      (omega arith, (arena-fewer _ (omega arith) A, (omega arith, given .1 .1)))
 
   lower-definings-enum-known-x-4 : lower-definings-lts.Need-enum-known-x-4 lower-definings-calls lower-definings-at lower-definings.Post
   lower-definings-enum-known-x-4 c = search needs
@@ -142,11 +147,12 @@ module _ (t : ℕ) where
 
   lower-definings-lower-rule-requires : lower-definings-lts.Need-lower-rule-requires lower-definings-calls lower-definings-at lower-definings.Post
   lower-definings-lower-rule-requires c κs =
-      let A = c .before .before .before .before .before .before .before .before .before .pre .1 .0 in
+      let given = c .before .before .before .before .before .before .before .before .before .pre .1 in
+      let A = given .0 in
       let e = sym (c .before .before .before .before .before .node-at .ensures) ∙ c .before .before .before .x4 .given .1 in
       let R = right-step _ _ A (omega arith) e in
       let z = ap length (definings-step _ _ A (omega arith) e) in
-      (arena-fewer _ (omega arith) A, (omega arith, (omega arith, omega arith)))
+      (arena-fewer _ (omega arith) A, (omega arith, given .1 .1))
 
   lower-definings-enum-known-free : lower-definings-lts.Need-enum-known-free lower-definings-calls lower-definings-at lower-definings.Post
   lower-definings-enum-known-free c = search needs
@@ -163,21 +169,22 @@ module _ (t : ℕ) where
   lower-definings-returns : lower-definings-lts.Need-returns lower-definings-calls lower-definings-at lower-definings.Post
   lower-definings-returns c =
       let e = sym (c .before .before .before .before .before .before .before .before .before .before .before .before .node-at .ensures) ∙ c .before .before .before .before .before .before .before .before .before .before .x4 .given .1 in
-      rw (definings-step _ _ (c .before .before .before .before .before .before .before .before .before .before .before .before .before .before .before .before .pre .1 .0) (omega arith) e) (all-full (_ ∷ []) _ _ _ _ _ _ _ _ (c .before .before .before .before .before .before .lower-rule .ensures) _ (c .enum-told2 .given .1))
+      rw (definings-step _ _ (c .before .before .before .before .before .before .before .before .before .before .before .before .before .before .before .before .pre .1 .0) (omega arith) e) (all-full (_ ∷ []) _ _ _ _ _ _ (c .before .before .before .before .before .before .lower-rule .ensures) _ (c .enum-told2 .given .1))
 
   lower-definings-both-definings-requires-2 : lower-definings-lts.Need-both-definings-requires-2 lower-definings-calls lower-definings-at lower-definings.Post
   lower-definings-both-definings-requires-2 c κs =
-      let A = c .before .before .before .before .before .before .before .before .before .before .before .before .before .before .before .before .before .before .before .pre .1 .0 in
+      let given = c .before .before .before .before .before .before .before .before .before .before .before .before .before .before .before .before .before .before .before .pre .1 in
+      let A = given .0 in
       let e = sym (c .before .before .before .before .before .before .before .before .before .before .before .before .before .before .before .node-at .ensures) ∙ c .before .before .before .before .before .before .before .before .before .before .before .before .before .x4 .given .1 in
       let R = right-step _ _ A (omega arith) e in
       let z = ap length (definings-step _ _ A (omega arith) e) in
-      let W = went-all _ _ _ _ _ _ _ _ (c .before .before .before .before .before .before .before .before .before .lower-rule .ensures) _ _ (c .before .before .before .free .given .1) in
-      (omega arith, ((arena-fewer _ (omega arith) A, arena-fewer _ (omega arith) A), (omega arith, (omega arith, omega arith))))
+      let W = went-all _ _ _ _ _ _ (c .before .before .before .before .before .before .before .before .before .lower-rule .ensures) _ _ (c .before .before .before .free .given .1) in
+      (omega arith, (record { left = arena-fewer _ (omega arith) A; right = arena-fewer _ (omega arith) A }, (omega arith, buffer-on (given .1 .1) (W .room) (W .long))))
 
   lower-definings-returns-2 : lower-definings-lts.Need-returns-2 lower-definings-calls lower-definings-at lower-definings.Post
   lower-definings-returns-2 c =
       let e = sym (c .before .before .node-at .ensures) ∙ c .enum-told .given .1 in
-      rw (definings-step _ _ (c .before .before .before .before .before .before .pre .1 .0) (omega arith) e) (all-none _ _ _ _ (c .before .before .before .before .before .before .pre .1 .1 .1 .1))
+      rw (definings-step _ _ (c .before .before .before .before .before .before .pre .1 .0) (omega arith) e) (all-none _ _ _ (c .before .before .before .before .before .before .pre .1 .1 .1 .used-in))
 
   lower-definings-same-length-3 : lower-definings-lts.Need-same-length-3 lower-definings-calls lower-definings-at lower-definings.Post
   lower-definings-same-length-3 c = search needs
@@ -221,7 +228,7 @@ module _ (t : ℕ) where
   lower-definings-returns-6 : lower-definings-lts.Need-returns-6 lower-definings-calls lower-definings-at lower-definings.Post
   lower-definings-returns-6 c =
       let e = sym (c .before .before .before .before .before .before .before .before .before .before .before .before .before .before .before .before .before .before .before .before .node-at .ensures) ∙ c .before .before .before .before .before .before .before .before .before .before .before .before .before .before .before .before .before .before .x4 .given .1 in
-      rw (definings-step _ _ (c .before .before .before .before .before .before .before .before .before .before .before .before .before .before .before .before .before .before .before .before .before .before .before .before .pre .1 .0) (omega arith) e) (all-then (_ ∷ []) _ _ _ _ _ _ _ _ (c .before .before .before .before .before .before .before .before .before .before .before .before .before .before .lower-rule .ensures) _ _ (c .before .before .before .before .before .before .before .before .free .given .1) _ _ _ (c .before .before .before .before .both-definings2 .ensures))
+      rw (definings-step _ _ (c .before .before .before .before .before .before .before .before .before .before .before .before .before .before .before .before .before .before .before .before .before .before .before .before .pre .1 .0) (omega arith) e) (all-then (_ ∷ []) _ _ _ _ _ _ (c .before .before .before .before .before .before .before .before .before .before .before .before .before .before .lower-rule .ensures) _ _ (c .before .before .before .before .before .before .before .before .free .given .1) _ _ (c .before .before .before .before .both-definings2 .ensures))
 
 pub +both-definings+lower-definings-spec : {M : Type 1} → statement M
 +both-definings+lower-definings-spec =

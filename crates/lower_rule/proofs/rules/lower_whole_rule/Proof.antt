@@ -3,6 +3,7 @@ use mathlib.Core.Path.{sym, subst, _∙_}
 use mathlib.Core.List.{[], _∷_}
 use native.Mathlib.Omega.{arith}
 use Rattle.read_arena.specs.Readings.{formAt, definingsAt}
+use Rattle.lower_rows.proofs.Runs.{buffer-on}
 use Rattle.lower_rule.specs.Rules.{LowersAll}
 use Rattle.lower_rule.proofs.InTurn.{went-all, all-full, all-then, one-alone}
 use borrow.Author.Needs.{needs}
@@ -19,7 +20,9 @@ same-length-2 : tie.Need-same-length-2
 same-length-2 c = search needs
 
 returns : tie.Need-returns
-returns c = one-alone (formAt (c .before .before .before .before .before .before .before .before .before .before .before .args .arena .now) (c .before .before .before .before .before .before .before .before .before .before .before .args .node)) (definingsAt (c .before .before .before .before .before .before .before .before .before .before .before .args .arena .now) (c .before .before .before .before .before .before .before .before .before .before .before .args .node)) (c .before .before .before .before .before .before .before .before .before .before .before .pre .0 .1 ∙ c .if1 .taken) _ _ _ _ _ _ _ (c .before .before .before .before .before .lower-rule .ensures)
+returns c =
+    let here = c .before .before .before .before .before .before .before .before .before .before .before in
+    one-alone (formAt (here .args .arena .now) (here .args .node)) (definingsAt (here .args .arena .now) (here .args .node)) (here .pre .0 .hidden ∙ c .if1 .taken) _ _ _ _ _ (c .before .before .before .before .before .lower-rule .ensures)
 
 enum-known-r : tie.Need-enum-known-r
 enum-known-r c = search needs
@@ -34,12 +37,13 @@ same-length-4 : tie.Need-same-length-4
 same-length-4 c = search needs
 
 returns-2 : tie.Need-returns-2
-returns-2 c = let e = c .enum-told .given .1 in subst (LowersAll _ _ _ _ _ _ _) (sym e) (all-full (_ ∷ []) _ _ _ _ _ _ _ _ (c .before .before .before .before .before .before .before .lower-rule .ensures) _ e)
+returns-2 c = let e = c .enum-told .given .1 in subst (LowersAll _ _ _ _ _) (sym e) (all-full (_ ∷ []) _ _ _ _ _ _ (c .before .before .before .before .before .before .before .lower-rule .ensures) _ e)
 
 lower-definings-requires : tie.Need-lower-definings-requires
 lower-definings-requires c κs =
-    let W = went-all _ _ _ _ _ _ _ _ (c .before .before .before .before .before .before .before .before .before .before .lower-rule .ensures) _ _ (c .before .before .before .r .given .1) in
-    (c .before .before .before .before .before .before .before .before .before .before .before .before .before .before .before .before .pre .0 .0, (omega (arith, c .before .before .before .before .before .before .before .before .before .before .before .before .before .before .before .before .pre .0 .1, c .before .before .before .before .before .before .before .before .before .before .before .before .before .before .before .before .pre .1), (omega arith, omega arith)))
+    let W = went-all _ _ _ _ _ _ (c .before .before .before .before .before .before .before .before .before .before .lower-rule .ensures) _ _ (c .before .before .before .r .given .1) in
+    let given = c .before .before .before .before .before .before .before .before .before .before .before .before .before .before .before .before .pre in
+    (given .0 .stands, (omega (arith, given .0 .hidden, given .1 .0), buffer-on (given .1 .1) (W .room) (W .long)))
 
 same-length-5 : tie.Need-same-length-5
 same-length-5 c = search needs
@@ -48,7 +52,7 @@ same-length-6 : tie.Need-same-length-6
 same-length-6 c = search needs
 
 returns-3 : tie.Need-returns-3
-returns-3 c = all-then (_ ∷ []) _ _ _ _ _ _ _ _ (c .before .before .before .before .before .before .before .before .before .before .before .before .before .before .before .lower-rule .ensures) _ _ (c .before .before .before .before .before .before .before .before .r .given .1) _ _ _ (c .before .before .before .before .lower-definings .ensures)
+returns-3 c = all-then (_ ∷ []) _ _ _ _ _ _ (c .before .before .before .before .before .before .before .before .before .before .before .before .before .before .before .lower-rule .ensures) _ _ (c .before .before .before .before .before .before .before .before .r .given .1) _ _ (c .before .before .before .before .lower-definings .ensures)
 
 pub lower-whole-rule-spec : {M : Type 1} → statement M
 lower-whole-rule-spec =
