@@ -6,23 +6,23 @@ use mathlib.Core.List.{List, [], _∷_, _++_, append-nil, map-append}
 use Prim.Native.Nat.{ℕ, _+_, _-_, _<_, _≤_}
 use native.Mathlib.Omega.{arith}
 use lib.ListN.{length}
+use Rattle.spec_limits.specs.Limits.{arenaNumbers}
 use Rattle.spec_tilco.specs.Lists.{total, laid}
 use Rattle.spec_tilco.specs.Formula.{Written, Formula, hiddens, spelled}
 use Rattle.spec_tilco.specs.Lowering.{BTL, lowered, lows}
 use Rattle.spec_tilco.proofs.Lists.{total-append, laid-append}
-use Rattle.read_arena.specs.Readings.{Arena, formAt, definingsAt}
 use Rattle.read_arena.proofs.Puts.{arena-fewer}
-use Rattle.read_sheet.specs.Sheet.{ruleLine, rules}
+use Rattle.read_sheet.specs.Sheet.{ruleLine}
 use Rattle.read_sheet.specs.Reading.{Ready, Rule, Rules}
 use Rattle.read_head.proofs.Signals.{up-to}
 use Rattle.read_sheet.proofs.Ruled.{Passed, passed-none, passed-one, passed-all}
 use Rattle.read_bytes.specs.Read.{Read}
 use Rattle.read_names.specs.Words.{namesAt}
-use Rattle.lower_rule.specs.Rules.{allLoweredSays}
+use Rattle.lower_rule.specs.Rules.{Buffers, RuleIn, wholeAt, allLoweredSays}
 use Rattle.lower_rule.specs.declared.rules.AllLowered.{AllLowered}
 use Rattle.lower_rule.specs.declared.rules.AllLowered.the-variants.{Next}
 use Rattle.lower_rule.proofs.Spelled.{held-definings, held-spelled}
-use Rattle.lower_lines.specs.InTurn.{Legible, spelledAll, Tried, Follows, RulesRead}
+use Rattle.lower_lines.specs.InTurn.{Legible, rulesAt, spelledAll, Tried, Follows, RulesRead}
 use Rattle.lower_lines.specs.InTurn.RulesRead.{read}
 use Rattle.lower_lines.specs.declared.RuleLines.the-variants as lines
 use Rattle.lower_lines.proofs.Trying.{tried-none}
@@ -35,63 +35,89 @@ spelled-more ws w n =
 
 -- A rule that was read into the arena, its hidden signals' rows from x on.
 module _ {a : List ℕ} {x : ℕ} {R : Read Written} {q u y : ℕ} (w : Rule a x R q u y) where
-  -- its node stands in the arena
-  pub node-inside : Arena (u - 1 + 1) a
-  node-inside = arena-fewer (u - 1 + 1) (omega (arith, w .some)) (w .arena)
+  -- its node stands in the arena, with so many defining rules
+  pub rule-in : RuleIn a (u - 1) (y - x)
+  rule-in = record { stands = arena-fewer (u - 1 + 1) (omega (arith, w .some)) (w .arena); hidden = omega (arith, held-definings (w .held), w .next) }
 
-  -- it has so many defining rules
-  pub own-definings : length (definingsAt a (u - 1)) ≡ y - x
-  own-definings = omega (arith, held-definings (w .held), w .next)
+-- The lines of rules that are to be read: the sheet's text, the places of its names, how many lines there are and where the first one
+-- starts; and where they are to be lowered: the first row, and the buffers.
+pub record Lines : Type 0 where
+  pub text : List ℕ
+  pub places : List ℕ
+  pub many : ℕ
+  pub first : ℕ
+  pub base : ℕ
+  pub start : Buffers
 
--- i of the rules are read, up to the place p: these are ws, the next hidden signal's row is x, and r says how far they are lowered.
-pub record Underway (s places : List ℕ) (m first b : ℕ) (l ts : List ℕ) (i p x : ℕ) (r : AllLowered) (ws : List Written) (l′ ts′ : List ℕ) : Type 0 where
-  pub passed : Passed (namesAt s places) s m first i p ws
-  pub row : x ≡ length places + total hiddens ws
-  pub long : length l′ ≡ length l
-  pub wide : length ts′ ≡ length ts
-  pub done : Tried (spelledAll ws (length places)) b l l′ ts ts′ (allLoweredSays r)
+abbrev pub linesOf : List ℕ → List ℕ → ℕ → ℕ → ℕ → Buffers → Lines
+linesOf s ps m p b B = record { text = s; places = ps; many = m; first = p; base = b; start = B }
 
-module _ (s places : List ℕ) (m first b : ℕ) (l ts : List ℕ) where
+-- How far they are read: so many lines, up to a place, and the next hidden signal's row; and how far they are lowered.
+pub record State : Type 0 where
+  pub done : ℕ
+  pub place : ℕ
+  pub row : ℕ
+  pub lowered : AllLowered
+  pub now : Buffers
+
+abbrev pub stateOf : ℕ → ℕ → ℕ → AllLowered → Buffers → State
+stateOf i p x r B = record { done = i; place = p; row = x; lowered = r; now = B }
+
+-- The rules that are read are ws, and they are lowered as far as there was room.
+pub record Underway (o : Lines) (z : State) (ws : List Written) : Type 0 where
+  pub passed : Passed (namesAt (o .text) (o .places)) (o .text) (o .many) (o .first) (z .done) (z .place) ws
+  pub row : z .row ≡ length (o .places) + total hiddens ws
+  pub long : length (z .now .rows) ≡ length (o .start .rows)
+  pub wide : length (z .now .tops) ≡ length (o .start .tops)
+  pub tried : Tried (spelledAll ws (length (o .places))) (o .base) (o .start) (z .now) (allLoweredSays (z .lowered))
+
+module _ (o : Lines) where
+  abbrev names : List (List ℕ)
+  names = namesAt (o .text) (o .places)
+
   -- none is at first
-  pub underway-none : first ≤ length s → b ≤ length l → Underway s places m first b l ts 0 first (length places) (Next 0 b) [] l ts
+  pub underway-none : o .first ≤ length (o .text) → o .base ≤ length (o .start .rows)
+      → Underway o (stateOf 0 (o .first) (length (o .places)) (Next 0 (o .base)) (o .start)) []
   underway-none h k = record {
-    passed = passed-none (namesAt s places) s m first h;
+    passed = passed-none names (o .text) (o .many) (o .first) h;
     row = omega arith;
     long = refl;
     wide = refl;
-    done = tried-none b l ts k;
+    tried = tried-none (o .base) (o .start) k;
   }
 
-  module _ {i p x : ℕ} {r : AllLowered} {ws : List Written} {l′ ts′ : List ℕ} (z : Underway s places m first b l ts i p x r ws l′ ts′) where
+  module _ {z : State} {ws : List Written} (k : Underway o z ws) where
     -- the next line can be read
-    pub line-ready : Legible s places m first → (a : List ℕ) → length a ≡ 1024 → Ready s a places p x
+    pub line-ready : Legible (o .text) (o .places) (o .many) (o .first) → (a : List ℕ) → length a ≡ arenaNumbers → Ready (o .text) a (o .places) (z .place) (z .row)
     line-ready g a e = record {
-      within = z .passed .inside;
-      before = up-to (z .passed .ahead) places (g .before);
+      within = k .passed .inside;
+      before = up-to (k .passed .ahead) (o .places) (g .before);
       few = g .few;
       room = omega (arith, e);
-      rows = omega (arith, z .row, z .passed .few, z .passed .most, g .few, g .most);
+      rows = omega (arith, k .row, k .passed .few, k .passed .most, g .few, g .most);
     }
 
     -- one more is read and lowered
-    pub underway-one : {a : List ℕ} {q u y : ℕ} → i < m → (w : Rule a x (ruleLine (namesAt s places) s p) q u y) → (r′ : AllLowered) (l″ ts″ : List ℕ) → length l″ ≡ length l′ → length ts″ ≡ length ts′
-        → Follows (lows (formAt a (u - 1) ∷ definingsAt a (u - 1))) l′ l″ ts′ ts″ r r′ → Underway s places m first b l ts (i + 1) q y r′ (ws ++ (w .rule ∷ [])) l″ ts″
-    underway-one {a} {q} {u} h w r′ l″ ts″ e f o =
-        let n : ℕ = length places in
+    pub underway-one : {a : List ℕ} {q u y : ℕ} → z .done < o .many → (w : Rule a (z .row) (ruleLine names (o .text) (z .place)) q u y) → (r : AllLowered) (B : Buffers)
+        → length (B .rows) ≡ length (z .now .rows) → length (B .tops) ≡ length (z .now .tops) → Follows (wholeAt a (u - 1)) (z .now) B (z .lowered) r
+        → Underway o (stateOf (z .done + 1) q y r B) (ws ++ (w .rule ∷ []))
+    underway-one {a} {q} {u} h w r B e f follows =
+        let n : ℕ = length (o .places) in
         let v : Written = w .rule in
         let t = total-append hiddens ws (v ∷ []) in
-        let same : lows (formAt a (u - 1) ∷ definingsAt a (u - 1)) ≡ lows (spelled v (n + total hiddens ws)) = ap lows (held-spelled (w .held) ∙ ap (spelled v) (z .row)) in
-        let d = o (spelledAll ws n) b l ts (z .done) in
+        let same : wholeAt a (u - 1) ≡ lows (spelled v (n + total hiddens ws)) = ap lows (held-spelled (w .held) ∙ ap (spelled v) (k .row)) in
+        let d = follows (spelledAll ws n) (o .base) (o .start) (k .tried) in
         record {
-          passed = passed-one (namesAt s places) s m first (z .passed) h (w .reads) (omega (arith, w .few, w .next));
-          row = omega (arith, w .next, z .row, t);
-          long = e ∙ z .long;
-          wide = f ∙ z .wide;
-          done = subst (λ (cs : List BTL). Tried cs b l l″ ts ts″ (allLoweredSays r′)) (ap (λ (cs : List BTL). spelledAll ws n ++ cs) same ∙ sym (spelled-more ws v n)) d;
+          passed = passed-one names (o .text) (o .many) (o .first) (k .passed) h (w .reads) (omega (arith, w .few, w .next));
+          row = omega (arith, w .next, k .row, t);
+          long = e ∙ k .long;
+          wide = f ∙ k .wide;
+          tried = subst (λ (cs : List BTL). Tried cs (o .base) (o .start) B (allLoweredSays r)) (ap (λ (cs : List BTL). spelledAll ws n ++ cs) same ∙ sym (spelled-more ws v n)) d;
         }
 
     -- all are
-    pub underway-all : m ≤ i → RulesRead (rules (namesAt s places) s m first) (length places) b l l′ ts ts′ (lines.Read (x - length places) p r)
+    pub underway-all : o .many ≤ z .done
+        → RulesRead (rulesAt (o .text) (o .places) (o .many) (o .first)) (length (o .places)) (o .base) (o .start) (z .now) (lines.Read (z .row - length (o .places)) (z .place) (z .lowered))
     underway-all h =
-        let w : Rules (rules (namesAt s places) s m first) (x - length places) p = record { all = ws; reads = passed-all (namesAt s places) s m first (z .passed) h; hidden = omega (arith, z .row) } in
-        read w (z .done)
+        let w : Rules (rulesAt (o .text) (o .places) (o .many) (o .first)) (z .row - length (o .places)) (z .place) = record { all = ws; reads = passed-all names (o .text) (o .many) (o .first) (k .passed) h; hidden = omega (arith, k .row) } in
+        read w (k .tried)

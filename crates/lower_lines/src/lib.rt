@@ -4,16 +4,12 @@ use lower_rule::rules::AllLowered;
 use lower_rule::rules::lower_whole_rule;
 use read_parts::parts::Parsed;
 use read_sheet::rules::rule_line;
-ghost use mathlib.Core.Path.{_≡_};
-ghost use mathlib.Core.List.{_∷_};
+use spec_limits::ARENA;
 ghost use Prim.Native.Nat.{_+_, _≤_};
 ghost use lib.ListN.{length};
-ghost use Rattle.read_names.specs.Words.{namesAt};
-ghost use Rattle.spec_tilco.specs.Lowering.{lows};
-ghost use Rattle.read_arena.specs.Readings.{formAt, definingsAt, Arena};
-ghost use Rattle.read_sheet.specs.Sheet.{rules as rulesOf};
-ghost use Rattle.lower_rule.specs.Rules.{allLoweredSays};
-ghost use Rattle.lower_lines.specs.InTurn.{Legible, RoomIn, Follows, RulesRead};
+ghost use Rattle.spec_limits.specs.Limits.{mostHidden};
+ghost use Rattle.lower_rule.specs.Rules.{buffers, RuleIn, wholeAt, allLoweredSays};
+ghost use Rattle.lower_lines.specs.InTurn.{Legible, rulesAt, FullSize, RoomIn, Follows, RulesRead};
 
 // How many hidden signals the rules have, the place after their lines, and how far they are lowered. Or a refusal's number and place.
 pub enum RuleLines {
@@ -34,9 +30,9 @@ fn lower_next(
     out: &mut [u64],
     lowered: AllLowered,
 ) -> AllLowered
-    requires { ⌜ Arena (node + 1) (now arena) × (length (definingsAt (now arena) node) ≡ hidden) ⌝ }
-    requires { ⌜ (length (now out) ≤ 1024) × RoomIn (now out) (now tops) (allLoweredSays lowered) ⌝ }
-    ensures { λ r. ⌜ Follows (lows (formAt (now (arena .entry)) node ∷ definingsAt (now (arena .entry)) node)) (now (out .entry)) (now (out .exit)) (now (tops .entry)) (now (tops .exit)) lowered r ⌝ }
+    requires { ⌜ RuleIn (now arena) node hidden ⌝ }
+    requires { ⌜ RoomIn (buffers (now out) (now tops)) (allLoweredSays lowered) ⌝ }
+    ensures { λ r. ⌜ Follows (wholeAt (now (arena .entry)) node) (buffers (now (out .entry)) (now (tops .entry))) (buffers (now (out .exit)) (now (tops .exit))) lowered r ⌝ }
 {
     let AllLowered::Next { at, used } = lowered else {
         return AllLowered::Full;
@@ -58,11 +54,11 @@ pub fn read_rules(
     tops: &mut [u16],
     out: &mut [u64],
 ) -> RuleLines
-    requires { ⌜ Legible (now s) (now places) m first × (hidden ≤ 32) ⌝ }
-    requires { ⌜ (length (now out) ≡ 1024) × (length (now tops) ≡ 96) ⌝ }
-    ensures { λ r. ⌜ RulesRead (rulesOf (namesAt (now (s .entry)) (now (places .entry))) (now (s .entry)) m first) (length (now (places .entry))) (length (now (places .entry)) + hidden) (now (out .entry)) (now (out .exit)) (now (tops .entry)) (now (tops .exit)) r ⌝ }
+    requires { ⌜ Legible (now s) (now places) m first × (hidden ≤ mostHidden) ⌝ }
+    requires { ⌜ FullSize (buffers (now out) (now tops)) ⌝ }
+    ensures { λ r. ⌜ RulesRead (rulesAt (now (s .entry)) (now (places .entry)) m first) (length (now (places .entry))) (length (now (places .entry)) + hidden) (buffers (now (out .entry)) (now (tops .entry))) (buffers (now (out .exit)) (now (tops .exit))) r ⌝ }
 {
-    let mut arena = [0u16; 1024];
+    let mut arena = [0u16; ARENA];
     let signals = places.len();
     let used = signals + hidden;
     let mut lowered = AllLowered::Next { at: 0, used };

@@ -1,10 +1,10 @@
 -- `lower_next` meets its contract. Assumes nothing.
 use native.Mathlib.Omega.{arith}
 use mathlib.Core.Bool.{true}
-use mathlib.Core.List.{_∷_}
 use lib.ListN.{length-map}
-use Rattle.spec_tilco.specs.Lowering.{lowered, lows}
-use Rattle.read_arena.specs.Readings.{formAt, definingsAt}
+use Rattle.spec_tilco.specs.Lowering.{lowered}
+use Rattle.read_arena.specs.Readings.{definingsAt}
+use Rattle.lower_rule.specs.Rules.{wholeAt}
 use Rattle.lower_lines.proofs.Trying.{room-next, follows-full, follows-over, follows-more}
 use borrow.Author.Needs.{needs}
 use Rattle.lower_lines.proofs.lower_next.Statement.{statement}
@@ -17,16 +17,23 @@ enum-told : tie.Need-enum-told
 enum-told c = search needs
 
 returns : tie.Need-returns
-returns c = follows-full (lows (formAt (c .before .before .before .before .before .args .arena .now) (c .before .before .before .before .before .args .node) ∷ definingsAt (c .before .before .before .before .before .args .arena .now) (c .before .before .before .before .before .args .node))) _ _ _ _ _ (c .enum-told .given .1)
+returns c = let here = c .before .before .before .before .before in follows-full (wholeAt (here .args .arena .now) (here .args .node)) _ _ _ (c .enum-told .given .1)
 
 sub-if1 : tie.Need-sub-if1
-sub-if1 c = let h = room-next _ _ _ (c .before .lowered .given .1) (c .before .before .before .before .before .before .pre .1 .1) in omega (arith, h .0)
+sub-if1 c = let h = room-next _ _ (c .before .lowered .given .1) (c .before .before .before .before .before .before .pre .1) in omega (arith, h .tops-in)
 
 returns-2 : tie.Need-returns-2
-returns-2 c = follows-over (lows (formAt (c .before .before .before .before .before .before .before .args .arena .now) (c .before .before .before .before .before .before .before .args .node) ∷ definingsAt (c .before .before .before .before .before .before .before .args .arena .now) (c .before .before .before .before .before .before .before .args .node))) _ _ _ _ _ (c .before .before .lowered .given .1) (omega (arith, room-next _ _ _ (c .before .before .lowered .given .1) (c .before .before .before .before .before .before .before .pre .1 .1) .0, c .if1 .taken, length-map (definingsAt (c .before .before .before .before .before .before .before .args .arena .now) (c .before .before .before .before .before .before .before .args .node)) (lowered true), c .before .before .before .before .before .before .before .pre .0 .1))
+returns-2 c =
+    let here = c .before .before .before .before .before .before .before in
+    let next = c .before .before .lowered .given .1 in
+    follows-over (wholeAt (here .args .arena .now) (here .args .node)) _ _ _ next
+    (omega (arith, room-next _ _ next (here .pre .1) .tops-in, c .if1 .taken, length-map (definingsAt (here .args .arena .now) (here .args .node)) (lowered true), here .pre .0 .hidden))
 
 lower-whole-rule-requires : tie.Need-lower-whole-rule-requires
-lower-whole-rule-requires c κs = let h = room-next _ _ _ (c .before .before .before .before .lowered .given .1) (c .before .before .before .before .before .before .before .before .before .pre .1 .1) in (c .before .before .before .before .before .before .before .before .before .pre .0, (omega (arith, h .0, c .before .before .if1 .left), (c .before .before .before .before .before .before .before .before .before .pre .1 .0, h .1)))
+lower-whole-rule-requires c κs =
+    let given = c .before .before .before .before .before .before .before .before .before .pre in
+    let h = room-next _ _ (c .before .before .before .before .lowered .given .1) (given .1) in
+    (given .0, (omega (arith, h .tops-in, c .before .before .if1 .left), h .buffer))
 
 same-length : tie.Need-same-length
 same-length c = search needs
@@ -35,7 +42,12 @@ same-length-2 : tie.Need-same-length-2
 same-length-2 c = search needs
 
 returns-3 : tie.Need-returns-3
-returns-3 c = follows-more (lows (formAt (c .before .before .before .before .before .before .before .before .before .before .before .before .before .before .args .arena .now) (c .before .before .before .before .before .before .before .before .before .before .before .before .before .before .args .node) ∷ definingsAt (c .before .before .before .before .before .before .before .before .before .before .before .before .before .before .args .arena .now) (c .before .before .before .before .before .before .before .before .before .before .before .before .before .before .args .node))) _ _ _ _ _ (c .before .before .before .before .before .before .before .before .before .lowered .given .1) (omega (arith, room-next _ _ _ (c .before .before .before .before .before .before .before .before .before .lowered .given .1) (c .before .before .before .before .before .before .before .before .before .before .before .before .before .before .pre .1 .1) .0, c .before .before .before .before .before .before .before .if1 .left, length-map (definingsAt (c .before .before .before .before .before .before .before .before .before .before .before .before .before .before .args .arena .now) (c .before .before .before .before .before .before .before .before .before .before .before .before .before .before .args .node)) (lowered true), c .before .before .before .before .before .before .before .before .before .before .before .before .before .before .pre .0 .1)) _ (c .before .before .before .before .lower-whole-rule .ensures)
+returns-3 c =
+    let here = c .before .before .before .before .before .before .before .before .before .before .before .before .before .before in
+    let next = c .before .before .before .before .before .before .before .before .before .lowered .given .1 in
+    follows-more (wholeAt (here .args .arena .now) (here .args .node)) _ _ _ next
+    (omega (arith, room-next _ _ next (here .pre .1) .tops-in, c .before .before .before .before .before .before .before .if1 .left, length-map (definingsAt (here .args .arena .now) (here .args .node)) (lowered true), here .pre .0 .hidden))
+    _ (c .before .before .before .before .lower-whole-rule .ensures)
 
 pub lower-next-spec : {M : Type 1} → statement M
 lower-next-spec =

@@ -4,18 +4,20 @@ use Prim.Native.Nat.{_-_}
 use mathlib.Core.Path.{_≡_, refl}
 use mathlib.Core.List.{List, []}
 use lib.ListN.{length}
+use Rattle.spec_limits.specs.Limits.{arenaNumbers}
 use Rattle.spec_tilco.specs.Formula.{Written}
+use Rattle.lower_rule.specs.Rules.{buffers}
 use Rattle.read_sheet.proofs.Ruled.{passed-off}
 use Rattle.read_sheet.proofs.Answers.{when-rule, when-no-rule}
 use Rattle.lower_lines.specs.InTurn.RulesRead.{refused-at}
 use Rattle.lower_lines.proofs.Trying.{tried-room}
-use Rattle.lower_lines.proofs.Underway.{node-inside, own-definings, Underway, underway-none, line-ready, underway-one, underway-all}
+use Rattle.lower_lines.proofs.Underway.{rule-in, linesOf, stateOf, Underway, underway-none, line-ready, underway-one, underway-all}
 use borrow.Author.Needs.{needs}
 use Rattle.lower_lines.proofs.read_rules.Statement.{statement}
 use Rattle.lower_lines.proofs.read_rules.Tie as tie
 
 abbrev Inv-loop : tie.InvT-loop
-Inv-loop s places m first hidden tops₀ out₀ arena₀ signals used lowered₀ i₀ place₀ row₀ tops out arena lowered i place row = (ws : List Written) × Underway s places m first used out₀ tops₀ i place row lowered ws out tops × (length arena ≡ 1024)
+Inv-loop s places m first hidden tops₀ out₀ arena₀ signals used lowered₀ i₀ place₀ row₀ tops out arena lowered i place row = (ws : List Written) × Underway (linesOf s places m first used (buffers out₀ tops₀)) (stateOf i place row lowered (buffers out tops)) ws × (length arena ≡ arenaNumbers)
 
 abbrev μ-loop : tie.MeasureT-loop
 μ-loop s places m first hidden tops₀ out₀ arena₀ signals used lowered₀ i₀ place₀ row₀ tops out arena lowered i place row = m - i
@@ -24,13 +26,13 @@ add-used : tie.Need-add-used Inv-loop μ-loop
 add-used c = omega (arith, c .before .before .before .before .pre .0 .0 .few)
 
 loop-holds : tie.Need-loop-holds Inv-loop μ-loop
-loop-holds c = ([], underway-none _ _ _ _ _ _ _ (c .before .before .before .before .pre .0 .0 .within) (omega (arith, c .before .before .before .before .pre .0 .0 .few)), refl)
+loop-holds c = ([], underway-none _ (c .before .before .before .before .pre .0 .0 .within) (omega (arith, c .before .before .before .before .pre .0 .0 .few)), refl)
 
 slice-aggregate-rule-line : tie.Need-slice-aggregate-rule-line Inv-loop μ-loop
 slice-aggregate-rule-line c = search needs
 
 rule-line-requires : tie.Need-rule-line-requires Inv-loop μ-loop
-rule-line-requires c κs = line-ready _ _ _ _ _ _ _ (c .before .before .loop .inv .1) (c .before .before .before .before .before .before .before .pre .0 .0) _ (c .before .before .loop .inv .2)
+rule-line-requires c κs = line-ready _ (c .before .before .loop .inv .1) (c .before .before .before .before .before .before .before .pre .0 .0) _ (c .before .before .loop .inv .2)
 
 enum-known-r : tie.Need-enum-known-r Inv-loop μ-loop
 enum-known-r c = search needs
@@ -45,7 +47,7 @@ slice-aggregate-lower-next : tie.Need-slice-aggregate-lower-next Inv-loop μ-loo
 slice-aggregate-lower-next c = search needs
 
 lower-next-requires : tie.Need-lower-next-requires Inv-loop μ-loop
-lower-next-requires c κs = let w = (when-rule (c .before .before .before .before .before .before .before .rule-line .ensures) (c .before .before .before .before .r .given .1)) in ((node-inside w, own-definings w), (omega (arith, (c .before .before .before .before .before .before .before .before .before .before .loop .inv .1) .long), tried-room ((c .before .before .before .before .before .before .before .before .before .before .loop .inv .1) .done)))
+lower-next-requires c κs = let w = (when-rule (c .before .before .before .before .before .before .before .rule-line .ensures) (c .before .before .before .before .r .given .1)) in let k = c .before .before .before .before .before .before .before .before .before .before .loop .inv .1 in (rule-in w, tried-room (omega (arith, k .long)) (k .tried))
 
 add-i : tie.Need-add-i Inv-loop μ-loop
 add-i c = search needs
@@ -54,7 +56,7 @@ loop-less : tie.Need-loop-less Inv-loop μ-loop
 loop-less c = search needs
 
 loop-again : tie.Need-loop-again Inv-loop μ-loop
-loop-again c = (_, underway-one _ _ _ _ _ _ _ (c .before .before .before .before .before .before .before .before .before .before .before .before .before .before .before .loop .inv .1) (c .before .before .before .before .before .before .before .before .before .before .before .before .before .before .loop-test .taken) (when-rule (c .before .before .before .before .before .before .before .before .before .before .before .before .rule-line .ensures) (c .before .before .before .before .before .before .before .before .before .r .given .1)) _ _ _ (omega arith) (omega arith) (c .before .before .before .before .lower-next .ensures), omega arith)
+loop-again c = (_, underway-one _ (c .before .before .before .before .before .before .before .before .before .before .before .before .before .before .before .loop .inv .1) (c .before .before .before .before .before .before .before .before .before .before .before .before .before .before .loop-test .taken) (when-rule (c .before .before .before .before .before .before .before .before .before .before .before .before .rule-line .ensures) (c .before .before .before .before .before .before .before .before .before .r .given .1)) _ _ (omega arith) (omega arith) (c .before .before .before .before .lower-next .ensures), omega arith)
 
 enum-known-r-2 : tie.Need-enum-known-r-2 Inv-loop μ-loop
 enum-known-r-2 c = search needs
@@ -78,7 +80,7 @@ same-length-4 : tie.Need-same-length-4 Inv-loop μ-loop
 same-length-4 c = (c .before .loop .inv .1) .long
 
 returns-2 : tie.Need-returns-2 Inv-loop μ-loop
-returns-2 c = underway-all _ _ _ _ _ _ _ (c .before .loop .inv .1) (omega arith)
+returns-2 c = underway-all _ (c .before .loop .inv .1) (omega arith)
 
 pub read-rules-spec : {M : Type 1} → statement M
 read-rules-spec =
