@@ -6,7 +6,7 @@ use mathlib.Core.List.{List, _++_, map}
 use Prim.Native.Nat.{ℕ, suc, _+_, _≤_, _<_}
 use lib.ListN.{length, getD}
 use lib.Seq.{sets}
-use Rattle.spec_limits.specs.Limits.{mostRows}
+use Rattle.spec_limits.specs.Limits.{mostRows, mostOffset}
 use Rattle.read_bytes.specs.Read.{Read}
 use Rattle.read_bytes.specs.Read.Read.{got, refused}
 use Rattle.spec_tilco.specs.Lists.{tab}
@@ -24,7 +24,7 @@ pub record RowBuffer (m : List ℕ) (used : ℕ) : Type 0 where
 -- An interval's first offset and how many more follow: from -63 to 63, each written with 64 added.
 pub record Near (first more : ℕ) : Type 0 where
   pub low : 1 ≤ first
-  pub high : first + more ≤ 127
+  pub high : first + more ≤ mostOffset
 
 -- The first n numbers of l count up from lo.
 abbrev pub CountsUp : ℕ → ℕ → List ℕ → Type 0

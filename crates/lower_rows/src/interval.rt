@@ -2,21 +2,22 @@
 use crate::words::Lowered;
 use crate::words::gate_word;
 use crate::words::look_word;
+use spec_limits::OFFSET;
 ghost use mathlib.Core.List.{map};
-ghost use Prim.Native.Nat.{_≤_, _<_};
+ghost use Prim.Native.Nat.{_≤_};
 ghost use lib.ListN.{getD};
-ghost use Rattle.spec_limits.specs.Limits.{mostRows};
+ghost use Rattle.spec_limits.specs.Limits.{mostRows, mostOffset};
 ghost use Rattle.lower_rows.specs.Words.{word};
 ghost use Rattle.lower_rows.specs.Writes.{RowBuffer, Near, CountsUp, looks, gates, lastGate, Wrote, Spreads};
 
 // The offsets from the first up, as many as an interval can have.
-fn offsets_from(first: u16) -> [u16; 127]
-    requires { ⌜ first < 128 ⌝ }
-    ensures { λ r. ⌜ CountsUp first 127 r ⌝ }
+fn offsets_from(first: u16) -> [u16; OFFSET]
+    requires { ⌜ first ≤ mostOffset ⌝ }
+    ensures { λ r. ⌜ CountsUp first mostOffset r ⌝ }
 {
-    let mut offsets = [0u16; 127];
+    let mut offsets = [0u16; OFFSET];
     let mut i: usize = 0;
-    while i < 127 {
+    while i < OFFSET {
         offsets[i] = first + i as u16;
         i += 1;
     }
@@ -24,8 +25,14 @@ fn offsets_from(first: u16) -> [u16; 127]
 }
 
 // A look at the row child for each of the first n offsets, in the rows from used on.
-fn write_looks(child: u16, offsets: &[u16; 127], n: usize, out: &mut [u64], used: usize) -> Lowered
-    requires { ⌜ n ≤ 127 ⌝ }
+fn write_looks(
+    child: u16,
+    offsets: &[u16; OFFSET],
+    n: usize,
+    out: &mut [u64],
+    used: usize,
+) -> Lowered
+    requires { ⌜ n ≤ mostOffset ⌝ }
     requires { ⌜ RowBuffer (now out) used ⌝ }
     requires { ⌜ CountsUp (getD (now offsets) 0 0) n (now offsets) ⌝ }
     ensures { λ r. ⌜ Wrote (map word (looks child (getD (now (offsets .entry)) 0 0) n)) used used (now (out .entry)) (now (out .exit)) r ⌝ }
@@ -45,7 +52,7 @@ fn write_looks(child: u16, offsets: &[u16; 127], n: usize, out: &mut [u64], used
 
 // The n gates that join the n + 1 rows from first on, from the left, in the rows from used on.
 fn write_gates(gate: bool, first: usize, n: usize, out: &mut [u64], used: usize) -> Lowered
-    requires { ⌜ (first ≤ mostRows) × (n ≤ 127) ⌝ }
+    requires { ⌜ (first ≤ mostRows) × (n ≤ mostOffset) ⌝ }
     requires { ⌜ RowBuffer (now out) used ⌝ }
     ensures { λ r. ⌜ Wrote (map word (gates gate first used n)) (lastGate first used n) used (now (out .entry)) (now (out .exit)) r ⌝ }
 {

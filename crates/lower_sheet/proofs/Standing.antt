@@ -7,6 +7,7 @@ use mathlib.Core.List.{List, [], _∷_}
 use Prim.Native.Nat.{ℕ, _+_, _<_, _≤_}
 use native.Mathlib.Omega.{arith}
 use lib.ListN.{length, length-append, length-map}
+use Rattle.spec_limits.specs.Limits.{mostHidden, mostRows, mostTops}
 use Rattle.read_bytes.specs.Read.{Read}
 use Rattle.read_bytes.specs.Read.Read.{got, refused}
 use Rattle.read_names.specs.Words.{namesAt}
@@ -14,15 +15,14 @@ use Rattle.read_bytes.proofs.Answers.{same-value}
 use Rattle.spec_tilco.specs.Lists.{total, laid}
 use Rattle.spec_tilco.specs.Formula.{Written, hiddens, spelled}
 use Rattle.spec_tilco.specs.Lowering.{lowered, size}
-use Rattle.read_sheet.specs.Sheet.{rules}
 use Rattle.read_sheet.specs.Reading.{Rules}
 use Rattle.read_sheet.proofs.Ruled.{rules-many}
-use Rattle.lower_rule.specs.Rules.{allLoweredSays}
+use Rattle.lower_rule.specs.Rules.{Buffers, allLoweredSays}
 use Rattle.lower_rows.specs.Writes.{noRoom}
 use Rattle.lower_rule.specs.declared.rules.AllLowered.{AllLowered}
 use Rattle.lower_rule.specs.declared.rules.AllLowered.the-variants.{Next, Full}
 use Rattle.lower_rule.proofs.Spelled.{definings-length}
-use Rattle.lower_lines.specs.InTurn.{Legible, spelledAll, Tried, RulesRead}
+use Rattle.lower_lines.specs.InTurn.{Legible, rulesAt, spelledAll, Tried, RulesRead}
 use Rattle.lower_sheet.specs.Rules.{Lent, InPlace, Sized, RulesStand}
 use Rattle.lower_lines.specs.InTurn.Tried.{went, full}
 use Rattle.lower_lines.specs.InTurn.RulesRead.{read, refused-at as not-read}
@@ -47,73 +47,73 @@ same-hidden v w = v .hidden ∙ ap (total hiddens) (same-value (sym (v .reads) �
 
 -- ---- the answer of reading, case by case
 
-of-read : {R : Read (List Written)} {n b : ℕ} {m m′ ts ts′ : List ℕ} {h q : ℕ} {r : AllLowered} → RulesRead R n b m m′ ts ts′ (lines.Read h q r) → Rules R h q
+of-read : {R : Read (List Written)} {n b : ℕ} {B B′ : Buffers} {h q : ℕ} {r : AllLowered} → RulesRead R n b B B′ (lines.Read h q r) → Rules R h q
 of-read (read w t) = w
 
-pub when-read : {R : Read (List Written)} {n b : ℕ} {m m′ ts ts′ : List ℕ} {l : RuleLines} {h q : ℕ} {r : AllLowered} → RulesRead R n b m m′ ts ts′ l → l ≡ lines.Read h q r → Rules R h q
-when-read {R} {n} {b} {m} {m′} {ts} {ts′} x e = of-read (subst (RulesRead R n b m m′ ts ts′) e x)
+pub when-read : {R : Read (List Written)} {n b : ℕ} {B B′ : Buffers} {l : RuleLines} {h q : ℕ} {r : AllLowered} → RulesRead R n b B B′ l → l ≡ lines.Read h q r → Rules R h q
+when-read {R} {n} {b} {B} {B′} x e = of-read (subst (RulesRead R n b B B′) e x)
 
-of-not-read : {R : Read (List Written)} {n b : ℕ} {m m′ ts ts′ : List ℕ} {i p : ℕ} → RulesRead R n b m m′ ts ts′ (lines.Refused i p) → R ≡ refused i p
+of-not-read : {R : Read (List Written)} {n b : ℕ} {B B′ : Buffers} {i p : ℕ} → RulesRead R n b B B′ (lines.Refused i p) → R ≡ refused i p
 of-not-read (not-read e) = e
 
 -- The refusal of a line is the sheet's.
-pub when-not-read : {R : Read (List Written)} {n b : ℕ} {m m′ ts ts′ : List ℕ} (m″ ts″ : List ℕ) {l : RuleLines} {i p : ℕ} → RulesRead R n b m m′ ts ts′ l → l ≡ lines.Refused i p → RulesStand R n m″ ts″ l
-when-not-read {R} {n} {b} {m} {m′} {ts} {ts′} m″ ts″ x e = subst (RulesStand R n m″ ts″) (sym e) (refused-at (of-not-read (subst (RulesRead R n b m m′ ts ts′) e x)))
+pub when-not-read : {R : Read (List Written)} {n b : ℕ} {B B′ : Buffers} (B″ : Buffers) {l : RuleLines} {i p : ℕ} → RulesRead R n b B B′ l → l ≡ lines.Refused i p → RulesStand R n B″ l
+when-not-read {R} {n} {b} {B} {B′} B″ x e = subst (RulesStand R n B″) (sym e) (refused-at (of-not-read (subst (RulesRead R n b B B′) e x)))
 
 -- ---- the rules as they stand
 
 module _ (s places : List ℕ) (k first : ℕ) (g : Legible s places k first) where
   abbrev R : Read (List Written)
-  R = rules (namesAt s places) s k first
+  R = rulesAt s places k first
 
   abbrev n : ℕ
   n = length places
 
   -- no room for the tops: there are too many hidden signals
-  too-many : {h q : ℕ} (w : Rules R h q) → 96 < length (spelledAll (w .all) n) → 32 < h
+  too-many : {h q : ℕ} (w : Rules R h q) → mostTops < length (spelledAll (w .all) n) → mostHidden < h
   too-many w o =
       omega (arith, o, tops-many (w .all) n, rules-many (namesAt s places) s k first (g .within) (w .reads), g .most, w .hidden)
 
-  module _ (m m′ ts ts′ : List ℕ) (a : Lent m ts) where
-    sized : {h q : ℕ} (w : Rules R h q) → h ≤ 32 → (r : AllLowered) → Tried (spelledAll (w .all) n) (n + h) m m′ ts ts′ (allLoweredSays r) → Sized (w .all) n h m′ ts′ (allLoweredSays r)
-    sized w f (Next at used) (went l o) = fits (record { rows = m; tops = ts; lent = a; few = f; done = o })
+  module _ (B B′ : Buffers) (a : Lent (B .rows) (B .tops)) where
+    sized : {h q : ℕ} (w : Rules R h q) → h ≤ mostHidden → (r : AllLowered) → Tried (spelledAll (w .all) n) (n + h) B B′ (allLoweredSays r) → Sized (w .all) n h B′ (allLoweredSays r)
+    sized w f (Next at used) (went l o) = fits (record { start = B; lent = a; few = f; done = o })
     sized w f Full (full o) = over (⊎-elim (λ i. inr (omega (arith, i, a .long))) (λ i. inl (too-many w (omega (arith, i, a .wide)))) o)
 
     -- As many hidden signals are found as were assumed, h.
-    pub stands : {h : ℕ} → h ≤ 32 → ((h′ q : ℕ) → Rules R h′ q → h′ ≡ h) → (r : RuleLines) → RulesRead R n (n + h) m m′ ts ts′ r → RulesStand R n m′ ts′ r
+    pub stands : {h : ℕ} → h ≤ mostHidden → ((h′ q : ℕ) → Rules R h′ q → h′ ≡ h) → (r : RuleLines) → RulesRead R n (n + h) B B′ r → RulesStand R n B′ r
     stands f same (lines.Read h′ q r) (read w t) =
         let e = same h′ q w in
-        stand w (sized w (omega (arith, e)) r (subst (λ (i : ℕ). Tried (spelledAll (w .all) n) (n + i) m m′ ts ts′ (allLoweredSays r)) (sym e) t))
+        stand w (sized w (omega (arith, e)) r (subst (λ (i : ℕ). Tried (spelledAll (w .all) n) (n + i) B B′ (allLoweredSays r)) (sym e) t))
     stands f same (lines.Refused i p) (not-read e) = refused-at e
 
 -- ---- the answer of a sheet's rules, case by case
 
-of-place : {ws : List Written} {n h : ℕ} {m′ ts′ : List ℕ} {at used : ℕ} → Sized ws n h m′ ts′ (got at used) → InPlace ws n h at used m′ ts′
+of-place : {ws : List Written} {n h : ℕ} {B′ : Buffers} {at used : ℕ} → Sized ws n h B′ (got at used) → InPlace ws n h at used B′
 of-place (fits k) = k
 
-of-over : {ws : List Written} {n h : ℕ} {m′ ts′ : List ℕ} → Sized ws n h m′ ts′ noRoom → (32 < h) ⊎ (1024 < n + h + total size (spelledAll ws n))
+of-over : {ws : List Written} {n h : ℕ} {B′ : Buffers} → Sized ws n h B′ noRoom → (mostHidden < h) ⊎ (mostRows < n + h + total size (spelledAll ws n))
 of-over (over o) = o
 
-module _ {ws : List Written} {n h : ℕ} {m′ ts′ : List ℕ} {r : Read ℕ} (x : Sized ws n h m′ ts′ r) where
+module _ {ws : List Written} {n h : ℕ} {B′ : Buffers} {r : Read ℕ} (x : Sized ws n h B′ r) where
   -- they are lowered
-  pub when-placed : {at used : ℕ} → r ≡ got at used → InPlace ws n h at used m′ ts′
-  when-placed e = of-place (subst (Sized ws n h m′ ts′) e x)
+  pub when-placed : {at used : ℕ} → r ≡ got at used → InPlace ws n h at used B′
+  when-placed e = of-place (subst (Sized ws n h B′) e x)
 
   -- they are over their size
-  pub when-over : r ≡ noRoom → (32 < h) ⊎ (1024 < n + h + total size (spelledAll ws n))
-  when-over e = of-over (subst (Sized ws n h m′ ts′) e x)
+  pub when-over : r ≡ noRoom → (mostHidden < h) ⊎ (mostRows < n + h + total size (spelledAll ws n))
+  when-over e = of-over (subst (Sized ws n h B′) e x)
 
-of-stand : {R : Read (List Written)} {n : ℕ} {m′ ts′ : List ℕ} {h q : ℕ} {r : AllLowered} → RulesStand R n m′ ts′ (lines.Read h q r) → (w : Rules R h q) × Sized (w .all) n h m′ ts′ (allLoweredSays r)
+of-stand : {R : Read (List Written)} {n : ℕ} {B′ : Buffers} {h q : ℕ} {r : AllLowered} → RulesStand R n B′ (lines.Read h q r) → (w : Rules R h q) × Sized (w .all) n h B′ (allLoweredSays r)
 of-stand (stand w x) = (w, x)
 
-of-no-rules : {R : Read (List Written)} {n : ℕ} {m′ ts′ : List ℕ} {i p : ℕ} → RulesStand R n m′ ts′ (lines.Refused i p) → R ≡ refused i p
+of-no-rules : {R : Read (List Written)} {n : ℕ} {B′ : Buffers} {i p : ℕ} → RulesStand R n B′ (lines.Refused i p) → R ≡ refused i p
 of-no-rules (refused-at e) = e
 
-module _ {R : Read (List Written)} {n : ℕ} {m′ ts′ : List ℕ} {l : RuleLines} (x : RulesStand R n m′ ts′ l) where
+module _ {R : Read (List Written)} {n : ℕ} {B′ : Buffers} {l : RuleLines} (x : RulesStand R n B′ l) where
   -- the rules were read
-  pub when-stand : {h q : ℕ} {r : AllLowered} → l ≡ lines.Read h q r → (w : Rules R h q) × Sized (w .all) n h m′ ts′ (allLoweredSays r)
-  when-stand e = of-stand (subst (RulesStand R n m′ ts′) e x)
+  pub when-stand : {h q : ℕ} {r : AllLowered} → l ≡ lines.Read h q r → (w : Rules R h q) × Sized (w .all) n h B′ (allLoweredSays r)
+  when-stand e = of-stand (subst (RulesStand R n B′) e x)
 
   -- a rule is refused
   pub when-no-rules : {i p : ℕ} → l ≡ lines.Refused i p → R ≡ refused i p
-  when-no-rules e = of-no-rules (subst (RulesStand R n m′ ts′) e x)
+  when-no-rules e = of-no-rules (subst (RulesStand R n B′) e x)

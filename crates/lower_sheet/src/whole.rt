@@ -2,12 +2,13 @@
 use crate::guess::guess_hidden;
 use lower_lines::RuleLines;
 use lower_lines::read_rules;
+use lower_rows::words::SIGNAL;
 use lower_rule::rules::AllLowered;
+use spec_limits::HIDDEN;
 ghost use lib.ListN.{length};
-ghost use Rattle.read_names.specs.Words.{namesAt};
 ghost use Rattle.lower_rows.specs.Words.{Blank};
-ghost use Rattle.read_sheet.specs.Sheet.{rules as rulesOf};
-ghost use Rattle.lower_lines.specs.InTurn.{Legible};
+ghost use Rattle.lower_rule.specs.Rules.{buffers};
+ghost use Rattle.lower_lines.specs.InTurn.{Legible, rulesAt};
 ghost use Rattle.lower_sheet.specs.Rules.{Lent, RulesStand};
 
 // Takes every row out of the buffer.
@@ -16,7 +17,7 @@ fn blank_rows(out: &mut [u64])
 {
     let mut i = 0;
     while i < out.len() {
-        out[i] = 8;
+        out[i] = SIGNAL;
         i += 1;
     }
 }
@@ -31,7 +32,7 @@ pub fn lower_rules(
     out: &mut [u64],
 ) -> RuleLines
     requires { ⌜ Legible (now s) (now places) m first × Lent (now out) (now tops) ⌝ }
-    ensures { λ r. ⌜ RulesStand (rulesOf (namesAt (now (s .entry)) (now (places .entry))) (now (s .entry)) m first) (length (now (places .entry))) (now (out .exit)) (now (tops .exit)) r ⌝ }
+    ensures { λ r. ⌜ RulesStand (rulesAt (now (s .entry)) (now (places .entry)) m first) (length (now (places .entry))) (buffers (now (out .exit)) (now (tops .exit))) r ⌝ }
 {
     let guess = guess_hidden(s, first);
     let r = read_rules(s, places, m, first, guess, tops, out);
@@ -46,7 +47,7 @@ pub fn lower_rules(
     if hidden == guess {
         return r;
     }
-    if 32 < hidden {
+    if HIDDEN < hidden {
         return RuleLines::Read {
             hidden,
             end,

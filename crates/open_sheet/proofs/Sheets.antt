@@ -10,6 +10,7 @@ use borrow.Author.Tests.{le-leb, lt-leb}
 use lib.Dec.{leb}
 use lib.ListN.{length, getD, take, drop, List·getD-append}
 use lib.Seq.{sets, sets-eq, length-take-le}
+use Rattle.spec_limits.specs.Limits.{mostBytes, mostSignals, mostHidden, mostRows}
 use Rattle.read_bytes.specs.Read.Read.{got, refused as unread}
 use Rattle.read_names.specs.Words.{namesAt}
 use Rattle.spec_tilco.specs.Lists.{total}
@@ -27,7 +28,7 @@ use Rattle.read_sheet.proofs.Accepted.{sheet-fits, sheet-declared}
 use Rattle.read_head.proofs.Heads.{head-past}
 use Rattle.read_sheet.proofs.Ruled.{rules-many}
 use Rattle.read_sheet.proofs.Wholes.{refused-rule, refused-more, sheet-is}
-use Rattle.lower_rule.specs.Rules.{LowersAll, allLoweredSays}
+use Rattle.lower_rule.specs.Rules.{Buffers, buffers, LowersAll, allLoweredSays}
 use Rattle.lower_rule.specs.declared.rules.AllLowered.{AllLowered}
 use Rattle.lower_rule.specs.declared.rules.AllLowered.the-variants.{Next}
 use Rattle.lower_rule.proofs.InTurn.{tops-length, went-all}
@@ -52,15 +53,15 @@ module _ (s : List ℕ) where
   in-refused e = ap sized e
 
   module _ {k : Contents} {q : ℕ} (e : sheetOf s ≡ got k q) where
-    pub in-fits : total hiddens (k .rules) ≤ 32 → rowCount (meant k) ≤ 1024 → sheetIn s ≡ accepted k
+    pub in-fits : total hiddens (k .rules) ≤ mostHidden → rowCount (meant k) ≤ mostRows → sheetIn s ≡ accepted k
     unfolding sheetIn fits
-    in-fits h r = ap sized e ∙ rw (le-leb (total hiddens (k .rules)) 32 h, le-leb (rowCount (meant k)) 1024 r)
+    in-fits h r = ap sized e ∙ rw (le-leb (total hiddens (k .rules)) mostHidden h, le-leb (rowCount (meant k)) mostRows r)
 
-    pub in-over : (32 < total hiddens (k .rules)) ⊎ (1024 < rowCount (meant k)) → sheetIn s ≡ refused 9 0
+    pub in-over : (mostHidden < total hiddens (k .rules)) ⊎ (mostRows < rowCount (meant k)) → sheetIn s ≡ refused 9 0
     unfolding sheetIn fits
     in-over o =
         ap sized e
-        ∙ ⊎-elim (λ h. rw (lt-leb (total hiddens (k .rules)) 32 h)) (λ h. rw (lt-leb (rowCount (meant k)) 1024 h, and-false (leb (total hiddens (k .rules)) 32))) o
+        ∙ ⊎-elim (λ h. rw (lt-leb (total hiddens (k .rules)) mostHidden h)) (λ h. rw (lt-leb (rowCount (meant k)) mostRows h, and-false (leb (total hiddens (k .rules)) mostHidden))) o
 
 -- ---- its rows
 
@@ -90,15 +91,15 @@ place (x ∷ xs) r (List·Memᴰ.List·Memᴰ·tail m) = let p = place xs r m in
 stored : (xs ws : List ℕ) → length ws ≤ length xs → (i : ℕ) → i < length ws → getD (sets xs 0 ws) i 0 ≡ getD ws i 0
 stored xs ws h i l = ap (λ (v : List ℕ). getD v i 0) (sets-eq ws xs 0 (omega arith)) ∙ List·getD-append ws (drop (0 + length ws) xs) 0 i l
 
-module _ (s : Sheet) (B B′ ts ts′ : List ℕ) (at used : ℕ) (w : LowersAll (lows (formulas s)) (signalRows s) B B′ 0 ts ts′ (Next at used)) where
+module _ (s : Sheet) (B B′ : Buffers) (at used : ℕ) (w : LowersAll (lows (formulas s)) (signalRows s) 0 B B′ (Next at used)) where
   abbrev tops : List ℕ
   tops = topsAll (lows (formulas s)) (signalRows s)
 
-  pub tops-stand : (t : ℕ) → t ≡ length (lows (formulas s)) → t ≤ length ts → TopsAre (program s) ts′ t
+  pub tops-stand : (t : ℕ) → t ≡ length (lows (formulas s)) → t ≤ length (B .tops) → TopsAre (program s) (B′ .tops) t
   unfolding LowersAll
   tops-stand t e h =
       let n : length tops ≡ t = tops-length (lows (formulas s)) (signalRows s) ∙ sym e in
-      let stands : (i : ℕ) → i < t → getD ts′ i 0 ≡ getD tops i 0 = λ i l. ap (λ (v : List ℕ). getD v i 0) (w .4) ∙ stored ts tops (omega arith) i (omega arith) in
+      let stands : (i : ℕ) → i < t → getD (B′ .tops) i 0 ≡ getD tops i 0 = λ i l. ap (λ (v : List ℕ). getD v i 0) (w .holds) ∙ stored (B .tops) tops (omega arith) i (omega arith) in
       record {
         given = λ i l. subst (λ (r : ℕ). List·Memᴰ r tops) (sym (stands i l)) (member tops i (omega arith));
         every = λ r m. let p = place tops r m in (p .0, omega (arith, p .1), stands (p .0) (omega (arith, p .1)) ∙ p .2);
@@ -109,12 +110,12 @@ module _ (s : Sheet) (B B′ ts ts′ : List ℕ) (at used : ℕ) (w : LowersAll
 -- The text is not too long, and its head was read: the window w, n signals whose names' places are the table's first numbers, m rules, and
 -- the place p of the first one's line.
 pub record Begun (s T : List ℕ) (w n m p : ℕ) : Type 0 where
-  pub short : length s ≤ 32768
-  pub table : length T ≡ 64
+  pub short : length s ≤ mostBytes
+  pub table : length T ≡ mostSignals
   pub sizes : Sizes w n m
   pub head-is : head s ≡ got (headOf w (take n T) m) p
 
-pub begun : {s T : List ℕ} {r : Heading} {w n m p : ℕ} → Headed s T r → r ≡ heading.Lines w n m p → length s ≤ 32768 → length T ≡ 64 → Begun s T w n m p
+pub begun : {s T : List ℕ} {r : Heading} {w n m p : ℕ} → Headed s T r → r ≡ heading.Lines w n m p → length s ≤ mostBytes → length T ≡ mostSignals → Begun s T w n m p
 begun x e l k = let h = when-headed x e in record { short = l; table = k; sizes = h .1; head-is = h .0 }
 
 module _ {s T : List ℕ} {w n m p : ℕ} (o : Begun s T w n m p) where
@@ -130,7 +131,7 @@ module _ {s T : List ℕ} {w n m p : ℕ} (o : Begun s T w n m p) where
       let a = head-past s (o .head-is) in
       record { within = a .inside; before = a .before; few = omega (arith, places-long, o .sizes .signals-high); most = o .sizes .rules-high }
 
-  module _ {B ts : List ℕ} {r : RuleLines} (x : RulesStand (rules (namesAt s places) s m p) (length places) B ts r) where
+  module _ {B ts : List ℕ} {r : RuleLines} (x : RulesStand (rules (namesAt s places) s m p) (length places) (buffers B ts) r) where
     -- a rule is refused
     pub rule-refused : {i k : ℕ} → r ≡ lines.Refused i k → SheetOpens s T B ts (opening.Refused i k)
     rule-refused e = refused-at (in-refused s (refused-rule s (o .short) (o .head-is) (when-no-rules x e)))
@@ -157,14 +158,14 @@ module _ {s T : List ℕ} {w n m p : ℕ} (o : Begun s T w n m p) where
 
         readied : (t count : ℕ) → l ≡ Next t count → Ready s places B ts w t count
         readied t count f =
-            let a : InPlace (held .rules) (length places) h t count B ts = when-placed (when-stand x e .1) (ap allLoweredSays f) in
-            let few : total hiddens (held .rules) ≤ 32 = omega (arith, a .few, found .hidden) in
-            let d : LowersAll (lows (formulas (meant held))) (signalRows (meant held)) (a .rows) B 0 (a .tops) ts (Next t count)
-            = subst (λ (i : ℕ). LowersAll (lows (formulas (meant held))) (length places + i) (a .rows) B 0 (a .tops) ts (Next t count)) (found .hidden) (a .done) in
-            let g = went-all (lows (formulas (meant held))) (signalRows (meant held)) (a .rows) B 0 (a .tops) ts (Next t count) d t count refl in
-            let c = sheet-used (meant held) (a .rows) B 0 (a .tops) ts t count d in
+            let a : InPlace (held .rules) (length places) h t count (buffers B ts) = when-placed (when-stand x e .1) (ap allLoweredSays f) in
+            let few : total hiddens (held .rules) ≤ mostHidden = omega (arith, a .few, found .hidden) in
+            let d : LowersAll (lows (formulas (meant held))) (signalRows (meant held)) 0 (a .start) (buffers B ts) (Next t count)
+            = subst (λ (i : ℕ). LowersAll (lows (formulas (meant held))) (length places + i) 0 (a .start) (buffers B ts) (Next t count)) (found .hidden) (a .done) in
+            let g = went-all (lows (formulas (meant held))) (signalRows (meant held)) 0 (a .start) (buffers B ts) (Next t count) d t count refl in
+            let c = sheet-used (meant held) 0 (a .start) (buffers B ts) t count d in
             let many = rules-many (namesAt s places) s m p (legible .within) (found .reads) in
-            let tops-fit : t ≤ length (a .tops) = omega (arith, g .tops, tops-many (held .rules) (length places), many, few, o .sizes .rules-high, a .lent .wide) in
+            let tops-fit : t ≤ length (a .start .tops) = omega (arith, g .tops, tops-many (held .rules) (length places), many, few, o .sizes .rules-high, a .lent .wide) in
             record {
               contents = held;
               holds = in-fits s reads few (omega (arith, c .1, a .lent .long));
@@ -174,10 +175,10 @@ module _ {s T : List ℕ} {w n m p : ℕ} (o : Begun s T w n m p) where
               codes = record {
                 long = omega (arith, g .room, g .long, a .lent .long);
                 rows-are = sym (c .0);
-                nodes = λ i. sym (sheet-row (meant held) (sheet-declared s reads) (a .rows) B 0 (a .tops) ts t count (a .lent .blank) d (omega (arith, a .lent .long)) i);
+                nodes = λ i. sym (sheet-row (meant held) (sheet-declared s reads) 0 (a .start) (buffers B ts) t count (a .lent .blank) d (omega (arith, a .lent .long)) i);
                 fine = λ i. fine-row (signalRows (meant held)) i (node (program (meant held)) i) (children-before (meant held) (sheet-declared s reads) i) (looks-within (meant held) near near-steps (sheet-fits s reads) i);
               };
-              tops-are = tops-stand (meant held) (a .rows) B (a .tops) ts t count d t (omega (arith, g .tops)) tops-fit;
+              tops-are = tops-stand (meant held) (a .start) (buffers B ts) t count d t (omega (arith, g .tops)) tops-fit;
               few = omega (arith, tops-fit, g .wide);
             }
 

@@ -4,6 +4,7 @@ use mathlib.Core.Path.{_≡_, refl, _∙_}
 use mathlib.Core.Bool.{Bool}
 use mathlib.Core.List.{List}
 use Prim.Native.Nat.{ℕ, _+_, _≤_, _<_}
+use Rattle.spec_limits.specs.Limits.{mostOffset}
 use Rattle.spec_tilco.specs.Formula.{Written, hiddens}
 use Rattle.read_arena.specs.Nodes.{opOf, putNode}
 use Rattle.read_arena.specs.Readings.{readingOf, readTo, readAt, formAt, writtenAt, definingsAt, Right, Arena, Room, Same, Held, ruleReading}
@@ -45,7 +46,7 @@ module _ {a : List ℕ} {c : ℕ} (A : Arena c a) (R : Room a c 1) where
   held-pair {x} {l} {r} {w} {v} s hl hr h k = held-put (Pair s l r) x (Written.pair (opOf s) w v) (hl, hr) (rw (held-read h, held-read k))
 
   -- An interval, @ or ?.
-  pub held-time : {x l : ℕ} {w : Written} (u : Bool) (first more : ℕ) → l < c → 1 ≤ first → first + more ≤ 127 → Held a x l w
+  pub held-time : {x l : ℕ} {w : Written} (u : Bool) (first more : ℕ) → l < c → 1 ≤ first → first + more ≤ mostOffset → Held a x l w
       → Held (putNode a c (Time u l first more)) x c (Written.time u first more w)
   held-time {x} {l} {w} u first more hl low high h =
       held-put (Time u l first more) x (Written.time u first more w) (hl, low, high) (cc (held-read h))

@@ -7,6 +7,7 @@ use Prim.Native.Nat.{ℕ, suc, _+_, _-_, _≤_, _<_}
 use native.Mathlib.Nat.{add-zero}
 use native.Mathlib.Numerals.{towards-suc}
 use native.Mathlib.Omega.{arith}
+use Rattle.spec_limits.specs.Limits.{mostOffset}
 use Rattle.spec_tilco.specs.Formula.{Written, hiddens, defining, stepOf}
 use lib.ListN.{getD}
 use Rattle.read_arena.specs.Nodes.{pick, nodeAt, putNode, putNodes, keepNodes, putKeep}
@@ -18,7 +19,7 @@ use Rattle.read_arena.proofs.Read.{form-step, text-step, definings-step
 use Rattle.read_arena.proofs.Helds.{held-kept}
 
 -- The step of since or until is an offset from -63 to 63.
-step-right : (b : Bool) → (1 ≤ stepOf b) × (stepOf b + 0 ≤ 127)
+step-right : (b : Bool) → (1 ≤ stepOf b) × (stepOf b + 0 ≤ mostOffset)
 step-right true = (omega arith, omega arith)
 step-right false = (omega arith, omega arith)
 
@@ -28,7 +29,7 @@ step-is true = refl
 step-is false = refl
 
 -- The picked step is such an offset too.
-pub picked-right : (b : Bool) {step : ℕ} → step ≡ pick b 63 65 → (1 ≤ step) × (step + 0 ≤ 127)
+pub picked-right : (b : Bool) {step : ℕ} → step ≡ pick b 63 65 → (1 ≤ step) × (step + 0 ≤ mostOffset)
 picked-right b e = rw (e, step-is b) (step-right b)
 
 -- The six nodes are right.

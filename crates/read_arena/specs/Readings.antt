@@ -4,6 +4,7 @@ use mathlib.Core.Path.{_≡_}
 use mathlib.Core.List.{List, [], _∷_, _++_}
 use Prim.Native.Nat.{ℕ, zero, suc, _+_, _-_, _*_, _≤_, _<_}
 use lib.ListN.{length}
+use Rattle.spec_limits.specs.Limits.{mostOffset}
 use Rattle.spec_tilco.specs.Formula.{Formula, Written, plain, definings as definingsOf}
 use Rattle.read_arena.specs.declared.Node.{Node}
 use Rattle.read_arena.specs.declared.Node.the-variants.{Name, Deny, Pair, Time, Keep}
@@ -74,7 +75,7 @@ abbrev pub Right : Node → ℕ → Type 0
 Right (Name x) n = Unit {0}
 Right (Deny x) n = x < n
 Right (Pair s x y) n = (x < n) × (y < n)
-Right (Time u x first more) n = (x < n) × (1 ≤ first) × (first + more ≤ 127)
+Right (Time u x first more) n = (x < n) × (1 ≤ first) × (first + more ≤ mostOffset)
 Right (Keep b x y row) n = (x < n) × (y < n)
 
 -- A number of the buffer has two bytes: it is less.

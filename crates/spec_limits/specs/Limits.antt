@@ -32,6 +32,10 @@ mostRuleBytes = 256
 abbrev pub mostOpen : ℕ
 mostOpen = 32
 
+-- "A whole interval has an end outside -63 to 63": refusal 7.
+abbrev pub mostEnd : ℕ
+mostEnd = 63
+
 -- "At most 32 hidden signals."
 abbrev pub mostHidden : ℕ
 mostHidden = 32
@@ -45,6 +49,13 @@ mostRows = 1024
 -- A rule's formula has at most a node for each of its bytes, of four numbers each.
 abbrev pub arenaNumbers : ℕ
 arenaNumbers = 4 * mostRuleBytes
+
+-- An offset is written with so much added: it is never negative, and at most so much.
+abbrev pub offsetZero : ℕ
+offsetZero = 64
+
+abbrev pub mostOffset : ℕ
+mostOffset = offsetZero + mostEnd
 
 -- Each rule has a top, and so has each defining rule.
 abbrev pub mostTops : ℕ

@@ -21,6 +21,9 @@ pub const RULE_BYTES: usize = 256;
 // mostOpen
 pub const OPEN: usize = 32;
 
+// mostEnd: of an interval, and of its opposite.
+pub const END: usize = 63;
+
 // mostHidden
 pub const HIDDEN: usize = 32;
 
@@ -30,6 +33,12 @@ pub const ROWS: usize = 1024;
 // arenaNumbers
 pub const ARENA: usize = 4 * RULE_BYTES;
 
+// offsetZero: the offset 0 as it is written.
+pub const OFFSET_ZERO: usize = 64;
+
+// mostOffset
+pub const OFFSET: usize = OFFSET_ZERO + END;
+
 // mostTops
 pub const TOPS: usize = RULES + HIDDEN;
 
@@ -38,6 +47,9 @@ pub const READINGS: usize = 1489;
 
 // mostListed
 pub const LISTED: usize = 8192;
+
+// mostClosed
+pub const CLOSED: usize = 4096;
 
 // codeKinds
 pub const KINDS: u64 = 8;

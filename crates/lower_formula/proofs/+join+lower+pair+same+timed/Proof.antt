@@ -1,4 +1,4 @@
--- The functions of `rows::formulas` meet their contracts. The measure is the formula's size, then how far the call is from the next one that
+-- `lower` and the functions that it calls in a cycle meet their contracts. The measure is the formula's size, then how far the call is from the next one that
 -- goes to a child. Assumes nothing.
 use Prim.Native.Nat.{ℕ, _+_, _*_, _<_}
 use Rattle.read_arena.proofs.Puts.{arena-fewer}

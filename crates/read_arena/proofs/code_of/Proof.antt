@@ -1,4 +1,4 @@
--- `arena::code_of` meets its contract: one case for each node.
+-- `code_of` meets its contract: one case for each node.
 -- Assumes nothing.
 use Rattle.read_arena.specs.Nodes.{codeOf}
 use native.Mathlib.Omega.{arith}

@@ -1,4 +1,4 @@
--- `arena::node_at` meets its contract: one case for each kind.
+-- `node_at` meets its contract: one case for each kind.
 -- Assumes nothing.
 use mathlib.Core.Path.{sym}
 use Rattle.read_arena.specs.Nodes.{nodeOf, nodeAt}

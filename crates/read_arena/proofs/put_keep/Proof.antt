@@ -1,4 +1,4 @@
--- `arena::put_keep` meets its contract: six puts, one after the other.
+-- `put_keep` meets its contract: six puts, one after the other.
 -- Assumes nothing.
 use Rattle.read_arena.proofs.Keeps.{picked-right, six-puts}
 use borrow.Author.Needs.{needs}

@@ -1,4 +1,4 @@
--- `arena::put_node` meets its contract: the node's four numbers are stored one after the other.
+-- `put_node` meets its contract: the node's four numbers are stored one after the other.
 -- Assumes nothing.
 use native.Mathlib.Omega.{arith}
 use native.Mathlib.Numerals.{towards-suc}

@@ -1,4 +1,4 @@
--- `arena::sign_of` meets its contract: one case for each number.
+-- `sign_of` meets its contract: one case for each number.
 -- Assumes nothing.
 use mathlib.Core.Path.{sym}
 use Rattle.read_arena.specs.Nodes.{signOf}

@@ -1,18 +1,19 @@
--- `rows::interval::offsets_from` meets its contract: the loop has listed the first i offsets. Assumes nothing.
+-- `offsets_from` meets its contract: the loop has listed the first i offsets. Assumes nothing.
 use mathlib.Core.Path.{_≡_, refl}
 use Prim.Native.Nat.{_-_, _≤_}
 use native.Mathlib.Omega.{arith}
 use lib.ListN.{length, length-set}
+use Rattle.spec_limits.specs.Limits.{mostOffset}
 use Rattle.lower_rows.specs.Writes.{CountsUp}
 use Rattle.lower_rows.proofs.Runs.{numbers-more}
 use Rattle.lower_rows.proofs.interval.offsets_from.Statement.{statement}
 use Rattle.lower_rows.proofs.interval.offsets_from.Tie as tie
 
 abbrev Inv-loop : tie.InvT-loop
-Inv-loop first offsets₀ i₀ offsets i = (i ≤ 127) × (length offsets ≡ 127) × CountsUp first i offsets
+Inv-loop first offsets₀ i₀ offsets i = (i ≤ mostOffset) × (length offsets ≡ mostOffset) × CountsUp first i offsets
 
 abbrev μ-loop : tie.MeasureT-loop
-μ-loop first offsets₀ i₀ offsets i = 127 - i
+μ-loop first offsets₀ i₀ offsets i = mostOffset - i
 
 loop-holds : tie.Need-loop-holds Inv-loop μ-loop
 loop-holds c = (omega arith, refl, λ j h. absurd (omega arith))

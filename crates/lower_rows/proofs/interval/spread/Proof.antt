@@ -1,4 +1,4 @@
--- `rows::interval::spread` meets its contract: the looks, then their joins. Assumes nothing.
+-- `spread` meets its contract: the looks, then their joins. Assumes nothing.
 use mathlib.Core.Path.{_≡_}
 use native.Mathlib.Omega.{arith}
 use lib.ListN.{getD}

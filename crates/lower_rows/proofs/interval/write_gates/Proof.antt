@@ -1,4 +1,4 @@
--- `rows::interval::write_gates` meets its contract: the loop has written the first i joins, and `last` is the last of them. Assumes nothing.
+-- `write_gates` meets its contract: the loop has written the first i joins, and `last` is the last of them. Assumes nothing.
 use mathlib.Core.Path.{_≡_, refl}
 use mathlib.Core.List.{map}
 use Prim.Native.Nat.{_-_, _≤_}

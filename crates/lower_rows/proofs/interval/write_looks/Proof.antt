@@ -1,4 +1,4 @@
--- `rows::interval::write_looks` meets its contract: the loop has written the first i looks. Assumes nothing.
+-- `write_looks` meets its contract: the loop has written the first i looks. Assumes nothing.
 use mathlib.Core.Path.{_≡_, refl}
 use mathlib.Core.List.{map}
 use Prim.Native.Nat.{_-_, _≤_}

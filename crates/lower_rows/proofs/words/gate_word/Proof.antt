@@ -1,4 +1,4 @@
--- `rows::words::gate_word` meets its contract. Assumes nothing.
+-- `gate_word` meets its contract. Assumes nothing.
 use Rattle.lower_rows.specs.Words.{packed, word}
 use borrow.Author.Needs.{needs}
 use Rattle.lower_rows.proofs.words.gate_word.Statement.{statement}

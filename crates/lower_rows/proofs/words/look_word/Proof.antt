@@ -1,4 +1,4 @@
--- `rows::words::look_word` meets its contract. Assumes nothing.
+-- `look_word` meets its contract. Assumes nothing.
 use Rattle.lower_rows.specs.Words.{packed, word}
 use borrow.Author.Needs.{needs}
 use Rattle.lower_rows.proofs.words.look_word.Statement.{statement}

@@ -1,4 +1,4 @@
--- `rows::words::name_row` meets its contract. Assumes nothing.
+-- `name_row` meets its contract. Assumes nothing.
 use native.Mathlib.Nat.{add-zero}
 use Rattle.lower_rows.specs.Words.{packed, word}
 use Rattle.lower_rows.specs.Writes.{Lowers}

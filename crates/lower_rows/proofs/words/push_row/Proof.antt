@@ -1,4 +1,4 @@
--- `rows::words::push_row` meets its contract. Assumes nothing.
+-- `push_row` meets its contract. Assumes nothing.
 use native.Mathlib.Omega.{arith}
 use Rattle.lower_rows.proofs.Runs.{stored, not-stored}
 use borrow.Author.Needs.{needs}

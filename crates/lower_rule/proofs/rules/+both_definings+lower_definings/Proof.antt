@@ -1,4 +1,4 @@
--- `rows::rules::lower_definings` and `both_definings` meet their contracts. The measure is a node's number: children stand before their
+-- `lower_definings` and `both_definings` meet their contracts. The measure is a node's number: children stand before their
 -- parents. Assumes nothing.
 use Prim.Native.Nat.{ℕ, _+_, _*_, _<_, max}
 use Rattle.read_arena.proofs.Puts.{arena-fewer}

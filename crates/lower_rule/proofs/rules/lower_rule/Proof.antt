@@ -1,4 +1,4 @@
--- `rows::rules::lower_rule` meets its contract. Assumes nothing.
+-- `lower_rule` meets its contract. Assumes nothing.
 use Rattle.lower_rule.proofs.InTurn.{one-full, one-then}
 use borrow.Author.Needs.{needs}
 use Rattle.lower_rule.proofs.rules.lower_rule.Statement.{statement}

@@ -1,4 +1,4 @@
--- `rows::rules::lower_whole_rule` meets its contract. Assumes nothing.
+-- `lower_whole_rule` meets its contract. Assumes nothing.
 use mathlib.Core.Path.{sym, subst, _∙_}
 use mathlib.Core.List.{[], _∷_}
 use native.Mathlib.Omega.{arith}

@@ -3,12 +3,13 @@ use native.Mathlib.Omega.{arith}
 use mathlib.Core.Logic.{⊎-elim}
 use Prim.Native.Nat.{_-_, _≤_}
 use lib.ListN.{length}
+use Rattle.spec_limits.specs.Limits.{mostHidden}
 use borrow.Author.Needs.{needs}
 use Rattle.lower_sheet.proofs.guess.guess_hidden.Statement.{statement}
 use Rattle.lower_sheet.proofs.guess.guess_hidden.Tie as tie
 
 abbrev Inv-loop : tie.InvT-loop
-Inv-loop s first n₀ i₀ n i = (n ≤ 32) × (1 ≤ i)
+Inv-loop s first n₀ i₀ n i = (n ≤ mostHidden) × (1 ≤ i)
 
 abbrev μ-loop : tie.MeasureT-loop
 μ-loop s first n₀ i₀ n i = length s - i

@@ -29,7 +29,7 @@ same-length-2 : tie.Need-same-length-2
 same-length-2 c = search needs
 
 returns : tie.Need-returns
-returns c = when-not-read _ _ (c .before .before .before .before .before .before .read-rules .ensures) (c .enum-told .given .1)
+returns c = when-not-read _ (c .before .before .before .before .before .before .read-rules .ensures) (c .enum-told .given .1)
 
 same-length-3 : tie.Need-same-length-3
 same-length-3 c = search needs
@@ -38,7 +38,7 @@ same-length-4 : tie.Need-same-length-4
 same-length-4 c = search needs
 
 returns-2 : tie.Need-returns-2
-returns-2 c = let w = when-read (c .before .before .before .before .before .before .before .before .read-rules .ensures) (c .before .before .r .given .1) in stands _ _ _ _ (c .before .before .before .before .before .before .before .before .before .before .before .before .before .before .before .before .pre .0) _ _ _ _ (c .before .before .before .before .before .before .before .before .before .before .before .before .before .before .before .before .pre .1) (c .before .before .before .before .before .before .before .before .before .before .before .guess-hidden .ensures) (λ h q v. same-hidden v w ∙ c .if1 .taken) _ (subst (RulesRead _ _ _ _ _ _ _) (c .before .before .r .given .1) (c .before .before .before .before .before .before .before .before .read-rules .ensures))
+returns-2 c = let w = when-read (c .before .before .before .before .before .before .before .before .read-rules .ensures) (c .before .before .r .given .1) in stands _ _ _ _ (c .before .before .before .before .before .before .before .before .before .before .before .before .before .before .before .before .pre .0) _ _ (c .before .before .before .before .before .before .before .before .before .before .before .before .before .before .before .before .pre .1) (c .before .before .before .before .before .before .before .before .before .before .before .guess-hidden .ensures) (λ h q v. same-hidden v w ∙ c .if1 .taken) _ (subst (RulesRead _ _ _ _ _) (c .before .before .r .given .1) (c .before .before .before .before .before .before .before .before .read-rules .ensures))
 
 same-length-5 : tie.Need-same-length-5
 same-length-5 c = search needs
@@ -53,7 +53,9 @@ blank-rows-requires : tie.Need-blank-rows-requires
 blank-rows-requires c κs = search needs
 
 read-rules-requires-2 : tie.Need-read-rules-requires-2
-read-rules-requires-2 c κs = ((c .before .before .before .before .before .before .before .before .before .before .before .before .before .before .before .before .before .before .before .before .before .before .before .pre .0, omega arith), (omega (arith, c .before .before .before .before .before .before .before .before .before .before .before .before .before .before .before .before .before .before .before .before .before .before .before .pre .1 .long), omega (arith, c .before .before .before .before .before .before .before .before .before .before .before .before .before .before .before .before .before .before .before .before .before .before .before .pre .1 .wide)))
+read-rules-requires-2 c κs =
+    let given = c .before .before .before .before .before .before .before .before .before .before .before .before .before .before .before .before .before .before .before .before .before .before .before .pre in
+    ((given .0, omega arith), record { long = omega (arith, given .1 .long); wide = omega (arith, given .1 .wide) })
 
 same-length-7 : tie.Need-same-length-7
 same-length-7 c = search needs
@@ -62,7 +64,7 @@ same-length-8 : tie.Need-same-length-8
 same-length-8 c = search needs
 
 returns-4 : tie.Need-returns-4
-returns-4 c = let w = when-read (c .before .before .before .before .before .before .before .before .before .before .before .before .before .before .before .before .before .before .before .before .read-rules .ensures) (c .before .before .before .before .before .before .before .before .before .before .before .before .before .before .r .given .1) in stands _ _ _ _ (c .before .before .before .before .before .before .before .before .before .before .before .before .before .before .before .before .before .before .before .before .before .before .before .before .before .before .before .before .pre .0) _ _ _ _ (record { blank = c .before .before .before .before .before .before .before .before .before .blank-rows .ensures; long = omega (arith, c .before .before .before .before .before .before .before .before .before .before .before .before .before .before .before .before .before .before .before .before .before .before .before .before .before .before .before .before .pre .1 .long); wide = omega (arith, c .before .before .before .before .before .before .before .before .before .before .before .before .before .before .before .before .before .before .before .before .before .before .before .before .before .before .before .before .pre .1 .wide) }) (c .before .before .before .before .before .before .before .before .before .before .before .if2 .left) (λ h q v. same-hidden v w) _ (c .before .before .before .before .read-rules2 .ensures)
+returns-4 c = let w = when-read (c .before .before .before .before .before .before .before .before .before .before .before .before .before .before .before .before .before .before .before .before .read-rules .ensures) (c .before .before .before .before .before .before .before .before .before .before .before .before .before .before .r .given .1) in stands _ _ _ _ (c .before .before .before .before .before .before .before .before .before .before .before .before .before .before .before .before .before .before .before .before .before .before .before .before .before .before .before .before .pre .0) _ _ (record { blank = c .before .before .before .before .before .before .before .before .before .blank-rows .ensures; long = omega (arith, c .before .before .before .before .before .before .before .before .before .before .before .before .before .before .before .before .before .before .before .before .before .before .before .before .before .before .before .before .pre .1 .long); wide = omega (arith, c .before .before .before .before .before .before .before .before .before .before .before .before .before .before .before .before .before .before .before .before .before .before .before .before .before .before .before .before .pre .1 .wide) }) (c .before .before .before .before .before .before .before .before .before .before .before .if2 .left) (λ h q v. same-hidden v w) _ (c .before .before .before .before .read-rules2 .ensures)
 
 pub lower-rules-spec : {M : Type 1} → statement M
 lower-rules-spec =
