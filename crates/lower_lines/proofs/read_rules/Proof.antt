@@ -47,7 +47,9 @@ slice-aggregate-lower-next : tie.Need-slice-aggregate-lower-next Inv-loop μ-loo
 slice-aggregate-lower-next c = search needs
 
 lower-next-requires : tie.Need-lower-next-requires Inv-loop μ-loop
-lower-next-requires c κs = let w = (when-rule (c .before .before .before .before .before .before .before .rule-line .ensures) (c .before .before .before .before .r .given .1)) in let k = c .before .before .before .before .before .before .before .before .before .before .loop .inv .1 in (rule-in w, tried-room (omega (arith, k .long)) (k .tried))
+lower-next-requires c κs =
+    let k = c .before .before .before .before .before .before .before .before .before .before .loop .inv .1 in
+    (rule-in (when-rule (c .before .before .before .before .before .before .before .rule-line .ensures) (c .before .before .before .before .r .given .1)), tried-room (omega (arith, k .long)) (k .tried))
 
 add-i : tie.Need-add-i Inv-loop μ-loop
 add-i c = search needs
@@ -56,7 +58,10 @@ loop-less : tie.Need-loop-less Inv-loop μ-loop
 loop-less c = search needs
 
 loop-again : tie.Need-loop-again Inv-loop μ-loop
-loop-again c = (_, underway-one _ (c .before .before .before .before .before .before .before .before .before .before .before .before .before .before .before .loop .inv .1) (c .before .before .before .before .before .before .before .before .before .before .before .before .before .before .loop-test .taken) (when-rule (c .before .before .before .before .before .before .before .before .before .before .before .before .rule-line .ensures) (c .before .before .before .before .before .before .before .before .before .r .given .1)) _ _ (omega arith) (omega arith) (c .before .before .before .before .lower-next .ensures), omega arith)
+loop-again c =
+    let looped = c .before .before .before .before .before .before .before .before .before .before .before .before .before .before .before in
+    let w = when-rule (c .before .before .before .before .before .before .before .before .before .before .before .before .rule-line .ensures) (c .before .before .before .before .before .before .before .before .before .r .given .1) in
+    (_, underway-one _ (looped .loop .inv .1) (c .before .before .before .before .before .before .before .before .before .before .before .before .before .before .loop-test .taken) w _ _ (omega arith) (omega arith) (c .before .before .before .before .lower-next .ensures), omega arith)
 
 enum-known-r-2 : tie.Need-enum-known-r-2 Inv-loop μ-loop
 enum-known-r-2 c = search needs
@@ -68,7 +73,9 @@ same-length-2 : tie.Need-same-length-2 Inv-loop μ-loop
 same-length-2 c = (c .before .before .before .before .before .before .before .loop .inv .1) .long
 
 returns : tie.Need-returns Inv-loop μ-loop
-returns c = refused-at (passed-off _ _ _ _ ((c .before .before .before .before .before .before .before .loop .inv .1) .passed) (c .before .before .before .before .before .before .loop-test .taken) (when-no-rule (c .before .before .before .before .rule-line .ensures) (c .before .r2 .given .1)))
+returns c =
+    let k = c .before .before .before .before .before .before .before .loop .inv .1 in
+    refused-at (passed-off _ _ _ _ (k .passed) (c .before .before .before .before .before .before .loop-test .taken) (when-no-rule (c .before .before .before .before .rule-line .ensures) (c .before .r2 .given .1)))
 
 sub-found : tie.Need-sub-found Inv-loop μ-loop
 sub-found c = omega (arith, (c .before .loop .inv .1) .row)

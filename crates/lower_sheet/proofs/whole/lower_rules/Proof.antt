@@ -38,7 +38,11 @@ same-length-4 : tie.Need-same-length-4
 same-length-4 c = search needs
 
 returns-2 : tie.Need-returns-2
-returns-2 c = let w = when-read (c .before .before .before .before .before .before .before .before .read-rules .ensures) (c .before .before .r .given .1) in stands _ _ _ _ (c .before .before .before .before .before .before .before .before .before .before .before .before .before .before .before .before .pre .0) _ _ (c .before .before .before .before .before .before .before .before .before .before .before .before .before .before .before .before .pre .1) (c .before .before .before .before .before .before .before .before .before .before .before .guess-hidden .ensures) (λ h q v. same-hidden v w ∙ c .if1 .taken) _ (subst (RulesRead _ _ _ _ _) (c .before .before .r .given .1) (c .before .before .before .before .before .before .before .before .read-rules .ensures))
+returns-2 c =
+    let begun = c .before .before .before .before .before .before .before .before .before .before .before .before .before .before .before .before in
+    let read = c .before .before .before .before .before .before .before .before .read-rules .ensures in
+    let is = c .before .before .r .given .1 in
+    stands _ _ _ _ (begun .pre .0) _ _ (begun .pre .1) (c .before .before .before .before .before .before .before .before .before .before .before .guess-hidden .ensures) (λ h q v. same-hidden v (when-read read is) ∙ c .if1 .taken) _ (subst (RulesRead _ _ _ _ _) is read)
 
 same-length-5 : tie.Need-same-length-5
 same-length-5 c = search needs
@@ -64,7 +68,11 @@ same-length-8 : tie.Need-same-length-8
 same-length-8 c = search needs
 
 returns-4 : tie.Need-returns-4
-returns-4 c = let w = when-read (c .before .before .before .before .before .before .before .before .before .before .before .before .before .before .before .before .before .before .before .before .read-rules .ensures) (c .before .before .before .before .before .before .before .before .before .before .before .before .before .before .r .given .1) in stands _ _ _ _ (c .before .before .before .before .before .before .before .before .before .before .before .before .before .before .before .before .before .before .before .before .before .before .before .before .before .before .before .before .pre .0) _ _ (record { blank = c .before .before .before .before .before .before .before .before .before .blank-rows .ensures; long = omega (arith, c .before .before .before .before .before .before .before .before .before .before .before .before .before .before .before .before .before .before .before .before .before .before .before .before .before .before .before .before .pre .1 .long); wide = omega (arith, c .before .before .before .before .before .before .before .before .before .before .before .before .before .before .before .before .before .before .before .before .before .before .before .before .before .before .before .before .pre .1 .wide) }) (c .before .before .before .before .before .before .before .before .before .before .before .if2 .left) (λ h q v. same-hidden v w) _ (c .before .before .before .before .read-rules2 .ensures)
+returns-4 c =
+    let begun = c .before .before .before .before .before .before .before .before .before .before .before .before .before .before .before .before .before .before .before .before .before .before .before .before .before .before .before .before in
+    let w = when-read (c .before .before .before .before .before .before .before .before .before .before .before .before .before .before .before .before .before .before .before .before .read-rules .ensures) (c .before .before .before .before .before .before .before .before .before .before .before .before .before .before .r .given .1) in
+    let sizes = begun .pre .1 in
+    stands _ _ _ _ (begun .pre .0) _ _ (record { blank = c .before .before .before .before .before .before .before .before .before .blank-rows .ensures; long = omega (arith, sizes .long); wide = omega (arith, sizes .wide) }) (c .before .before .before .before .before .before .before .before .before .before .before .if2 .left) (λ h q v. same-hidden v w) _ (c .before .before .before .before .read-rules2 .ensures)
 
 pub lower-rules-spec : {M : Type 1} → statement M
 lower-rules-spec =
