@@ -130,7 +130,11 @@ module _ (t : ℕ) where
   join-same-length-2 c = search needs
 
   join-returns-2 : join-lts.Need-returns-2 join-calls join-at join.Post
-  join-returns-2 c = join-full-2 _ _ _ _ _ (c .before .before .before .before .before .before .before .before .before .before .before .lower .ensures) _ _ _ _ (c .before .before .before .before .before .before .before .a .given .1) _ _ (c .before .before .before .before .lower2 .ensures) (c .enum-told2 .given .1)
+  join-returns-2 c =
+      let first = c .before .before .before .before .before .before .before .before .before .before .before .lower .ensures in
+      let a-is = c .before .before .before .before .before .before .before .a .given .1 in
+      let second = c .before .before .before .before .lower2 .ensures in
+      join-full-2 _ _ _ _ _ first _ _ _ _ a-is _ _ second (c .enum-told2 .given .1)
 
   join-gate-word-requires : join-lts.Need-gate-word-requires join-calls join-at join.Post
   join-gate-word-requires c κs = search needs
@@ -146,7 +150,11 @@ module _ (t : ℕ) where
 
   join-returns-3 : join-lts.Need-returns-3 join-calls join-at join.Post
   join-returns-3 c =
-      join-then _ _ _ _ _ (c .before .before .before .before .before .before .before .before .before .before .before .before .before .before .before .before .before .lower .ensures) _ _ _ _ (c .before .before .before .before .before .before .before .before .before .before .before .before .before .a .given .1) _ _ (c .before .before .before .before .before .before .before .before .before .before .lower2 .ensures) _ _ _ _ (c .before .before .before .before .before .before .b .given .1)
+      let first = c .before .before .before .before .before .before .before .before .before .before .before .before .before .before .before .before .before .lower .ensures in
+      let a-is = c .before .before .before .before .before .before .before .before .before .before .before .before .before .a .given .1 in
+      let second = c .before .before .before .before .before .before .before .before .before .before .lower2 .ensures in
+      let b-is = c .before .before .before .before .before .before .b .given .1 in
+      join-then _ _ _ _ _ first _ _ _ _ a-is _ _ second _ _ _ _ b-is
       (rw (c .before .before .before .before .gate-word .ensures) at (c .before .before .push-row .ensures))
 
   lower-node-at-requires : lower-lts.Need-node-at-requires lower-calls lower-at lower.Post
@@ -325,7 +333,11 @@ module _ (t : ℕ) where
   same-same-length-2 c = search needs
 
   same-returns-2 : same-lts.Need-returns-2 same-calls same-at same.Post
-  same-returns-2 c = join-full-2 _ _ _ _ _ (c .before .before .before .before .before .before .before .before .before .before .before .join .ensures) _ _ _ _ (c .before .before .before .before .before .before .before .a .given .1) _ _ (c .before .before .before .before .join2 .ensures) (c .enum-told2 .given .1)
+  same-returns-2 c =
+      let first = c .before .before .before .before .before .before .before .before .before .before .before .join .ensures in
+      let a-is = c .before .before .before .before .before .before .before .a .given .1 in
+      let second = c .before .before .before .before .join2 .ensures in
+      join-full-2 _ _ _ _ _ first _ _ _ _ a-is _ _ second (c .enum-told2 .given .1)
 
   same-gate-word-requires : same-lts.Need-gate-word-requires same-calls same-at same.Post
   same-gate-word-requires c κs = search needs
@@ -341,7 +353,11 @@ module _ (t : ℕ) where
 
   same-returns-3 : same-lts.Need-returns-3 same-calls same-at same.Post
   same-returns-3 c =
-      join-then _ _ _ _ _ (c .before .before .before .before .before .before .before .before .before .before .before .before .before .before .before .before .before .join .ensures) _ _ _ _ (c .before .before .before .before .before .before .before .before .before .before .before .before .before .a .given .1) _ _ (c .before .before .before .before .before .before .before .before .before .before .join2 .ensures) _ _ _ _ (c .before .before .before .before .before .before .b .given .1)
+      let first = c .before .before .before .before .before .before .before .before .before .before .before .before .before .before .before .before .before .join .ensures in
+      let a-is = c .before .before .before .before .before .before .before .before .before .before .before .before .before .a .given .1 in
+      let second = c .before .before .before .before .before .before .before .before .before .before .join2 .ensures in
+      let b-is = c .before .before .before .before .before .before .b .given .1 in
+      join-then _ _ _ _ _ first _ _ _ _ a-is _ _ second _ _ _ _ b-is
       (rw (c .before .before .before .before .gate-word .ensures) at (c .before .before .push-row .ensures))
 
   timed-lower-requires : timed-lts.Need-lower-requires timed-calls timed-at timed.Post
@@ -369,7 +385,10 @@ module _ (t : ℕ) where
   timed-same-length-2 c = search needs
 
   timed-returns-2 : timed-lts.Need-returns-2 timed-calls timed-at timed.Post
-  timed-returns-2 c = timed-then _ _ _ _ _ (c .before .before .before .before .before .before .before .before .before .lower .ensures) _ _ _ _ _ _ _ (c .before .before .before .before .before .top .given .1) (c .before .before .spread .ensures)
+  timed-returns-2 c =
+      let first = c .before .before .before .before .before .before .before .before .before .lower .ensures in
+      let top-is = c .before .before .before .before .before .top .given .1 in
+      timed-then _ _ _ _ _ first _ _ _ _ _ _ _ top-is (c .before .before .spread .ensures)
 
 pub +join+lower+pair+same+timed-spec : {M : Type 1} → statement M
 +join+lower+pair+same+timed-spec =

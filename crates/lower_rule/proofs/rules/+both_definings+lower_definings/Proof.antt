@@ -90,7 +90,10 @@ module _ (t : ℕ) where
   both-definings-returns-2 : both-definings-lts.Need-returns-2 both-definings-calls both-definings-at both-definings.Post
   both-definings-returns-2 c =
       let s = c .before .before .before .before .before .before .before .before .before .before .before .before .before .before .before .before .before .before .before .before .args in
-      rules-then (definingsAt (s .arena .now) (s .left)) (definingsAt (s .arena .now) (s .right)) _ _ _ _ _ (c .before .before .before .before .before .before .before .before .before .before .before .before .before .before .lower-definings .ensures) _ _ (c .before .before .before .before .before .before .before .before .free .given .1) _ _ (c .before .before .before .before .lower-definings2 .ensures)
+      let lefts = c .before .before .before .before .before .before .before .before .before .before .before .before .before .before .lower-definings .ensures in
+      let free-is = c .before .before .before .before .before .before .before .before .free .given .1 in
+      let rights = c .before .before .before .before .lower-definings2 .ensures in
+      rules-then (definingsAt (s .arena .now) (s .left)) (definingsAt (s .arena .now) (s .right)) _ _ _ _ _ lefts _ _ free-is _ _ rights
 
   lower-definings-node-at-requires : lower-definings-lts.Need-node-at-requires lower-definings-calls lower-definings-at lower-definings.Post
   lower-definings-node-at-requires c κs = search needs
@@ -169,7 +172,8 @@ module _ (t : ℕ) where
   lower-definings-returns : lower-definings-lts.Need-returns lower-definings-calls lower-definings-at lower-definings.Post
   lower-definings-returns c =
       let e = sym (c .before .before .before .before .before .before .before .before .before .before .before .before .node-at .ensures) ∙ c .before .before .before .before .before .before .before .before .before .before .x4 .given .1 in
-      rw (definings-step _ _ (c .before .before .before .before .before .before .before .before .before .before .before .before .before .before .before .before .pre .1 .0) (omega arith) e) (all-full (_ ∷ []) _ _ _ _ _ _ (c .before .before .before .before .before .before .lower-rule .ensures) _ (c .enum-told2 .given .1))
+      let own = c .before .before .before .before .before .before .lower-rule .ensures in
+      rw (definings-step _ _ (c .before .before .before .before .before .before .before .before .before .before .before .before .before .before .before .before .pre .1 .0) (omega arith) e) (all-full (_ ∷ []) _ _ _ _ _ _ own _ (c .enum-told2 .given .1))
 
   lower-definings-both-definings-requires-2 : lower-definings-lts.Need-both-definings-requires-2 lower-definings-calls lower-definings-at lower-definings.Post
   lower-definings-both-definings-requires-2 c κs =
@@ -228,7 +232,10 @@ module _ (t : ℕ) where
   lower-definings-returns-6 : lower-definings-lts.Need-returns-6 lower-definings-calls lower-definings-at lower-definings.Post
   lower-definings-returns-6 c =
       let e = sym (c .before .before .before .before .before .before .before .before .before .before .before .before .before .before .before .before .before .before .before .before .node-at .ensures) ∙ c .before .before .before .before .before .before .before .before .before .before .before .before .before .before .before .before .before .before .x4 .given .1 in
-      rw (definings-step _ _ (c .before .before .before .before .before .before .before .before .before .before .before .before .before .before .before .before .before .before .before .before .before .before .before .before .pre .1 .0) (omega arith) e) (all-then (_ ∷ []) _ _ _ _ _ _ (c .before .before .before .before .before .before .before .before .before .before .before .before .before .before .lower-rule .ensures) _ _ (c .before .before .before .before .before .before .before .before .free .given .1) _ _ (c .before .before .before .before .both-definings2 .ensures))
+      let own = c .before .before .before .before .before .before .before .before .before .before .before .before .before .before .lower-rule .ensures in
+      let free-is = c .before .before .before .before .before .before .before .before .free .given .1 in
+      let rest = c .before .before .before .before .both-definings2 .ensures in
+      rw (definings-step _ _ (c .before .before .before .before .before .before .before .before .before .before .before .before .before .before .before .before .before .before .before .before .before .before .before .before .pre .1 .0) (omega arith) e) (all-then (_ ∷ []) _ _ _ _ _ _ own _ _ free-is _ _ rest)
 
 pub +both-definings+lower-definings-spec : {M : Type 1} → statement M
 +both-definings+lower-definings-spec =

@@ -52,7 +52,11 @@ same-length-6 : tie.Need-same-length-6
 same-length-6 c = search needs
 
 returns-3 : tie.Need-returns-3
-returns-3 c = all-then (_ ∷ []) _ _ _ _ _ _ (c .before .before .before .before .before .before .before .before .before .before .before .before .before .before .before .lower-rule .ensures) _ _ (c .before .before .before .before .before .before .before .before .r .given .1) _ _ (c .before .before .before .before .lower-definings .ensures)
+returns-3 c =
+    let own = c .before .before .before .before .before .before .before .before .before .before .before .before .before .before .before .lower-rule .ensures in
+    let r-is = c .before .before .before .before .before .before .before .before .r .given .1 in
+    let rest = c .before .before .before .before .lower-definings .ensures in
+    all-then (_ ∷ []) _ _ _ _ _ _ own _ _ r-is _ _ rest
 
 pub lower-whole-rule-spec : {M : Type 1} → statement M
 lower-whole-rule-spec =
