@@ -2,8 +2,7 @@
 // The rule parser puts nodes; lowering and printing read them.
 ghost use mathlib.Core.Path.{_≡_};
 ghost use mathlib.Core.List.{[], _∷_};
-ghost use Prim.Native.Nat.{_+_, _*_, _≤_, _<_};
-ghost use lib.ListN.{length};
+ghost use Prim.Native.Nat.{_<_};
 ghost use Rattle.read_arena.specs.Nodes.{pick, signOf, signNumber, nodeAt, codeOf, putNode, putKeep};
 ghost use Rattle.read_arena.specs.Readings.{Right, Storable, HasNode, Room};
 
