@@ -13,7 +13,7 @@ ghost use Rattle.spec_tilco.specs.Formula.{Iff};
 ghost use Rattle.spec_tilco.specs.Lowering.{join as joinOf, timed as timedOf, turn};
 ghost use Rattle.read_arena.specs.Nodes.{opOf};
 ghost use Rattle.read_arena.specs.Readings.{NodeIn, NodesIn};
-ghost use Rattle.lower_rows.specs.Writes.{RowBuffer, Near, Lowers};
+ghost use Rattle.lower_rows.specs.Writes.{RowBuffer, NearInterval, Lowers};
 ghost use Rattle.lower_formula.specs.Lowers.{loweredAt, pairAt};
 
 // And (true) for @ and or (false) for ?, traded in the false sense.
@@ -146,7 +146,7 @@ fn timed(
     used: usize,
 ) -> Lowered
     requires { ⌜ NodeIn (now arena) child ⌝ }
-    requires { ⌜ Near first more ⌝ }
+    requires { ⌜ NearInterval first more ⌝ }
     requires { ⌜ RowBuffer (now out) used ⌝ }
     ensures { λ r. ⌜ Lowers (timedOf gate first more (loweredAt (now (arena .entry)) sense child)) used (now (out .entry)) (now (out .exit)) r ⌝ }
 {

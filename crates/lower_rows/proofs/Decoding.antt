@@ -1,4 +1,4 @@
--- Decoding the words that were written gives the rows.
+-- Decoding the row codes that were written gives the rows.
 -- Assumes nothing.
 use mathlib.Core.Path.{_≡_, refl, ap, _∙_}
 use mathlib.Core.Bool.{true, false}
@@ -11,7 +11,7 @@ use Rattle.spec_limits.specs.Limits.{codeKinds, codeNumbers}
 use Rattle.spec_tilco.specs.Inference.{Node, signal, notOf, gate, look}
 use Rattle.lower_rows.specs.Words.{packed, word, unpacked, rowOf, rowAt, Blank}
 
--- A row that its word tells: its first number has at most two bytes.
+-- A row that its code tells: its first number has at most two bytes.
 abbrev pub Coded : Node → Type 0
 Coded signal = Unit {0}
 Coded (notOf x) = x < codeNumbers
@@ -36,7 +36,7 @@ module _ (kind a b : ℕ) (few : kind < codeKinds) (low : a < codeNumbers) where
   unpack : rowOf (packed kind a b) ≡ unpacked kind a b
   unpack = rw (first, left, right)
 
--- Decoding a row's word gives the row.
+-- Decoding a row's code gives the row.
 pub decoded : (n : Node) → Coded n → rowOf (word n) ≡ n
 unfolding word packed
 decoded signal h = refl
@@ -45,7 +45,7 @@ decoded (gate true a b) h = unpack 1 a b (omega arith) h
 decoded (gate false a b) h = unpack 2 a b (omega arith) h
 decoded (look k c) h = unpack 3 c k (omega arith) h
 
--- The blank part before the rows is their signals' words.
+-- The blank part before the rows is their signals' row codes.
 before : (b : ℕ) (m : List ℕ) (rows : List Node) → Blank m → b ≤ length m → (r : ℕ)
     → getD (take b m ++ map word rows) r (word signal) ≡ getD (map word (replicate b signal ++ rows)) r (word signal)
 before zero m rows z h r = refl
@@ -59,7 +59,7 @@ after [] m z r = z r
 after (w ∷ ws) m z zero = refl
 after (w ∷ ws) m z (suc r) = after ws m z r
 
--- Past the end a buffer says a signal, as the blank word does.
+-- Past the end a buffer says a signal, as a signal's row code does.
 past-end : (m : List ℕ) (r : ℕ) → rowOf (getD m r 0) ≡ rowOf (getD m r (word signal))
 unfolding word packed
 past-end [] r = refl

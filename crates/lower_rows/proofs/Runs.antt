@@ -23,7 +23,7 @@ pub sets-append : (m : List ℕ) (b : ℕ) (ws vs : List ℕ) → sets (sets m b
 sets-append m b [] vs = rw add-zero
 sets-append m b (w ∷ ws) vs = rw (add-suc, ← suc-add) (sets-append (set m b w) (suc b) ws vs)
 
--- What is known where the words fit.
+-- What is known where the row codes fit.
 pub fits : (ws : List ℕ) (t b : ℕ) (m m₁ : List ℕ) (r : Lowered) (row u : ℕ) → r ≡ Top row u → Wrote ws t b m m₁ r → Fits ws t b m m₁ row u
 unfolding Wrote
 fits ws t b m m₁ r row u e h = rw e at h
@@ -54,7 +54,7 @@ pub no-room : (ws vs : List ℕ) (t t′ b : ℕ) (m m₁ : List ℕ) (r₁ : Lo
 unfolding Wrote
 no-room ws vs t t′ b m m₁ r₁ e h = let k = rw e at h in record { over = omega (arith, length-append ws vs); long = k .long }
 
--- One word more fits.
+-- One row code more fits.
 pub stored : (w b : ℕ) (m : List ℕ) → b < length m → Wrote (w ∷ []) b b m (set m b w) (Top b (b + 1))
 unfolding Wrote
 stored w b m h = record { top = refl; next = refl; room = omega arith; holds = refl; long = length-set m b w }
@@ -71,7 +71,7 @@ nothing t b m h = record { top = refl; next = rw add-zero; room = h; holds = ref
 
 -- A run of rows that grows by one at the end: r i is the row that comes after i rows.
 module _ (R : ℕ → List Node) (r : ℕ → Node) (start : R zero ≡ []) (next : (i : ℕ) → R (suc i) ≡ R i ++ (r i ∷ [])) where
-  -- It has n words.
+  -- It has n row codes.
   pub run-length : (n : ℕ) → length (map word (R n)) ≡ n
   run-length zero = rw start
   run-length (suc n) = rw (next n, map-append, length-append, run-length n) (add-one n)

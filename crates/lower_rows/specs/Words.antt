@@ -1,4 +1,4 @@
--- Rows as words: kind + codeKinds * (a + codeNumbers * b), with kind 0 for a signal, 1 for an and, 2 for an or, 3 for a look, 4 for a not-row.
+-- Row codes: kind + codeKinds * (a + codeNumbers * b), with kind 0 for a signal, 1 for an and, 2 for an or, 3 for a look, 4 for a not-row.
 -- Assumes nothing.
 use mathlib.Core.Path.{_≡_}
 use mathlib.Core.Bool.{true, false}
@@ -8,11 +8,11 @@ use lib.ListN.{getD}
 use Rattle.spec_limits.specs.Limits.{codeKinds, codeNumbers}
 use Rattle.spec_tilco.specs.Inference.{Node, signal, notOf, gate, look}
 
--- The word of a kind with the numbers a and b.
+-- The row code of a kind with the numbers a and b.
 unfoldable pub packed : ℕ → ℕ → ℕ → ℕ
 packed kind a b = kind + codeKinds * (a + codeNumbers * b)
 
--- A row's word.
+-- A row's code.
 unfoldable pub word : Node → ℕ
 word signal = packed 0 1 0
 word (notOf x) = packed 4 x 0
@@ -28,7 +28,7 @@ unpacked (suc (suc zero)) a b = gate false a b
 unpacked (suc (suc (suc zero))) a b = look b a
 unpacked (suc (suc (suc (suc kind)))) a b = notOf a
 
--- The row that a word says.
+-- The row that a row code says.
 abbrev pub rowOf : ℕ → Node
 rowOf w = unpacked (w % codeKinds) (w / codeKinds % codeNumbers) (w / (codeKinds * codeNumbers))
 
@@ -36,6 +36,6 @@ rowOf w = unpacked (w % codeKinds) (w / codeKinds % codeNumbers) (w / (codeKinds
 abbrev pub rowAt : List ℕ → ℕ → Node
 rowAt m r = rowOf (getD m r 0)
 
--- A buffer without rows: every word is a signal's.
+-- A buffer without rows: every row code is a signal's.
 abbrev pub Blank : List ℕ → Type 0
 Blank m = (i : ℕ) → getD m i (word signal) ≡ word signal

@@ -22,7 +22,7 @@ pub record RowBuffer (m : List ℕ) (used : ℕ) : Type 0 where
   pub used-in : used ≤ length m
 
 -- An interval's first offset and how many more follow: from -63 to 63, each written with 64 added.
-pub record Near (first more : ℕ) : Type 0 where
+pub record NearInterval (first more : ℕ) : Type 0 where
   pub low : 1 ≤ first
   pub high : first + more ≤ mostOffset
 
@@ -51,7 +51,7 @@ abbrev pub loweredSays : Lowered → Read ℕ
 loweredSays (Top row used) = got row used
 loweredSays Full = noRoom
 
--- The words ws with the top row t are written: they stand from b on, and nothing else has changed.
+-- The row codes ws with the top row t are written: they stand from b on, and nothing else has changed.
 pub record Fits (ws : List ℕ) (t b : ℕ) (m m′ : List ℕ) (row used : ℕ) : Type 0 where
   pub top : row ≡ t
   pub next : used ≡ b + length ws

@@ -8,7 +8,7 @@ ghost use Prim.Native.Nat.{_≤_};
 ghost use lib.ListN.{getD};
 ghost use Rattle.spec_limits.specs.Limits.{mostRows, mostOffset};
 ghost use Rattle.lower_rows.specs.Words.{word};
-ghost use Rattle.lower_rows.specs.Writes.{RowBuffer, Near, CountsUp, looks, gates, lastGate, Wrote, Spreads};
+ghost use Rattle.lower_rows.specs.Writes.{RowBuffer, NearInterval, CountsUp, looks, gates, lastGate, Wrote, Spreads};
 
 // The offsets from the first up, as many as an interval can have.
 fn offsets_from(first: u16) -> [u16; OFFSET]
@@ -82,7 +82,7 @@ pub fn spread(
     out: &mut [u64],
     used: usize,
 ) -> Lowered
-    requires { ⌜ Near first more ⌝ }
+    requires { ⌜ NearInterval first more ⌝ }
     requires { ⌜ RowBuffer (now out) used ⌝ }
     ensures { λ r. ⌜ Spreads gate first more child used (now (out .entry)) (now (out .exit)) r ⌝ }
 {

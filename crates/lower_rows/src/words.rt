@@ -1,4 +1,5 @@
-// Rows as words, one row more in the buffer, and a signal in a sense. A signal's own row is not written: its word is SIGNAL, which the buffer is lent with.
+// Row codes, one row more in the buffer, and a signal in a sense. A signal's own row is not written: its row code is SIGNAL, which the buffer
+// is lent with.
 use spec_limits::KINDS;
 use spec_limits::NUMBERS;
 ghost use mathlib.Core.Path.{_≡_};
@@ -8,7 +9,7 @@ ghost use Rattle.spec_tilco.specs.Lowering.{lit};
 ghost use Rattle.lower_rows.specs.Words.{word};
 ghost use Rattle.lower_rows.specs.Writes.{RowBuffer, Wrote, Lowers};
 
-// The word of a signal: of kind 0, with the number 1.
+// The row code of a signal: of kind 0, with the number 1.
 pub const SIGNAL: u64 = KINDS;
 
 // The top row of what was written and the rows then used; or there is no room.
@@ -17,7 +18,7 @@ pub enum Lowered {
     Full,
 }
 
-// The word of a gate: an and (true) or an or (false) of the rows a and b.
+// The row code of a gate: an and (true) or an or (false) of the rows a and b.
 pub fn gate_word(gate: bool, a: u16, b: u16) -> u64
     ensures { λ r. ⌜ r ≡ word (gateOf gate a b) ⌝ }
 {
@@ -27,7 +28,7 @@ pub fn gate_word(gate: bool, a: u16, b: u16) -> u64
     if gate { 1 + rows } else { 2 + rows }
 }
 
-// The word of a look at the row child, at an offset with 64 added.
+// The row code of a look at the row child, at an offset with 64 added.
 pub fn look_word(child: u16, offset: u16) -> u64
     ensures { λ r. ⌜ r ≡ word (look offset child) ⌝ }
 {

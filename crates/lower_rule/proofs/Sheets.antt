@@ -18,7 +18,7 @@ use Rattle.lower_rule.specs.Rules.{Buffers, LowersAll}
 use Rattle.lower_rule.specs.declared.rules.AllLowered.the-variants.{Next}
 use Rattle.lower_rows.proofs.Decoding.{Coded, row-at}
 
--- A row's word tells it, where its children stand before it.
+-- A row's code tells it, where its children stand before it.
 coded : (m r : ℕ) (n : Node) → Ordered m r n → r < codeNumbers → Coded n
 coded m r signal o h = tt
 coded m r (notOf x) o h = omega arith
@@ -32,7 +32,7 @@ module _ (s : Sheet) (k : ℕ) (B B′ : Buffers) where
   sheet-used at used w = (omega (arith, w .next, row-count s), omega (arith, w .next, w .room, row-count s))
 
 module _ (s : Sheet) (declared : Declared s) where
-  -- Past the last row the word is a signal's.
+  -- Past the last row the row code is a signal's.
   row-coded : rowCount s ≤ mostRows → (r : ℕ) → Coded (node (program s) r)
   row-coded few r =
       ⊎-elim (λ h. coded (signalRows s) r (node (program s) r) (children-before s declared r) (omega arith))

@@ -1,4 +1,4 @@
--- A row buffer that is made blank, word after word.
+-- A row buffer that is made blank, row after row.
 -- Assumes nothing.
 use mathlib.Core.Path.{_≡_, sym, subst}
 use mathlib.Core.Logic.{⊎-elim}
@@ -11,7 +11,7 @@ use Rattle.spec_ticks.proofs.Bits.{lt-or-ge}
 use Rattle.spec_tilco.specs.Inference.{signal}
 use Rattle.lower_rows.specs.Words.{word, Blank}
 
--- The first n words are blank.
+-- The first n rows are blank.
 abbrev pub BlankTo : ℕ → List ℕ → Type 0
 BlankTo n m = (i : ℕ) → i < n → getD m i (word signal) ≡ word signal
 

@@ -13,12 +13,12 @@ use Rattle.read_arena.specs.declared.Node.{Node}
 use Rattle.read_arena.specs.declared.Node.the-variants.{Name, Deny, Pair, Time}
 use Rattle.read_arena.proofs.Read.{read-same, read-put}
 
--- A rule that stands has its readings.
+-- A rule that stands at a node is the node's.
 pub held-read : {a : List ℕ} {x n : ℕ} {w : Written} → Held a x n w → readAt a n ≡ ruleReading x w
 unfolding formAt writtenAt definingsAt readAt readTo
 held-read h = cc
 
--- A rule stands where its readings are.
+-- The node's rule stands at it.
 pub read-held : {a : List ℕ} {x n : ℕ} {w : Written} → readAt a n ≡ ruleReading x w → Held a x n w
 unfolding formAt writtenAt definingsAt
 read-held e = record { text = cc; form = cc; definings = cc }
@@ -28,7 +28,7 @@ pub held-kept : {a b : List ℕ} {c x n : ℕ} {w : Written} → Arena c a → S
 held-kept {n = n} A s lt h = read-held (read-same A s n lt ∙ held-read h)
 
 module _ {a : List ℕ} {c : ℕ} (A : Arena c a) (R : Room a c 1) where
-  -- A rule stands at the node that was put, where the node's readings are the rule's.
+  -- A rule stands at the node that was put, where it is that node's.
   held-put : (k : Node) (x : ℕ) (w : Written) → Right k c → readingOf k c (readAt a) ≡ ruleReading x w → Held (putNode a c k) x c w
   held-put k x w r e = read-held (read-put k A R r ∙ e)
 

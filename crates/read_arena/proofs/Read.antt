@@ -1,4 +1,4 @@
--- The readings of a node go by its kind, over the readings of the nodes before it.
+-- The rule at a node goes by the node's kind, over the rules at the nodes before it.
 -- Assumes nothing.
 use mathlib.Core.Path.{_≡_, refl, ap, _∙_}
 use mathlib.Core.List.{List}
@@ -10,7 +10,7 @@ use Rattle.read_arena.specs.declared.Node.{Node}
 use Rattle.read_arena.specs.declared.Node.the-variants.{Name, Deny, Pair, Time, Keep}
 use Rattle.read_arena.proofs.Puts.{node-new, same-put, arena-put}
 
--- A node's readings go by those before it alone.
+-- A node's rule goes by those before it alone.
 reading-local : (k : Node) (n : ℕ) (f g : ℕ → Reading) → Right k n → ((i : ℕ) → i < n → f i ≡ g i) → readingOf k n f ≡ readingOf k n g
 reading-local (Name x) n f g r h = refl
 reading-local (Deny x) n f g r h = rw (h x r)
@@ -18,7 +18,7 @@ reading-local (Pair s x y) n f g r h = rw (h x (r .0), h y (r .1))
 reading-local (Time u x first more) n f g r h = rw (h x (r .0))
 reading-local (Keep b x y row) n f g r h = rw (h x (r .0), h y (r .1), h (n - 1) (omega arith))
 
--- Any depth past the node's number gives the same readings, and so do the same nodes in another buffer.
+-- Any depth past the node's number gives the same rule, and so do the same nodes in another buffer.
 read-deep : (c : ℕ) (a b : List ℕ) → Arena c a → Same c a b → (d e n : ℕ) → n < d → n < e → n < c → readTo d b n ≡ readTo e a n
 unfolding readTo
 read-deep c a b A s zero e n hd he h = absurd (omega arith)
@@ -28,12 +28,12 @@ read-deep c a b A s (suc d) (suc e) n hd he h =
     (reading-local (nodeAt a n) n (readTo d b) (readTo e a) (A .right n h)
     (λ i lt. read-deep c a b A s d e i (omega arith) (omega arith) (omega arith)))
 
--- The same nodes have the same readings.
+-- The same nodes have the same rules.
 pub read-same : {c : ℕ} {a b : List ℕ} → Arena c a → Same c a b → (n : ℕ) → n < c → readAt b n ≡ readAt a n
 unfolding readAt
 read-same {c} {a} {b} A s n h = read-deep c a b A s (suc n) (suc n) n (omega arith) (omega arith) h
 
--- The readings of node n, which is k.
+-- The rule at node n, which is k.
 pub read-step : {c : ℕ} {a : List ℕ} (k : Node) (n : ℕ) → Arena c a → n < c → nodeAt a n ≡ k → readAt a n ≡ readingOf k n (readAt a)
 unfolding readAt readTo
 read-step {c} {a} k n A h e =
@@ -61,7 +61,7 @@ module _ {c : ℕ} {a : List ℕ} (k : Node) (n : ℕ) (A : Arena c a) (h : n < 
   pub right-step : Right k n
   right-step = rw (← e) (A .right n h)
 
--- The readings of a node that was put, by those before it.
+-- The rule at a node that was put, by those before it.
 pub read-put : {a : List ℕ} {c : ℕ} (k : Node) → Arena c a → Room a c 1 → Right k c → readAt (putNode a c k) c ≡ readingOf k c (readAt a)
 read-put {a} {c} k A R r =
     read-step k c (arena-put k A R r) (omega arith) (node-new a c k (omega arith))

@@ -10,7 +10,7 @@ use Rattle.read_arena.specs.declared.Node.{Node}
 use Rattle.read_arena.specs.declared.Node.the-variants.{Name, Deny, Pair, Time, Keep}
 use Rattle.read_arena.specs.Nodes.{opOf, nodeAt}
 
--- The three readings of a node.
+-- The rule at a node: the formula that is lowered, the rule as it is written, and the defining rules of its hidden signals.
 pub record Reading : Type 0 where
   pub form : Formula
   pub text : Written
@@ -41,7 +41,7 @@ rulesOf (Pair s x y) n form f = f x ++ f y
 rulesOf (Time u x first more) n form f = f x
 rulesOf (Keep b x y row) n form f = form (n - 1) ∷ f x ++ f y
 
--- The readings of node n, by those before it.
+-- The rule at node n, by those before it.
 abbrev pub readingOf : Node → ℕ → (ℕ → Reading) → Reading
 readingOf k n f = record {
   form = formOf k (λ i. f i .form);
@@ -49,12 +49,12 @@ readingOf k n f = record {
   definings = rulesOf k n (λ i. f i .form) (λ i. f i .definings);
 }
 
--- The readings of node n, to a depth of d.
+-- The rule at node n, to a depth of d.
 unfoldable pub readTo : ℕ → List ℕ → ℕ → Reading
 readTo zero a n = record { form = Formula.sig 0; text = Written.name 0; definings = [] }
 readTo (suc d) a n = readingOf (nodeAt a n) n (readTo d a)
 
--- The readings of node n.
+-- The rule at node n.
 unfoldable pub readAt : List ℕ → ℕ → Reading
 readAt a n = readTo (suc n) a n
 
@@ -118,7 +118,7 @@ pub record Room (a : List ℕ) (c k : ℕ) : Type 0 where
 pub record Same (c : ℕ) (a b : List ℕ) : Type 0 where
   pub node : (n : ℕ) → n < c → nodeAt b n ≡ nodeAt a n
 
--- What the readings of the rule w have to be, its hidden signals numbered from x.
+-- What stands at the node of the rule w, its hidden signals numbered from x.
 abbrev pub ruleReading : ℕ → Written → Reading
 ruleReading x w = record { form = plain x w; text = w; definings = definingsOf x w }
 

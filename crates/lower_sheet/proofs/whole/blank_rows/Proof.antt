@@ -1,4 +1,4 @@
--- `blank_rows` meets its contract. The invariant: the first i words are blank. Assumes nothing.
+-- `blank_rows` meets its contract. The invariant: the first i rows are blank. Assumes nothing.
 use native.Mathlib.Omega.{arith}
 use mathlib.Core.Path.{_≡_, refl}
 use Prim.Native.Nat.{_-_}
