@@ -1,7 +1,7 @@
 //! Faults in a sheet's values: numbers, names, and names in rules.
 
+use super::draft::Draft;
 use super::random::Random;
-use super::sheet::Draft;
 
 /// A number out of its range, against its writing rule, or not the one of the lines that follow.
 pub fn wrong_number(random: &mut Random, draft: &mut Draft) {

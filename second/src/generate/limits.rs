@@ -1,9 +1,9 @@
 //! Sheets at each limit and just over it.
 
+use super::draft::{names, random_rules, Draft};
 use super::formula::{self, Style};
 use super::limit_formula;
 use super::random::Random;
-use super::sheet::{names, random_rules, Draft};
 
 /// Rules that make from 1,020 to 1,028 rows in all.
 pub fn rows_near_limit(random: &mut Random) -> Draft {

@@ -1,6 +1,7 @@
 //! The generator of cases: a sheet, a lent table, and calls one after another; the same seed gives the same cases.
 
 mod damage;
+mod draft;
 mod faults;
 mod formula;
 mod limit_formula;

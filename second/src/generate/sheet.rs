@@ -1,42 +1,10 @@
 //! Texts of sheets: of several sizes and kinds, whole and with faults.
 
 use super::damage::damage;
+use super::draft::{names, random_rules, Draft};
 use super::formula::{self, Style};
 use super::random::Random;
 use super::{faults, limit_formula, limits};
-
-/// The values of a sheet's lines, before they are written out.
-pub struct Draft {
-    pub window: String,
-    pub signals: String,
-    pub names: Vec<String>,
-    pub rules_count: String,
-    pub rules: Vec<String>,
-}
-
-impl Draft {
-    pub fn new(window: usize, names: Vec<String>, rules: Vec<String>) -> Self {
-        Draft {
-            window: window.to_string(),
-            signals: names.len().to_string(),
-            names,
-            rules_count: rules.len().to_string(),
-            rules,
-        }
-    }
-
-    fn text(&self) -> Vec<u8> {
-        let mut text = format!("window={}\nsignals={}\n", self.window, self.signals);
-        for name in &self.names {
-            text += &format!("signal={name}\n");
-        }
-        text += &format!("rules={}\n", self.rules_count);
-        for rule in &self.rules {
-            text += &format!("rule={rule}\n");
-        }
-        text.into_bytes()
-    }
-}
 
 /// A random sheet; about half are without a fault.
 pub fn sheet(random: &mut Random) -> Vec<u8> {
@@ -65,39 +33,6 @@ pub fn sheet(random: &mut Random) -> Vec<u8> {
         _ => text = limits::length_near_limit(random, text),
     }
     text
-}
-
-/// From `least` to `most` names of one or more letters, all different.
-pub fn names(random: &mut Random, least: usize, most: usize) -> Vec<String> {
-    let count = least + random.below(most + 1 - least);
-    let long = random.chance(20);
-    let mut names = vec![];
-    for number in 0..count {
-        let letter = (b'a' + (number % 26) as u8) as char;
-        let mut name = letter.to_string();
-        if number >= 26 {
-            name += &(number / 26).to_string();
-        }
-        if long {
-            name += random.pick(&["", "x", "until", "0", "9z", "abcdefghijklm"]);
-        }
-        names.push(name);
-    }
-    if random.chance(5) {
-        names[0] = random
-            .pick(&["since0", "sinc", "untila", "sincesince", "unti"])
-            .to_string();
-    }
-    names
-}
-
-pub fn random_rules(random: &mut Random, style: &Style, count: usize, size: usize) -> Vec<String> {
-    let mut rules = vec![];
-    for _ in 0..count {
-        let size = 1 + random.below(size);
-        rules.push(formula::formula(random, style, size));
-    }
-    rules
 }
 
 /// A draft of random rules.
