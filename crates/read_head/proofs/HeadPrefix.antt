@@ -5,6 +5,7 @@ use mathlib.Core.List.{List, [], _∷_, _++_}
 use Prim.Native.Nat.{ℕ}
 use lib.Dec.{eqb}
 use lib.ListN.{length}
+use Rattle.spec_limits.specs.Limits.{mostRules, mostSignals, mostTicks}
 use Rattle.read_bytes.specs.Read.Read.{got}
 use Rattle.read_bytes.specs.Bytes.{bytes}
 use Rattle.read_names.specs.Words.{wordAt, namesAt, findName}
@@ -35,14 +36,14 @@ module _ (h x : List ℕ) where
     both : (head (h ++ x) ≡ got k p) × Same (k .places)
     unfolding head namesAt
     both =
-        let a = came (rangedLine h 0 (bytes "window=") 2 3 1 64) _ e in
-        let b = came (rangedLine h (a .place) (bytes "signals=") 2 3 1 64) _ (a .then) in
+        let a = came (rangedLine h 0 (bytes "window=") 2 3 1 mostTicks) _ e in
+        let b = came (rangedLine h (a .place) (bytes "signals=") 2 3 1 mostSignals) _ (a .then) in
         let d = came (inTurn (signalLine h) (b .value) [] (b .place)) _ (b .then) in
-        let f = came (rangedLine h (d .place) (bytes "rules=") 2 3 0 64) _ (d .then) in
+        let f = came (rangedLine h (d .place) (bytes "rules=") 2 3 0 mostRules) _ (d .then) in
         let s = turn-alike (signalLine h) (signalLine (h ++ x)) Same signal-kept (b .value) [] (b .place) refl (d .first) in
         let m : headOf (a .value) (d .value) (f .value) ≡ k = same-value (f .then) in (
-          head-is (h ++ x) (rangedLine-kept h x 0 (bytes "window=") 2 3 1 64 (a .first)) (rangedLine-kept h x (a .place) (bytes "signals=") 2 3 1 64 (b .first)) (s .0)
-              (rangedLine-kept h x (d .place) (bytes "rules=") 2 3 0 64 (f .first)) ∙ f .then,
+          head-is (h ++ x) (rangedLine-kept h x 0 (bytes "window=") 2 3 1 mostTicks (a .first)) (rangedLine-kept h x (a .place) (bytes "signals=") 2 3 1 mostSignals (b .first)) (s .0)
+              (rangedLine-kept h x (d .place) (bytes "rules=") 2 3 0 mostRules (f .first)) ∙ f .then,
           subst (λ (y : Head). Same (y .places)) m (s .1),
         )
 

@@ -5,6 +5,7 @@ use mathlib.Core.List.{List, [], _∷_, _++_}
 use Prim.Native.Nat.{ℕ, zero, suc, _≤_}
 use lib.Dec.{eqb}
 use lib.ListN.{length}
+use Rattle.spec_limits.specs.Limits.{mostNameBytes, mostRules, mostSignals, mostTicks}
 use Rattle.read_bytes.specs.Read.{Read}
 use Rattle.read_bytes.specs.Read.Read.{got}
 use Rattle.read_bytes.specs.Bytes.{bytes}
@@ -29,7 +30,7 @@ turn-all Q P part (suc n) t p k e =
 module _ (s : List ℕ) where
   -- The word at v is short.
   abbrev Short : ℕ → Type 0
-  Short v = length (wordAt s v) ≤ 16
+  Short v = length (wordAt s v) ≤ mostNameBytes
 
   signal-short : (t : List ℕ) (p v q : ℕ) → signalLine s t p ≡ got v q → Short v
   unfolding signalLine
@@ -42,17 +43,17 @@ module _ (s : List ℕ) where
   head-short : {h : Head} {p : ℕ} → head s ≡ got h p → All Short (h .places)
   unfolding head
   head-short {h} e =
-      let a = came (rangedLine s 0 (bytes "window=") 2 3 1 64) _ e in
-      let b = came (rangedLine s (a .place) (bytes "signals=") 2 3 1 64) _ (a .then) in
+      let a = came (rangedLine s 0 (bytes "window=") 2 3 1 mostTicks) _ e in
+      let b = came (rangedLine s (a .place) (bytes "signals=") 2 3 1 mostSignals) _ (a .then) in
       let d = came (inTurn (signalLine s) (b .value) [] (b .place)) _ (b .then) in
-      let f = came (rangedLine s (d .place) (bytes "rules=") 2 3 0 64) _ (d .then) in
+      let f = came (rangedLine s (d .place) (bytes "rules=") 2 3 0 mostRules) _ (d .then) in
       subst (λ (x : Head). All Short (x .places)) (same-value (f .then)) (turn-all Short (signalLine s) signal-short (b .value) [] (b .place) tt (d .first))
 
-  names-short : (ps : List ℕ) → All Short ps → All (λ w. length w ≤ 16) (namesAt s ps)
+  names-short : (ps : List ℕ) → All Short ps → All (λ w. length w ≤ mostNameBytes) (namesAt s ps)
   unfolding namesAt
   names-short [] a = tt
   names-short (p ∷ ps) a = (a .0, names-short ps (a .1))
 
   -- The names of an accepted head.
-  pub head-names-short : {h : Head} {p : ℕ} → head s ≡ got h p → All (λ w. length w ≤ 16) (namesAt s (h .places))
+  pub head-names-short : {h : Head} {p : ℕ} → head s ≡ got h p → All (λ w. length w ≤ mostNameBytes) (namesAt s (h .places))
   head-names-short {h} e = names-short (h .places) (head-short e)

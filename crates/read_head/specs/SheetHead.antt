@@ -5,6 +5,7 @@ use Prim.Native.Nat.{ℕ, _≤_}
 use mathlib.Core.List.{List, []}
 use lib.ListN.{length, take}
 use lib.Dec.{eqb}
+use Rattle.spec_limits.specs.Limits.{mostRules, mostSignals, mostTicks}
 use Rattle.read_bytes.specs.Read.{Read, andThen}
 use Rattle.read_bytes.specs.Read.Read.{got, refused}
 use Rattle.read_bytes.specs.Bytes.{bytes, pick}
@@ -34,10 +35,10 @@ headOf w places m = record { window = w; places = places; count = m }
 -- "Fixed order: `window=`, `signals=`, one `signal=` a signal, `rules=`": the head, and the place of the first rule's line.
 unfoldable pub head : List ℕ → Read Head
 head s =
-    andThen (rangedLine s 0 (bytes "window=") 2 3 1 64) (λ w p.
-    andThen (rangedLine s p (bytes "signals=") 2 3 1 64) (λ n q.
+    andThen (rangedLine s 0 (bytes "window=") 2 3 1 mostTicks) (λ w p.
+    andThen (rangedLine s p (bytes "signals=") 2 3 1 mostSignals) (λ n q.
     andThen (inTurn (signalLine s) n [] q) (λ places u.
-    andThen (rangedLine s u (bytes "rules=") 2 3 0 64) (λ m e. got (headOf w places m) e))))
+    andThen (rangedLine s u (bytes "rules=") 2 3 0 mostRules) (λ m e. got (headOf w places m) e))))
 
 -- What each case of the signals' reader says: the names' places are the table's first n numbers.
 abbrev pub placesOf : ℕ → List ℕ → Step → Read (List ℕ)
@@ -47,10 +48,10 @@ placesOf n T (step.Refused k p) = refused k p
 -- Window, signals and rules are in their ranges.
 pub record Sizes (w n m : ℕ) : Type 0 where
   pub window-low : 1 ≤ w
-  pub window-high : w ≤ 64
+  pub window-high : w ≤ mostTicks
   pub signals-low : 1 ≤ n
-  pub signals-high : n ≤ 64
-  pub rules-high : m ≤ 64
+  pub signals-high : n ≤ mostSignals
+  pub rules-high : m ≤ mostRules
 
 -- What each case of the head's reader says.
 pub data Headed (s T : List ℕ) : Heading → Type 0 where

@@ -4,10 +4,14 @@ use read_lines::Step;
 use read_lines::name_line;
 use read_lines::ranged_line;
 use read_names::find_name;
+use spec_limits::RULES;
+use spec_limits::SIGNALS;
+use spec_limits::TICKS;
 ghost use mathlib.Core.Path.{_≡_};
 ghost use mathlib.Core.List.{[]};
 ghost use Prim.Native.Nat.{ℕ, _≤_};
 ghost use lib.ListN.{length};
+ghost use Rattle.spec_limits.specs.Limits.{mostSignals};
 ghost use Rattle.read_bytes.specs.Read.{Refusal};
 ghost use Rattle.read_bytes.specs.Read.Read.{refused};
 ghost use Rattle.read_lines.specs.Lines.{says, inTurn};
@@ -74,14 +78,14 @@ fn refused_line(l: Step) -> Heading
 
 // The head of the sheet: the table gets the place of each signal's name.
 pub fn head(s: &[u8], places: &mut [u64]) -> Heading
-    requires { ⌜ length (now places) ≡ 64 ⌝ }
+    requires { ⌜ length (now places) ≡ mostSignals ⌝ }
     ensures { λ r. ⌜ Headed (now (s .entry)) (now (places .exit)) r ⌝ }
 {
-    let a = ranged_line(s, 0, b"window=", 2, 3, 1, 64);
+    let a = ranged_line(s, 0, b"window=", 2, 3, 1, TICKS);
     let Step::Got(window, p) = a else {
         return refused_line(a);
     };
-    let b = ranged_line(s, p, b"signals=", 2, 3, 1, 64);
+    let b = ranged_line(s, p, b"signals=", 2, 3, 1, SIGNALS);
     let Step::Got(signals, q) = b else {
         return refused_line(b);
     };
@@ -89,7 +93,7 @@ pub fn head(s: &[u8], places: &mut [u64]) -> Heading
     let Step::Got(_, u) = d else {
         return refused_line(d);
     };
-    let e = ranged_line(s, u, b"rules=", 2, 3, 0, 64);
+    let e = ranged_line(s, u, b"rules=", 2, 3, 0, RULES);
     let Step::Got(rules, first) = e else {
         return refused_line(e);
     };

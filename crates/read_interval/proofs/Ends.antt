@@ -15,7 +15,7 @@ use Rattle.read_bytes.specs.Numbers.{digits}
 use Rattle.read_bytes.proofs.Tests.{between-in, between-is}
 use Rattle.read_bytes.proofs.Places.{Reach, inside}
 use Rattle.read_bytes.proofs.Values.{digit-inside, digits-on, digits-reach}
-use Rattle.read_interval.specs.Interval.{signed, leading, endAt}
+use Rattle.read_interval.specs.Interval.{signed, leading, endAt, endZero}
 
 -- A number is there or missing, and not both.
 missing-not : {v q : ℕ} → Missing ≡ Value v q → ⊥
@@ -29,7 +29,7 @@ past s p b eb n =
 
 -- The sign changes the value of the digits and nothing else.
 module _ (plus : Bool) {d e : Number} (a : d ≡ e) where
-  pub signed-some : {v q x : ℕ} → d ≡ Value v q → x ≡ pick plus (λ _. 10000 + v) (10000 - v) → Value x q ≡ signed plus e
+  pub signed-some : {v q x : ℕ} → d ≡ Value v q → x ≡ pick plus (λ _. endZero + v) (endZero - v) → Value x q ≡ signed plus e
   unfolding signed
   signed-some f h = rw (← a, f, h)
 
@@ -38,12 +38,12 @@ module _ (plus : Bool) {d e : Number} (a : d ≡ e) where
   signed-none f = rw (← a, f)
 
 -- Four digits stay below 10,000.
-pub four-most : (s : List ℕ) (p : ℕ) {d : Number} {v q : ℕ} → p ≤ length s → d ≡ digits s 4 p 0 → d ≡ Value v q → v < 10000
+pub four-most : (s : List ℕ) (p : ℕ) {d : Number} {v q : ℕ} → p ≤ length s → d ≡ digits s 4 p 0 → d ≡ Value v q → v < endZero
 four-most s p h a f = omega (arith, digits-reach s 4 p 0 h (sym a ∙ f) .1)
 
 -- An end's first byte decides how it is read, and after a `-` the second.
 module _ (s : List ℕ) (p b : ℕ) (eb : b ≡ peek s p) where
-  pub end-zero : b ≡ byte "0" → Value 10000 (p + 1) ≡ endAt s p
+  pub end-zero : b ≡ byte "0" → Value endZero (p + 1) ≡ endAt s p
   unfolding endAt
   end-zero e = rw (sym eb ∙ e)
 
@@ -86,7 +86,7 @@ end-reach s p {v} {q} e = go (eqb (peek s p) (byte "0")) refl (leading (peek s p
     go true ez l el m em n en =
         let b = eqb-true (peek s p) (byte "0") ez in
         let i = digit-inside s p (rw b) in
-        let a : Value 10000 (p + 1) ≡ Value v q = rw ez at e in
+        let a : Value endZero (p + 1) ≡ Value v q = rw ez at e in
         let j : p + 1 ≡ q = cc in
         record { ahead = omega arith; inside = omega arith }
     go false ez true el m em n en = signed-place (Reach s (p + 1)) true (digits s 4 p 0) (digits-ahead s p el) (rw (ez, el) at e)

@@ -9,6 +9,7 @@ use native.Mathlib.Omega.{arith}
 use borrow.Author.Tests.{eq-eqb, ne-eqb, le-leb, lt-leb, leb-true}
 use lib.Dec.{eqb, leb}
 use lib.ListN.{length}
+use Rattle.spec_limits.specs.Limits.{mostOffset}
 use Rattle.read_bytes.specs.declared.numbers.Number.{Number}
 use Rattle.read_bytes.specs.declared.numbers.Number.the-variants.{Value, Missing}
 use Rattle.read_bytes.specs.Bytes.{byte, bytes, peek, pick, oneOf}
@@ -16,7 +17,7 @@ use Rattle.read_bytes.proofs.Tests.{between-is}
 use Rattle.read_bytes.proofs.Places.{Reach, inside-test}
 use Rattle.read_interval.specs.declared.Span.{Span}
 use Rattle.read_interval.specs.declared.Span.the-variants.{Over, Refused}
-use Rattle.read_interval.specs.Interval.{endAt, leftOut, near, spanOf, endThen, endAfter, closeAt, commaAt, interval}
+use Rattle.read_interval.specs.Interval.{endAt, leftOut, near, spanOf, endThen, endAfter, closeAt, commaAt, interval, leastEnd, greatestEnd, overOffset}
 use Rattle.read_interval.proofs.Ends.{end-reach}
 
 -- A byte that equals one of two, or neither.
@@ -38,7 +39,7 @@ left-out-most b round = go (eqb b round)
 -- The answers to a whole interval.
 module _ (p o v w c x : ℕ) where
   module _ {l r : ℕ} (el : l ≡ leftOut o (byte "(")) (er : r ≡ leftOut c (byte ")")) (hv : near v ≡ true) (hw : near w ≡ true) where
-    pub span-in : v + l ≤ w - r → Over (v + l - 9936) (w - r - (v + l)) x ≡ spanOf p o v w c x
+    pub span-in : v + l ≤ w - r → Over (v + l - overOffset) (w - r - (v + l)) x ≡ spanOf p o v w c x
     unfolding spanOf
     span-in h = rw (← el, ← er, hv, hw, le-leb (v + l) (w - r) h)
 
@@ -86,7 +87,7 @@ interval-by s p b eb = rw eb
 
 -- What holds of what is read at p: an interval ends after p and lies in -63 to 63, and a refusal is 5 or 7 and its place is in the text.
 abbrev pub Sound : List ℕ → ℕ → Span → Type 0
-Sound s p (Over first more q) = Reach s (p + 1) q × (1 ≤ first) × (first + more ≤ 127)
+Sound s p (Over first more q) = Reach s (p + 1) q × (1 ≤ first) × (first + more ≤ mostOffset)
 Sound s p (Refused n k) = ((n ≡ 5) ⊎ (n ≡ 7)) × (p ≤ length s → k ≤ length s)
 
 module _ (s : List ℕ) (p : ℕ) where
@@ -104,12 +105,12 @@ module _ (s : List ℕ) (p : ℕ) where
   sound-span o v w c x r =
       let l = leftOut o (byte "(") in
       let m = leftOut c (byte ")") in
-      sound-pick (near v && near w && leb (v + l) (w - m)) (Over (v + l - 9936) (w - m - (v + l)) x) (Refused 7 p)
+      sound-pick (near v && near w && leb (v + l) (w - m)) (Over (v + l - overOffset) (w - m - (v + l)) x) (Refused 7 p)
       (λ h.
       let a = and-eq-true-iff (near v && near w) (leb (v + l) (w - m)) .0 h in
       let b = and-eq-true-iff (near v) (near w) .0 (a .0) in
-      let i = between-is 9937 10063 v (b .0) in
-      let j = between-is 9937 10063 w (b .1) in
+      let i = between-is leastEnd greatestEnd v (b .0) in
+      let j = between-is leastEnd greatestEnd w (b .1) in
       let k = leb-true (v + l) (w - m) (a .1) in
       (r, omega (arith, i .0), omega (arith, j .1)))
       (inr refl, λ h. h)
@@ -150,7 +151,7 @@ module _ (s : List ℕ) (p : ℕ) where
       (λ v q. sound-comma (peek s p) v q)
 
   -- Where an interval ends, and how far its whole numbers lie.
-  pub interval-reach : {first more q : ℕ} → interval s p ≡ Over first more q → Reach s (p + 1) q × (1 ≤ first) × (first + more ≤ 127)
+  pub interval-reach : {first more q : ℕ} → interval s p ≡ Over first more q → Reach s (p + 1) q × (1 ≤ first) × (first + more ≤ mostOffset)
   interval-reach e = subst (Sound s p) e interval-sound
 
   -- A refusal's number and place.

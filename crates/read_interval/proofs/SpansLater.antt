@@ -15,7 +15,7 @@ use Rattle.read_bytes.specs.Numbers.{digits}
 use Rattle.read_bytes.proofs.Later.{laterNumber, pick-map, peek-later, digits-later}
 use Rattle.read_interval.specs.declared.Span.{Span}
 use Rattle.read_interval.specs.declared.Span.the-variants.{Over, Refused}
-use Rattle.read_interval.specs.Interval.{signed, leading, endAt, leftOut, near, spanOf, endThen, endAfter, closeAt, commaAt, interval}
+use Rattle.read_interval.specs.Interval.{signed, leading, endAt, leftOut, near, spanOf, endThen, endAfter, closeAt, commaAt, interval, endZero, overOffset}
 
 -- An interval, or its refusal, whose place is d later.
 abbrev pub laterSpan : ℕ → Span → Span
@@ -32,7 +32,7 @@ unfolding spanOf
 span-later d p o v w c x =
     let lo = v + leftOut o (byte "(") in
     let hi = w - leftOut c (byte ")") in
-    pick-map (laterSpan d) (near v && near w && leb lo hi) (Over (lo - 9936) (hi - lo) x) (Refused 7 p)
+    pick-map (laterSpan d) (near v && near w && leb lo hi) (Over (lo - overOffset) (hi - lo) x) (Refused 7 p)
 
 module _ (u t : List ℕ) where
   -- an end
@@ -43,8 +43,8 @@ module _ (u t : List ℕ) where
       (go (eqb (peek t i) (byte "0")) (leading (peek t i)) (eqb (peek t i) (byte "-") && leading (peek t (i + 1))))
     where
       go : (a b c : Bool)
-          → pick a (λ _. Value 10000 (length u + (i + 1))) (pick b (λ _. laterNumber (length u) (signed true (digits t 4 i 0))) (pick c (λ _. laterNumber (length u) (signed false (digits t 4 (i + 1) 0))) Missing))
-          ≡ laterNumber (length u) (pick a (λ _. Value 10000 (i + 1)) (pick b (λ _. signed true (digits t 4 i 0)) (pick c (λ _. signed false (digits t 4 (i + 1) 0)) Missing)))
+          → pick a (λ _. Value endZero (length u + (i + 1))) (pick b (λ _. laterNumber (length u) (signed true (digits t 4 i 0))) (pick c (λ _. laterNumber (length u) (signed false (digits t 4 (i + 1) 0))) Missing))
+          ≡ laterNumber (length u) (pick a (λ _. Value endZero (i + 1)) (pick b (λ _. signed true (digits t 4 i 0)) (pick c (λ _. signed false (digits t 4 (i + 1) 0)) Missing)))
       go true b c = refl
       go false true c = refl
       go false false true = refl

@@ -1,9 +1,10 @@
 -- The interval of a timed part (01, "The sheet": `[` or `(`, end, `,`, end, `]` or `)`; a round bracket leaves its end out).
--- Assumes nothing. An end is kept with 10,000 added, so that it is never negative.
+-- Assumes nothing. An end is kept with 10,000 added (`endZero`), so that it is never negative.
 use mathlib.Core.Bool.{Bool, true, false, _&&_}
 use mathlib.Core.List.{List}
 use Prim.Native.Nat.{ℕ, _+_, _-_}
 use lib.Dec.{leb, eqb}
+use Rattle.spec_limits.specs.Limits.{mostEnd, offsetZero}
 use Rattle.read_bytes.specs.declared.numbers.Number.{Number}
 use Rattle.read_bytes.specs.declared.numbers.Number.the-variants.{Value, Missing}
 use Rattle.read_bytes.specs.Bytes.{byte, bytes, peek, pick, between, oneOf}
@@ -11,9 +12,24 @@ use Rattle.read_bytes.specs.Numbers.{digits}
 use Rattle.read_interval.specs.declared.Span.{Span}
 use Rattle.read_interval.specs.declared.Span.the-variants.{Over, Refused}
 
--- The number of the digits, or its opposite, with 10,000 added.
+-- The end 0 as it is kept: an end has at most four digits.
+abbrev pub endZero : ℕ
+endZero = 10000
+
+-- The least and the greatest end as they are kept: -63 and 63.
+abbrev pub leastEnd : ℕ
+leastEnd = endZero - mostEnd
+
+abbrev pub greatestEnd : ℕ
+greatestEnd = endZero + mostEnd
+
+-- What an end has added, more than an offset.
+abbrev pub overOffset : ℕ
+overOffset = endZero - offsetZero
+
+-- The end of the digits, or its opposite.
 unfoldable pub signed : Bool → Number → Number
-signed plus (Value v q) = Value (pick plus (λ _. 10000 + v) (10000 - v)) q
+signed plus (Value v q) = Value (pick plus (λ _. endZero + v) (endZero - v)) q
 signed plus Missing = Missing
 
 -- Is b a digit other than 0?
@@ -23,7 +39,7 @@ leading b = between (byte "1") (byte "9") b
 -- An end at p: `0`, or an optional `-` and one to four digits, the first not 0; and the place after it.
 unfoldable pub endAt : List ℕ → ℕ → Number
 endAt s p =
-    pick (eqb (peek s p) (byte "0")) (λ _. Value 10000 (p + 1))
+    pick (eqb (peek s p) (byte "0")) (λ _. Value endZero (p + 1))
     (pick (leading (peek s p)) (λ _. signed true (digits s 4 p 0))
     (pick (eqb (peek s p) (byte "-") && leading (peek s (p + 1))) (λ _. signed false (digits s 4 (p + 1) 0)) Missing))
 
@@ -33,7 +49,7 @@ leftOut b round = pick (eqb b round) (λ _. 1) 0
 
 -- Is an end from -63 to 63?
 abbrev pub near : ℕ → Bool
-near v = between 9937 10063 v
+near v = between leastEnd greatestEnd v
 
 -- The whole interval from the bracket o at p to the bracket c, with the ends v and w; x is the place after it. Its first whole number
 -- with 64 added, and how many more follow. 7 at the opening bracket for an end outside -63 to 63 or no whole number inside.
@@ -41,7 +57,7 @@ unfoldable pub spanOf : ℕ → ℕ → ℕ → ℕ → ℕ → ℕ → Span
 spanOf p o v w c x =
     let lo = v + leftOut o (byte "(") in
     let hi = w - leftOut c (byte ")") in
-    pick (near v && near w && leb lo hi) (λ _. Over (lo - 9936) (hi - lo) x) (Refused 7 p)
+    pick (near v && near w && leb lo hi) (λ _. Over (lo - overOffset) (hi - lo) x) (Refused 7 p)
 
 -- Go on after an end, or 5 at p where there is none.
 abbrev pub endThen : Number → ℕ → (ℕ → ℕ → Span) → Span

@@ -1,13 +1,27 @@
-// The interval of a timed part. An end is kept with 10,000 added, so that it is never negative. Assumes nothing of the text.
+// The interval of a timed part. An end is kept with 10,000 added (`END_ZERO`), so that it is never negative. Assumes nothing of the text.
 use read_bytes::bytes::byte_at;
 use read_bytes::numbers::Number;
 use read_bytes::numbers::digits;
+use spec_limits::END;
+use spec_limits::OFFSET_ZERO;
 ghost use mathlib.Core.Path.{_≡_};
 ghost use Prim.Native.Nat.{_≤_};
 ghost use lib.ListN.{length};
 ghost use Rattle.read_bytes.specs.Numbers as number;
 ghost use Rattle.read_interval.specs.Interval.{endAt, leftOut, spanOf, closeAt, commaAt, interval};
 ghost use Rattle.read_interval.specs.Interval as spec;
+
+// endZero: the end 0 as it is kept.
+const END_ZERO: usize = 10000;
+
+// leastEnd
+const LEAST: usize = END_ZERO - END;
+
+// greatestEnd
+const GREATEST: usize = END_ZERO + END;
+
+// overOffset
+const OVER_OFFSET: usize = END_ZERO - OFFSET_ZERO;
 
 // The first whole number of an interval with 64 added, how many more follow, and the place after it; or a refusal's number and place.
 pub enum Span {
@@ -25,9 +39,9 @@ fn signed(s: &[u8], at: usize, plus: bool) -> Number
         return Number::Missing;
     };
     if plus {
-        Number::Value(10000 + v, q)
+        Number::Value(END_ZERO + v, q)
     } else {
-        Number::Value(10000 - v, q)
+        Number::Value(END_ZERO - v, q)
     }
 }
 
@@ -40,7 +54,7 @@ fn end_at(s: &[u8], at: usize) -> Number
     match b {
         b'0' => {
             let next = at + 1;
-            Number::Value(10000, next)
+            Number::Value(END_ZERO, next)
         }
         b'1'..=b'9' => signed(s, at, true),
         b'-' => {
@@ -67,7 +81,7 @@ fn near(v: usize) -> bool
     ensures { λ r. ⌜ r ≡ spec.near v ⌝ }
 {
     match v {
-        9937..=10063 => true,
+        LEAST..=GREATEST => true,
         _ => false,
     }
 }
@@ -81,7 +95,7 @@ fn span_of(at: usize, o: u8, v: usize, w: usize, c: u8, x: usize) -> Span
             let lo = v + left_out(o, b'(');
             let hi = w - left_out(c, b')');
             if lo <= hi {
-                return Span::Over(lo - 9936, hi - lo, x);
+                return Span::Over(lo - OVER_OFFSET, hi - lo, x);
             }
         }
     }

@@ -10,6 +10,7 @@ use borrow.Author.Tests.{eqb-true, eqb-false, eq-eqb, ne-eqb, le-leb, lt-leb, le
 use lib.Dec.{leb, eqb}
 use lib.ListN.{length, getD, take, drop, drop-of-length-le}
 use lib.Seq.{getD-drop, getD-take}
+use Rattle.spec_limits.specs.Limits.{mostNameBytes}
 use Rattle.read_names.specs.declared.Word.the-variants.{Name, Other}
 use Rattle.read_bytes.specs.Bytes.{bytes, byte, peek, pick, letter, nameByte, runEnd}
 use Rattle.read_names.specs.Words.{wordAt, wordEnd, namesAt, sameText, findName, isWord, nameAt}
@@ -168,19 +169,19 @@ module _ (s : List ℕ) (p b : ℕ) (eb : b ≡ peek s p) where
     first-letter : letter (peek s p) ≡ true
     first-letter = rw eb at (between-in (byte "a") (byte "z") b lo hi)
 
-    pub name-long : 16 < e - p → Other ≡ nameAt s p
+    pub name-long : mostNameBytes < e - p → Other ≡ nameAt s p
     unfolding nameAt runEnd
-    name-long h = rw (first-letter, lt-leb (length (wordAt s p)) 16 (omega arith))
+    name-long h = rw (first-letter, lt-leb (length (wordAt s p)) mostNameBytes (omega arith))
 
-    short : e - p ≤ 16 → leb (length (wordAt s p)) 16 ≡ true
+    short : e - p ≤ mostNameBytes → leb (length (wordAt s p)) mostNameBytes ≡ true
     unfolding runEnd
-    short h = le-leb (length (wordAt s p)) 16 (omega arith)
+    short h = le-leb (length (wordAt s p)) mostNameBytes (omega arith)
 
-    pub name-since : e - p ≤ 16 → isWord s p (bytes "since") ≡ true → Other ≡ nameAt s p
+    pub name-since : e - p ≤ mostNameBytes → isWord s p (bytes "since") ≡ true → Other ≡ nameAt s p
     unfolding nameAt
     name-since h a = rw (first-letter, short h, a)
 
-    module _ (h : e - p ≤ 16) (a : isWord s p (bytes "since") ≡ false) where
+    module _ (h : e - p ≤ mostNameBytes) (a : isWord s p (bytes "since") ≡ false) where
       pub name-until : isWord s p (bytes "until") ≡ true → Other ≡ nameAt s p
       unfolding nameAt
       name-until d = rw (first-letter, short h, a, d)
@@ -192,7 +193,7 @@ module _ (s : List ℕ) (p b : ℕ) (eb : b ≡ peek s p) where
 -- What a name is.
 pub record Named (s : List ℕ) (p q : ℕ) : Type 0 where
   pub first : letter (peek s p) ≡ true
-  pub short : length (wordAt s p) ≤ 16
+  pub short : length (wordAt s p) ≤ mostNameBytes
   pub not-since : isWord s p (bytes "since") ≡ false
   pub not-until : isWord s p (bytes "until") ≡ false
   pub ends : q ≡ wordEnd s p
@@ -207,17 +208,17 @@ named s p h =
     let t = passed _ (wordEnd s p) h in
     let d = and-eq-true-iff _ (not (isWord s p (bytes "until"))) .0 (t .0) in
     let b = and-eq-true-iff _ (not (isWord s p (bytes "since"))) .0 (d .0) in
-    let a = and-eq-true-iff (letter (peek s p)) (leb (length (wordAt s p)) 16) .0 (b .0) in
+    let a = and-eq-true-iff (letter (peek s p)) (leb (length (wordAt s p)) mostNameBytes) .0 (b .0) in
     record {
       first = a .0;
-      short = leb-true (length (wordAt s p)) 16 (a .1);
+      short = leb-true (length (wordAt s p)) mostNameBytes (a .1);
       not-since = not-true (isWord s p (bytes "since")) (b .1);
       not-until = not-true (isWord s p (bytes "until")) (d .1);
       ends = t .1;
     }
 
 -- Where a name ends.
-pub name-reach : (s : List ℕ) (p : ℕ) {q : ℕ} → nameAt s p ≡ Name q → Reach s (p + 1) q × (q ≤ p + 16)
+pub name-reach : (s : List ℕ) (p : ℕ) {q : ℕ} → nameAt s p ≡ Name q → Reach s (p + 1) q × (q ≤ p + mostNameBytes)
 unfolding runEnd nameByte
 name-reach s p h =
     let n = named s p h in

@@ -7,6 +7,7 @@ use Prim.Native.Nat.{ℕ, _+_}
 use native.Mathlib.Omega.{arith}
 use lib.Dec.{leb}
 use lib.ListN.{length}
+use Rattle.spec_limits.specs.Limits.{mostNameBytes}
 use Rattle.read_names.specs.declared.Word.{Word}
 use Rattle.read_names.specs.declared.Word.the-variants.{Name, Other}
 use Rattle.read_bytes.specs.Bytes.{bytes, peek, letter, nameByte}
@@ -31,4 +32,4 @@ module _ (u t : List ℕ) where
   unfolding nameAt
   nameAt-later i =
       rw (peek-later u t i, runAt-later u t i nameByte, isWord-later i (bytes "since"), isWord-later i (bytes "until"), runEnd-later u t i nameByte)
-      (pick-map (laterWord (length u)) (letter (peek t i) && leb (length (wordAt t i)) 16 && not (isWord t i (bytes "since")) && not (isWord t i (bytes "until"))) (Name (wordEnd t i)) Other)
+      (pick-map (laterWord (length u)) (letter (peek t i) && leb (length (wordAt t i)) mostNameBytes && not (isWord t i (bytes "since")) && not (isWord t i (bytes "until"))) (Name (wordEnd t i)) Other)

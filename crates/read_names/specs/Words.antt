@@ -5,6 +5,7 @@ use mathlib.Core.List.{List, [], _∷_}
 use mathlib.Core.Bool.{Bool, true, false, not, _&&_}
 use lib.ListN.{length}
 use lib.Dec.{leb, eqb}
+use Rattle.spec_limits.specs.Limits.{mostNameBytes}
 use Rattle.read_names.specs.declared.Word.{Word}
 use Rattle.read_names.specs.declared.Word.the-variants.{Name, Other}
 use Rattle.read_bytes.specs.Bytes.{bytes, peek, pick, letter, nameByte, starts, run, runAt, runEnd}
@@ -46,5 +47,5 @@ isWord s p w = starts s p w && not (nameByte (peek s (p + length w)))
 unfoldable pub nameAt : List ℕ → ℕ → Word
 nameAt s p =
     pick
-    (letter (peek s p) && leb (length (wordAt s p)) 16 && not (isWord s p (bytes "since")) && not (isWord s p (bytes "until")))
+    (letter (peek s p) && leb (length (wordAt s p)) mostNameBytes && not (isWord s p (bytes "since")) && not (isWord s p (bytes "until")))
     (λ _. Name (wordEnd s p)) Other

@@ -3,6 +3,7 @@ use read_bytes::bytes::byte_at;
 use read_bytes::bytes::name_byte;
 use read_bytes::bytes::stands_at;
 use read_bytes::bytes::starts_at;
+use spec_limits::NAME_BYTES;
 ghost use mathlib.Core.Path.{_≡_};
 ghost use mathlib.Core.Bool.{not};
 ghost use Prim.Native.Nat.{_+_, _-_, _<_, _≤_};
@@ -167,7 +168,7 @@ pub fn name_at(s: &[u8], at: usize) -> Word
     match b {
         b'a'..=b'z' => {
             let e = word_end(s, at);
-            if e - at <= 16 {
+            if e - at <= NAME_BYTES {
                 if is_since(s, at) {
                     return Word::Other;
                 }

@@ -11,6 +11,7 @@ use native.Mathlib.Nat.{add-assoc}
 use native.Mathlib.Omega.{arith}
 use lib.Dec.{ltb, eqb}
 use lib.ListN.{length, length-append}
+use Rattle.spec_limits.specs.Limits.{mostOpen}
 use Rattle.read_bytes.specs.declared.bytes.Class.{Class}
 use Rattle.read_bytes.specs.declared.bytes.Class.the-variants.{Letter, Digit, Sign, Bracket, Other}
 use Rattle.read_bytes.specs.Read.{Read, andThen}
@@ -235,7 +236,7 @@ module _ (u t : List ℕ) where
     rule-shifts : Shifts (length u) (rule names (u ++ t)) (rule names t)
     unfolding rule plain
     rule-shifts i =
-        then-moved _ _ (formula-shifts (plain 32 names (u ++ t)) (plain 32 names t) (plain-in-shifts (inside 32 names (u ++ t)) (inside 32 names t) (inside-shifts 32)) i)
+        then-moved _ _ (formula-shifts (plain mostOpen names (u ++ t)) (plain mostOpen names t) (plain-in-shifts (inside mostOpen names (u ++ t)) (inside mostOpen names t) (inside-shifts mostOpen)) i)
         (λ f q j.
         rw (length-append u t, eqb-later (length u) q (length t))
         (pick-moved (eqb q (length t)) (reads {q = q} j) refuses))

@@ -8,6 +8,7 @@ use native.Mathlib.Numerals.{add-one}
 use native.Mathlib.Omega.{arith}
 use borrow.Author.Tests.{eq-eqb, ne-eqb}
 use lib.Dec.{eqb}
+use Rattle.spec_limits.specs.Limits.{mostOffset}
 use Rattle.read_bytes.specs.Read.{Read, andThen}
 use Rattle.read_bytes.specs.Read.Read.{got, refused}
 use Rattle.read_bytes.specs.Bytes.{byte, peek, pick}
@@ -137,7 +138,7 @@ wrap {a} {a₁} {L} {k} {m} {h} {q} {u} {h₂} a₂ p pk (parsed f eq w ar sm he
 
 -- An interval over what stands last, and then what follows.
 pub spanned : {a a′ : List ℕ} {L m h x q : ℕ} {r : Parsed} (a₂ : List ℕ) (p first more : ℕ) (always : Bool) (f : Written) (K : Written → ℕ → Read Written)
-    → 0 < m → p < q → 1 ≤ first → first + more ≤ 127 → Arena m a → Room a m 1 → Held a x (m - 1) f → h ≡ x + hiddens f → a₂ ≡ putNode a m (Time always (m - 1) first more)
+    → 0 < m → p < q → 1 ≤ first → first + more ≤ mostOffset → Arena m a → Room a m 1 → Held a x (m - 1) f → h ≡ x + hiddens f → a₂ ≡ putNode a m (Time always (m - 1) first more)
     → ((g : Written) → Held a₂ x ((m + 1) - 1) g → h ≡ x + hiddens g → Arena (m + 1) a₂ → Parses a₂ a′ L 0 q (m + 1) h x (K g q) r)
     → Parses a a′ L 0 p m h x (K (Written.time always first more f) q) r
 spanned {a} {a′} {L} {m} {h} {x} {q} {r} a₂ p first more always f K some pq low high ar room he hs e next =

@@ -10,6 +10,7 @@ use native.Mathlib.Omega.{arith}
 use borrow.Author.Tests.{eq-eqb, ne-eqb, eqb-true, lt-ltb, le-ltb}
 use lib.Dec.{eqb, ltb}
 use lib.ListN.{length}
+use Rattle.spec_limits.specs.Limits.{mostOffset}
 use Rattle.read_bytes.specs.declared.bytes.Class.{Class}
 use Rattle.read_bytes.specs.declared.bytes.Class.the-variants as class
 use Rattle.read_bytes.specs.declared.bytes.Class.the-variants.{Letter, Digit, Bracket, Other}
@@ -100,7 +101,7 @@ pub timed-unsigned : (s : List ℕ) (p b : ℕ) → b ≡ peek s p → (b < byte
 timed-unsigned s p b e out = rw e at (none-of b (byte "@") (byte "?") (λ k. ⊎-elim (λ i. ⊎-elim (λ l. omega arith) (λ l. omega arith) out) (λ i. ⊎-elim (λ l. omega arith) (λ l. omega arith) out) k))
 
 -- The interval after it.
-pub timed-span : (s : List ℕ) (p : ℕ) {i : Span} {first more q : ℕ} → i ≡ interval s (p + 1) → i ≡ Over first more q → (interval s (p + 1) ≡ Over first more q) × (p + 1 < q) × (q ≤ length s) × (1 ≤ first) × (first + more ≤ 127)
+pub timed-span : (s : List ℕ) (p : ℕ) {i : Span} {first more q : ℕ} → i ≡ interval s (p + 1) → i ≡ Over first more q → (interval s (p + 1) ≡ Over first more q) × (p + 1 < q) × (q ≤ length s) × (1 ≤ first) × (first + more ≤ mostOffset)
 timed-span s p {first = first} {more} {q} e g =
     let z : interval s (p + 1) ≡ Over first more q = sym e ∙ g in
     let w = interval-reach s (p + 1) z in

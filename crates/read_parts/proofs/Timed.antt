@@ -6,6 +6,7 @@ use mathlib.Core.List.{List}
 use Prim.Native.Nat.{ℕ, _+_, _-_, _<_, _≤_}
 use lib.Dec.{eqb}
 use lib.ListN.{length}
+use Rattle.spec_limits.specs.Limits.{mostOffset}
 use Rattle.read_bytes.specs.Bytes.{byte, bytes, peek, oneOf}
 use Rattle.spec_tilco.specs.Formula.{Written, hiddens}
 use Rattle.read_arena.specs.declared.Node.the-variants.{Time}
@@ -22,7 +23,7 @@ use Rattle.read_parts.proofs.Levels.{by, spanned}
 use Rattle.read_parts.proofs.Steps.{times-one}
 
 module _ (s : List ℕ) (n : ℕ) (f : Written) (p : ℕ) (sign : oneOf (peek s p) (bytes "@?") ≡ true) (in-text : p < length s) (enough : length s ≤ p + n) where
-  pub times-on : {a a₂ a′ : List ℕ} {m h x first more q b : ℕ} {r : Parsed} → b ≡ peek s p → interval s (p + 1) ≡ Over first more q → p < q → 1 ≤ first → first + more ≤ 127 → 0 < m
+  pub times-on : {a a₂ a′ : List ℕ} {m h x first more q b : ℕ} {r : Parsed} → b ≡ peek s p → interval s (p + 1) ≡ Over first more q → p < q → 1 ≤ first → first + more ≤ mostOffset → 0 < m
       → Arena m a → Room a m 1 → Held a x (m - 1) f → h ≡ x + hiddens f → a₂ ≡ putNode a m (Time (eqb b (byte "@")) (m - 1) first more)
       → ((g : Written) → Held a₂ x ((m + 1) - 1) g → h ≡ x + hiddens g → Parses a₂ a′ (length s) 0 q (m + 1) h x (times s (n - 1) g q) r)
       → Parses a a′ (length s) 0 p m h x (times s n f p) r

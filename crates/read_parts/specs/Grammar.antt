@@ -6,6 +6,7 @@ use mathlib.Core.Option.{Option, none, some}
 use Prim.Native.Nat.{ℕ, zero, suc, _+_}
 use lib.Dec.{ltb, eqb}
 use lib.ListN.{length}
+use Rattle.spec_limits.specs.Limits.{mostOpen}
 use Rattle.read_bytes.specs.declared.bytes.Class.{Class}
 use Rattle.read_bytes.specs.declared.bytes.Class.the-variants.{Letter, Digit, Sign, Bracket, Other}
 use Rattle.read_bytes.specs.Read.{Read, andThen}
@@ -153,4 +154,4 @@ plain d names s = plainIn (inside d names s) names s
 
 -- A whole rule, from p to the end of the text: at most 32 of `(` and `!` are open at one place.
 unfoldable pub rule : List (List ℕ) → List ℕ → Reader
-rule names s p = andThen (formula (plain 32 names s) s p) (λ f q. pick (eqb q (length s)) (λ _. got f q) (refused 5 q))
+rule names s p = andThen (formula (plain mostOpen names s) s p) (λ f q. pick (eqb q (length s)) (λ _. got f q) (refused 5 q))

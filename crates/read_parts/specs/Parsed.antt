@@ -4,6 +4,7 @@ use mathlib.Core.Path.{_≡_}
 use mathlib.Core.List.{List}
 use Prim.Native.Nat.{ℕ, _+_, _-_, _≤_}
 use lib.ListN.{length}
+use Rattle.spec_limits.specs.Limits.{mostSignals}
 use Rattle.read_bytes.specs.Read.{Read}
 use Rattle.read_bytes.specs.Read.Read.{got, refused}
 use Rattle.spec_tilco.specs.Formula.{Written, hiddens}
@@ -27,7 +28,7 @@ pub record Ready (s a names : List ℕ) (p m h : ℕ) : Type 0 where
   pub arena : Arena m a
   pub room : Room a m (length s - p)
   pub rows : h + (length s - p) ≤ 65535
-  pub few : length names ≤ 64
+  pub few : length names ≤ mostSignals
 
 -- The answer is what R says, and on a formula the arena holds it at its last node, its hidden signals numbered from x. What stood in the
 -- arena a stands in a′ as it did.

@@ -8,6 +8,7 @@ use native.Mathlib.Omega.{arith}
 use lib.Dec.{ltb}
 use lib.ListN.{length, take, length-append}
 use lib.Seq.{take-all}
+use Rattle.spec_limits.specs.Limits.{mostBytes}
 use Rattle.read_bytes.specs.Read.Read.{got, refused}
 use Rattle.read_bytes.specs.Bytes.{bytes, nameByte}
 use Rattle.read_names.specs.Words.{wordAt, findName}
@@ -66,10 +67,10 @@ module _ (names : List (List ℕ)) where
     reading-entry = record { after-text = reading-later; before-text = reading-kept; ahead = λ r p e. reading-ahead names W r p e }
 
     -- After an accepted text, any further text is read as by itself: its marks follow, and its refusal is later by the text's length.
-    pub readings-cut : (r x : List ℕ) (ms : List Mark) (q : ℕ) → readings names W r ≡ got ms q → length (r ++ x) ≤ 32768
+    pub readings-cut : (r x : List ℕ) (ms : List Mark) (q : ℕ) → readings names W r ≡ got ms q → length (r ++ x) ≤ mostBytes
         → readings names W (r ++ x) ≡ moved (λ ns. ms ++ ns) (length r) (readings names W x)
     readings-cut r x ms q e h =
-        let short : length x ≤ 32768 = omega (arith, length-append r x) in
+        let short : length x ≤ mostBytes = omega (arith, length-append r x) in
         readings-short names W (r ++ x) h ∙ every-cut (reading names W) reading-entry r x ms q (readings-every names W r e) ∙ ap (moved (λ ns. ms ++ ns) (length r)) (sym (readings-short names W x short))
 
     -- An accepted text is read up to its end.
@@ -83,7 +84,7 @@ pub data AllAccepted (names : List (List ℕ)) (W : ℕ) : List (List ℕ) → L
       → AllAccepted names W (r ∷ rs) (ms ∷ mss)
 
 module _ (names : List (List ℕ)) (W : ℕ) where
-  each-accepted : {rs : List (List ℕ)} {mss : List (List Mark)} → AllRead (reading names W) rs mss → length (flatten rs) ≤ 32768 → AllAccepted names W rs mss
+  each-accepted : {rs : List (List ℕ)} {mss : List (List Mark)} → AllRead (reading names W) rs mss → length (flatten rs) ≤ mostBytes → AllAccepted names W rs mss
   unfolding flatten
   each-accepted no-text h = none
   each-accepted (text-read {r} {u} {q} {rs} e more) h =
@@ -92,7 +93,7 @@ module _ (names : List (List ℕ)) (W : ℕ) where
       one (readings-short names W r (omega arith) ∙ e ∙ z) (each-accepted more (omega arith))
 
   -- An accepted text in parts, accepted up to the end of each part: each part is accepted, and their marks in turn are the text's.
-  pub parts-accepted : (parts : List (List ℕ)) {ms : List Mark} → readings names W (flatten parts) ≡ got ms (length (flatten parts)) → length (flatten parts) ≤ 32768
+  pub parts-accepted : (parts : List (List ℕ)) {ms : List Mark} → readings names W (flatten parts) ≡ got ms (length (flatten parts)) → length (flatten parts) ≤ mostBytes
       → ((n : ℕ) → n < length parts → (ns : List Mark) × (readings names W (flatten (take n parts)) ≡ got ns (length (flatten (take n parts)))))
       → (mss : List (List Mark)) × AllAccepted names W parts mss × (flatten mss ≡ ms)
   unfolding upTo flatten

@@ -6,6 +6,7 @@ use Prim.Native.Nat.{ℕ, _-_, _≤_}
 use native.Mathlib.Omega.{arith}
 use lib.Dec.{ltb, leb}
 use lib.ListN.{length}
+use Rattle.spec_limits.specs.Limits.{mostBytes}
 use Rattle.read_bytes.specs.Read.Read.{got, refused}
 use Rattle.read_bytes.specs.Bytes.{bytes}
 use Rattle.read_names.specs.Words.{wordAt, findName}
@@ -36,7 +37,7 @@ module _ (names : List (List ℕ)) (W : ℕ) (r : List ℕ) where
   pub readings-stay : Stays Any (length r) (readings names W r)
   unfolding readings
   readings-stay =
-      pick-stays Any (length r) (leb (length r) 32768) (upTo (reading names W r) (length r) (length r) [] 0) (refused 10 0)
+      pick-stays Any (length r) (leb (length r) mostBytes) (upTo (reading names W r) (length r) (length r) [] 0) (refused 10 0)
       (λ _. up-stays (length r) (reading names W r) (length r) reading-stays (length r) [] 0 (omega arith)) (omega arith)
 
   -- A refusal's place is at most the text's length.

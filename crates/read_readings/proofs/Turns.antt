@@ -8,6 +8,7 @@ use native.Mathlib.Omega.{arith}
 use borrow.Author.Tests.{le-leb, lt-leb}
 use lib.Dec.{leb}
 use lib.ListN.{length}
+use Rattle.spec_limits.specs.Limits.{mostBytes}
 use Rattle.read_bytes.specs.Read.{Read}
 use Rattle.read_bytes.specs.Read.Read.{got, refused}
 use Rattle.read_bytes.specs.Bytes.{pick}
@@ -55,19 +56,19 @@ module _ {A : Type 0} (P : ℕ → Read A) (s : List ℕ) where
 
 module _ (names : List (List ℕ)) (W : ℕ) (r : List ℕ) where
   -- A text over its length is refused.
-  pub readings-long : 32768 < length r → readings names W r ≡ refused 10 0
+  pub readings-long : mostBytes < length r → readings names W r ≡ refused 10 0
   unfolding readings
-  readings-long h = rw (lt-leb (length r) 32768 h)
+  readings-long h = rw (lt-leb (length r) mostBytes h)
 
   -- Any other is read reading by reading.
-  pub readings-short : length r ≤ 32768 → readings names W r ≡ every (reading names W r) r
+  pub readings-short : length r ≤ mostBytes → readings names W r ≡ every (reading names W r) r
   unfolding readings
-  readings-short h = rw (le-leb (length r) 32768 h)
+  readings-short h = rw (le-leb (length r) mostBytes h)
 
   -- A text that is accepted is short enough.
   pub readings-every : {ms : List Mark} {q : ℕ} → readings names W r ≡ got ms q → every (reading names W r) r ≡ got ms q
   unfolding readings
-  readings-every {ms} {q} e = go (leb (length r) 32768) e
+  readings-every {ms} {q} e = go (leb (length r) mostBytes) e
     where
       go : (b : Bool) → pick b (λ _. every (reading names W r) r) (refused 10 0) ≡ got ms q → every (reading names W r) r ≡ got ms q
       go true x = x

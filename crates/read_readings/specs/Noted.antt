@@ -5,6 +5,7 @@ use mathlib.Core.List.{List, map}
 use Prim.Native.Nat.{ℕ, _+_, _*_, _/_, _%_, _<_, _≤_}
 use lib.Dec.{eqb}
 use lib.ListN.{length, take}
+use Rattle.spec_limits.specs.Limits.{mostClosed}
 use Rattle.read_lines.specs.declared.Step.{Step}
 use Rattle.read_lines.specs.declared.Step.the-variants.{Got, Refused}
 use Rattle.read_bytes.specs.Read.{Read}
@@ -13,7 +14,7 @@ use Rattle.spec_tilco.specs.Inference.{Mark, mark}
 
 -- The mark that a number is.
 abbrev pub markOf : ℕ → Mark
-markOf w = mark (w / 8192) (w / 2 % 4096) (eqb (w % 2) 1)
+markOf w = mark (w / (2 * mostClosed)) (w / 2 % mostClosed) (eqb (w % 2) 1)
 
 -- The marks that the first k numbers of an array are.
 unfoldable pub marksIn : List ℕ → ℕ → List Mark

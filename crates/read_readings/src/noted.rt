@@ -1,19 +1,24 @@
 // Marks noted as numbers in a lent array, and put from there into a table. Assumes nothing of the array.
+use spec_limits::CLOSED;
 use table_marks::put_mark;
 ghost use mathlib.Core.Path.{_≡_};
 ghost use Prim.Native.Nat.{_<_, _≤_};
 ghost use lib.ListN.{length};
+ghost use Rattle.spec_limits.specs.Limits.{mostClosed, mostSignals};
 ghost use Rattle.spec_tilco.specs.Inference.{mark};
 ghost use Rattle.spec_tilco.specs.Lists.{All};
 ghost use Rattle.table_marks.specs.Puts.{Puts};
 ghost use Rattle.read_readings.specs.Noted.{markOf, marksIn, Room};
 
+// How many marks a signal has.
+const MARKS: usize = 2 * CLOSED;
+
 // The number of a mark.
 pub fn number_of(signal: usize, tick: usize, value: bool) -> u32
-    requires { ⌜ (signal < 64) × (tick < 4096) ⌝ }
+    requires { ⌜ (signal < mostSignals) × (tick < mostClosed) ⌝ }
     ensures { λ w. ⌜ markOf w ≡ mark signal tick value ⌝ }
 {
-    let cell = 2 * (tick + 4096 * signal);
+    let cell = 2 * (tick + CLOSED * signal);
     if value {
         (cell + 1) as u32
     } else {
@@ -29,8 +34,8 @@ pub fn put_noted(noted: &[u32], count: usize, n: usize, table: &mut [u64])
     let mut i = 0;
     while i < count {
         let w = noted[i] as usize;
-        let signal = w / 8192;
-        let tick = w / 2 % 4096;
+        let signal = w / MARKS;
+        let tick = w / 2 % CLOSED;
         let value = w % 2 == 1;
         put_mark(table, n, signal, tick, value);
         i += 1;

@@ -4,9 +4,12 @@ use crate::noted::put_noted;
 use read_lines::Step;
 use read_reading::Reading;
 use read_reading::reading_at;
+use spec_limits::BYTES;
+use spec_limits::READINGS;
 ghost use mathlib.Core.Path.{_≡_};
 ghost use Prim.Native.Nat.{ℕ, _*_, _≤_};
 ghost use lib.ListN.{length};
+ghost use Rattle.spec_limits.specs.Limits.{mostClosed, mostReadings, mostSignals};
 ghost use Rattle.read_lines.specs.declared.Step.the-variants.{Refused};
 ghost use Rattle.read_bytes.specs.Read.{Refusal};
 ghost use Rattle.read_bytes.specs.Read.Read.{refused};
@@ -40,10 +43,10 @@ fn refused_reading(a: Reading) -> Step
 
 // Notes the mark of each reading of the text: how many there are, and the text's end.
 fn note_readings(s: &[u8], places: &[u64], window: usize, r: &[u8], noted: &mut [u32]) -> Step
-    requires { ⌜ (1 ≤ window) × (window ≤ 4096) × (length (now places) ≤ 64) × (1489 ≤ length (now noted)) ⌝ }
+    requires { ⌜ (1 ≤ window) × (window ≤ mostClosed) × (length (now places) ≤ mostSignals) × (mostReadings ≤ length (now noted)) ⌝ }
     ensures { λ v. ⌜ Notes (readings (namesAt (now (s .entry)) (now (places .entry))) window (now (r .entry))) (now (noted .exit)) v ⌝ }
 {
-    if 32768 < r.len() {
+    if BYTES < r.len() {
         return Step::Refused(10, 0);
     }
     let mut count = 0;
@@ -77,10 +80,10 @@ pub fn take_readings(
     r: &[u8],
     table: &mut [u64],
 ) -> Outcome
-    requires { ⌜ (1 ≤ window) × (window ≤ 4096) × (window ≤ 64 * n) × (length (now places) ≤ 64) × (2 * length (now places) * n ≤ length (now table)) ⌝ }
+    requires { ⌜ (1 ≤ window) × (window ≤ mostClosed) × (window ≤ 64 * n) × (length (now places) ≤ mostSignals) × (2 * length (now places) * n ≤ length (now table)) ⌝ }
     ensures { λ v. ⌜ Took (readings (namesAt (now (s .entry)) (now (places .entry))) window (now (r .entry))) n (now (table .entry)) (now (table .exit)) v ⌝ }
 {
-    let mut noted = [1u32; 1489];
+    let mut noted = [1u32; READINGS];
     let c = note_readings(s, places, window, r, &mut noted);
     match c {
         Step::Got(count, _) => {

@@ -7,6 +7,7 @@ use native.Mathlib.Omega.{arith}
 use lib.Dec.{leb, eqb}
 use lib.ListN.{length, take}
 use lib.Seq.{length-take-le}
+use Rattle.spec_limits.specs.Limits.{mostBytes, mostRuleBytes, mostRules, mostSignals, mostTicks}
 use Rattle.read_bytes.specs.Read.{andThen}
 use Rattle.read_bytes.specs.Read.Read.{got, refused}
 use Rattle.read_bytes.specs.Bytes.{bytes, pick, between}
@@ -40,13 +41,13 @@ module _ (s : List ℕ) where
   head-stays : Stays Any (length s) (head s)
   unfolding head
   head-stays =
-      then-stays Any (length s) Any (rangedLine s 0 (bytes "window=") 2 3 1 64) _ (ranged-stays s 0 (omega arith) (bytes "window=") 2 3 1 64)
+      then-stays Any (length s) Any (rangedLine s 0 (bytes "window=") 2 3 1 mostTicks) _ (ranged-stays s 0 (omega arith) (bytes "window=") 2 3 1 mostTicks)
       (λ w p _ _ h.
-      then-stays Any (length s) Any (rangedLine s p (bytes "signals=") 2 3 1 64) _ (ranged-stays s p h (bytes "signals=") 2 3 1 64)
+      then-stays Any (length s) Any (rangedLine s p (bytes "signals=") 2 3 1 mostSignals) _ (ranged-stays s p h (bytes "signals=") 2 3 1 mostSignals)
       (λ n q _ _ i.
       then-stays Any (length s) (All (λ v. v ≤ length s)) (inTurn (signalLine s) n [] q) _ (turn-stays (λ v. v ≤ length s) (length s) (signalLine s) signal-stays n [] q i tt)
       (λ t u _ _ j.
-      then-stays Any (length s) Any (rangedLine s u (bytes "rules=") 2 3 0 64) (λ m e. got (headOf w t m) e) (ranged-stays s u j (bytes "rules=") 2 3 0 64)
+      then-stays Any (length s) Any (rangedLine s u (bytes "rules=") 2 3 0 mostRules) (λ m e. got (headOf w t m) e) (ranged-stays s u j (bytes "rules=") 2 3 0 mostRules)
       (λ m e _ _ k. (tt, k)))))
 
   module _ (names : List (List ℕ)) where
@@ -56,7 +57,7 @@ module _ (s : List ℕ) where
     rule-to-stays v e h l =
         let i : length (take e s) ≡ e = length-take-le e s (omega arith) in
         let j = rule-reads names (take e s) v (omega arith) in
-        pick-stays (Fits (length names)) (length s) (between 1 256 (e - v)) (andThen (rule names (take e s) v) (λ w q. got w (e + 1))) (refused 5 v)
+        pick-stays (Fits (length names)) (length s) (between 1 mostRuleBytes (e - v)) (andThen (rule names (take e s) v) (λ w q. got w (e + 1))) (refused 5 v)
         (λ _.
         then-stays (Fits (length names)) (length s) (Fits (length names)) (rule names (take e s) v) (λ w q. got w (e + 1))
         (stays-longer (Fits (length names)) (length (take e s)) (length s) (rule names (take e s) v) (omega arith) j)
@@ -77,7 +78,7 @@ module _ (s : List ℕ) where
   pub sheet-stays : Stays FitsAll (length s) (sheetOf s)
   unfolding sheetOf
   sheet-stays =
-      pick-stays FitsAll (length s) (leb (length s) 32768)
+      pick-stays FitsAll (length s) (leb (length s) mostBytes)
       (andThen (head s) (λ h p. andThen (rules (namesAt s (h .places)) s (h .count) p) (λ ws q. pick (eqb q (length s)) (λ _. got (contents (h .window) (h .places) ws) q) (refused 2 q))))
       (refused 1 0)
       (λ _.

@@ -10,6 +10,7 @@ use native.Mathlib.Omega.{arith}
 use borrow.Author.Tests.{ne-eqb}
 use lib.ListN.{length, take, length-append}
 use lib.Seq.{take-at}
+use Rattle.spec_limits.specs.Limits.{mostRuleBytes}
 use Rattle.read_bytes.specs.Read.{Read, andThen}
 use Rattle.read_bytes.specs.Read.Read.{got, refused}
 use Rattle.read_bytes.specs.Bytes.{byte, bytes, pick, between, peek, starts, run, runAt, runEnd, InLine}
@@ -25,7 +26,7 @@ use Rattle.read_sheet.specs.Sheet.{ruleTo, ruleLine, rules, ruleLineOf, 
 
 -- A rule read by itself: "A rule has 1 to 256 bytes", else 5 at its start, before its formula is read.
 unfoldable pub ruleText : List (List ℕ) → List ℕ → Read Written
-ruleText names body = pick (between 1 256 (length body)) (λ _. rule names body 0) (refused 5 0)
+ruleText names body = pick (between 1 mostRuleBytes (length body)) (λ _. rule names body 0) (refused 5 0)
 
 -- Each text is accepted by itself, and these are the rules in turn.
 pub data Each (names : List (List ℕ)) : List (List ℕ) → List Written → Type 0 where
@@ -78,7 +79,7 @@ module _ (a body b : List ℕ) (in-line : InLine body) where
       let n : length a + 5 + length body - (length a + 5) ≡ length body = omega arith in
       let l : length a + 5 + length body < length (a ++ (ruleLineOf body ++ b)) = omega (arith, long, length-append a (ruleLineOf body ++ b), length-append (ruleLineOf body) b, length-append a (ruleLineOf body)) in
       rw (sym (line-is (a ++ (ruleLineOf body ++ b)) (length a) (bytes "rule=") 2 (length a + 5 + length body) keyed ends l), n, cut, rule-from names (a ++ bytes "rule=") body (length a + 5) (sym front), ← long)
-      (go (between 1 256 (length body)))
+      (go (between 1 mostRuleBytes (length body)))
     where
       go : (t : Bool)
           → pick t (λ _. andThen (later (length a + 5) (rule names body 0)) (λ w q. got w (length (a ++ ruleLineOf body)))) (refused 5 (length a + 5))

@@ -9,6 +9,7 @@ use native.Mathlib.Omega.{arith}
 use borrow.Author.Tests.{ltb-true}
 use lib.Dec.{ltb, eqb}
 use lib.ListN.{length}
+use Rattle.spec_limits.specs.Limits.{mostOffset, mostOpen}
 use Rattle.read_bytes.specs.declared.bytes.Class.{Class}
 use Rattle.read_bytes.specs.declared.bytes.Class.the-variants.{Letter, Digit, Sign, Bracket, Other}
 use Rattle.read_bytes.specs.Read.{Read, andThen}
@@ -53,7 +54,7 @@ module _ (n : ℕ) (s : List ℕ) where
 
   -- intervals
   span-stays : (p : ℕ) (x : Span) (K : ℕ → ℕ → ℕ → Read Written) → p ≤ length s → Sound s p x
-      → ((first more q : ℕ) → 1 ≤ first → first + more ≤ 127 → q ≤ length s → Good n s (K first more q)) → Good n s (spanThen x K)
+      → ((first more q : ℕ) → 1 ≤ first → first + more ≤ mostOffset → q ≤ length s → Good n s (K first more q)) → Good n s (spanThen x K)
   span-stays p (span.Over first more q) K h y f = f first more q (y .1) (y .2) (y .0 .inside)
   span-stays p (span.Refused k q) K h y f = y .1 h
 
@@ -182,6 +183,6 @@ module _ (names : List (List ℕ)) (s : List ℕ) where
   pub rule-reads : Reads (length names) s (rule names s)
   unfolding rule plain
   rule-reads p h =
-      then-good (length names) s (formula (plain 32 names s) s p) (λ f q. pick (eqb q (length s)) (λ _. got f q) (refused 5 q))
-      (formula-reads (length names) s (plain 32 names s) (plain-in-reads (inside 32 names s) (inside-reads 32)) p h)
+      then-good (length names) s (formula (plain mostOpen names s) s p) (λ f q. pick (eqb q (length s)) (λ _. got f q) (refused 5 q))
+      (formula-reads (length names) s (plain mostOpen names s) (plain-in-reads (inside mostOpen names s) (inside-reads mostOpen)) p h)
       (λ f q w l. pick-good (length names) s (eqb q (length s)) (got f q) (refused 5 q) (λ _. (w, l)) l)

@@ -7,6 +7,7 @@ use Prim.Native.Nat.{ℕ, _+_, _-_, _*_, _<_, _≤_}
 use native.Mathlib.Omega.{arith}
 use lib.ListN.{length, take}
 use lib.Seq.{length-take-le}
+use Rattle.spec_limits.specs.Limits.{mostRuleBytes}
 use Rattle.read_bytes.specs.Read.{andThen}
 use Rattle.read_bytes.specs.Read.Read.{got, refused}
 use Rattle.read_bytes.specs.Bytes.{bytes, pick, between}
@@ -38,14 +39,14 @@ module _ (names : List (List ℕ)) (s : List ℕ) (v e : ℕ) where
   -- it is too short
   pub rule-short : e - v < 1 → ruleTo names s v e ≡ refused 5 v
   unfolding ruleTo
-  rule-short h = rw (between-low 1 256 (e - v) h)
+  rule-short h = rw (between-low 1 mostRuleBytes (e - v) h)
 
   -- it is too long
-  pub rule-long : 256 < e - v → ruleTo names s v e ≡ refused 5 v
+  pub rule-long : mostRuleBytes < e - v → ruleTo names s v e ≡ refused 5 v
   unfolding ruleTo
-  rule-long h = rw (between-high 1 256 (e - v) h)
+  rule-long h = rw (between-high 1 mostRuleBytes (e - v) h)
 
-module _ (s places : List ℕ) (v e h : ℕ) (a : List ℕ) (z : Ready s a places v h) (d : Ended s v e) (few : e - v ≤ 256) where
+module _ (s places : List ℕ) (v e h : ℕ) (a : List ℕ) (z : Ready s a places v h) (d : Ended s v e) (few : e - v ≤ mostRuleBytes) where
   cut-length : length (take e s) ≡ e
   cut-length = let i = d .inside in length-take-le e s (omega arith)
 
@@ -79,7 +80,7 @@ module _ (s places : List ℕ) (v e h : ℕ) (a : List ℕ) (z : Ready s a place
         let y = sym in-part ∙ x in
         read {q = e + 1} {u = u} {h′ = h′} (record {
           rule = w;
-          reads = rw (between-in 1 256 (e - v) some few, y);
+          reads = rw (between-in 1 mostRuleBytes (e - v) some few, y);
           some = omega (arith, far .fresh);
           arena = arena;
           held = held;
@@ -90,7 +91,7 @@ module _ (s places : List ℕ) (v e h : ℕ) (a : List ℕ) (z : Ready s a place
     -- the formula is refused: so is the rule
     pub rule-refused : {n k : ℕ} → Parses a a′ (length (take e s)) 1 v 0 h h (rule (namesAt (take e s) places) (take e s) v) (Refused n k) → RuleRead a′ h (ruleTo (namesAt s places) s v e) (Refused n k)
     unfolding ruleTo
-    rule-refused {n} {k} (refuses x) = let y = sym in-part ∙ x in refused-at {k = n} {p = k} (rw (between-in 1 256 (e - v) some few, y))
+    rule-refused {n} {k} (refuses x) = let y = sym in-part ∙ x in refused-at {k = n} {p = k} (rw (between-in 1 mostRuleBytes (e - v) some few, y))
 
 -- ---- the line at p with a rule
 
@@ -127,7 +128,7 @@ module _ (s : List ℕ) (p : ℕ) {v e : ℕ} (x : line s p (bytes "rule=") 2 �
 -- A rule that is read ends its line at the LF.
 pub rule-to-past : (names : List (List ℕ)) (s : List ℕ) (v e : ℕ) {w : Written} {q : ℕ} → ruleTo names s v e ≡ got w q → e + 1 ≡ q
 unfolding ruleTo
-rule-to-past names s v e {w} {q} = go (between 1 256 (e - v))
+rule-to-past names s v e {w} {q} = go (between 1 mostRuleBytes (e - v))
   where
     go : (b : Bool) → pick b (λ _. andThen (rule names (take e s) v) (λ f x. got f (e + 1))) (refused 5 v) ≡ got w q → e + 1 ≡ q
     go true x = same-place (came (rule names (take e s) v) (λ f y. got f (e + 1)) x .then)
@@ -147,7 +148,7 @@ rule-past names s p {w} {q} x =
 -- i of the rules are read, up to p: these are ws.
 pub record Passed (names : List (List ℕ)) (s : List ℕ) (m at i p : ℕ) (ws : List Written) : Type 0 where
   pub same : rules names s m at ≡ inTurn (λ _ q. ruleLine names s q) (m - i) ws p
-  pub few : total hiddens ws ≤ 256 * i
+  pub few : total hiddens ws ≤ mostRuleBytes * i
   pub most : i ≤ m
   pub ahead : at ≤ p
   pub inside : p ≤ length s
@@ -166,7 +167,7 @@ module _ (names : List (List ℕ)) (s : List ℕ) (m at : ℕ) where
 
   module _ {i p : ℕ} {ws : List Written} (z : Passed names s m at i p ws) where
     -- one more is read
-    pub passed-one : {w : Written} {q : ℕ} → i < m → ruleLine names s p ≡ got w q → hiddens w ≤ 256 → Passed names s m at (i + 1) q (ws ++ (w ∷ []))
+    pub passed-one : {w : Written} {q : ℕ} → i < m → ruleLine names s p ≡ got w q → hiddens w ≤ mostRuleBytes → Passed names s m at (i + 1) q (ws ++ (w ∷ []))
     passed-one {w} l e k =
         let r = rule-past names s p e in
         let t = total-append hiddens ws (w ∷ []) in

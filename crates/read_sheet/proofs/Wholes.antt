@@ -7,6 +7,7 @@ use Prim.Native.Nat.{ℕ, _<_, _≤_}
 use borrow.Author.Tests.{eq-eqb, ne-eqb, le-leb, lt-leb}
 use lib.Dec.{leb, eqb}
 use lib.ListN.{length}
+use Rattle.spec_limits.specs.Limits.{mostBytes}
 use Rattle.read_bytes.specs.Read.{andThen}
 use Rattle.read_bytes.specs.Read.Read.{got, refused}
 use Rattle.read_bytes.specs.Bytes.{pick}
@@ -18,38 +19,38 @@ use Rattle.read_sheet.specs.Sheet.{rules, Contents, contents, atEnd, she
 use Rattle.read_head.proofs.Heads.{head-past}
 
 -- A sheet over its length is refused.
-pub sheet-long : (s : List ℕ) → 32768 < length s → sheetOf s ≡ refused 1 0
+pub sheet-long : (s : List ℕ) → mostBytes < length s → sheetOf s ≡ refused 1 0
 unfolding sheetOf
-sheet-long s h = rw (lt-leb (length s) 32768 h)
+sheet-long s h = rw (lt-leb (length s) mostBytes h)
 
 -- The refusal of the head is the sheet's, and then that of a rule, and then bytes after the last line.
-module _ (s : List ℕ) (short : length s ≤ 32768) where
+module _ (s : List ℕ) (short : length s ≤ mostBytes) where
   -- the head is refused
   pub refused-head : {k p : ℕ} → head s ≡ refused k p → sheetOf s ≡ refused k p
   unfolding sheetOf
-  refused-head a = rw (le-leb (length s) 32768 short, a)
+  refused-head a = rw (le-leb (length s) mostBytes short, a)
 
   module _ {w m p : ℕ} {t : List ℕ} (a : head s ≡ got (headOf w t m) p) where
     -- a rule is refused
     pub refused-rule : {k x : ℕ} → rules (namesAt s t) s m p ≡ refused k x → sheetOf s ≡ refused k x
     unfolding sheetOf
-    refused-rule b = rw (le-leb (length s) 32768 short, a, b)
+    refused-rule b = rw (le-leb (length s) mostBytes short, a, b)
 
     module _ {ws : List Written} {q : ℕ} (b : rules (namesAt s t) s m p ≡ got ws q) where
       -- bytes follow the last line
       pub refused-more : (q ≡ length s → ⊥) → sheetOf s ≡ refused 2 q
       unfolding sheetOf
-      refused-more h = rw (le-leb (length s) 32768 short, a, b, ne-eqb q (length s) h)
+      refused-more h = rw (le-leb (length s) mostBytes short, a, b, ne-eqb q (length s) h)
 
       -- nothing does
       pub sheet-is : q ≡ length s → sheetOf s ≡ got (contents w t ws) q
       unfolding sheetOf
-      sheet-is h = rw (le-leb (length s) 32768 short, a, b, eq-eqb q (length s) h)
+      sheet-is h = rw (le-leb (length s) mostBytes short, a, b, eq-eqb q (length s) h)
 
 -- An accepted sheet's head is accepted, and its numbers are in their ranges.
 pub sheet-head : (s : List ℕ) {k : Contents} {q : ℕ} → sheetOf s ≡ got k q → (m : ℕ) × (p : ℕ) × (head s ≡ got (headOf (k .window) (k .places) m) p)
 unfolding sheetOf
-sheet-head s {k} {q} e = go (leb (length s) 32768) e
+sheet-head s {k} {q} e = go (leb (length s) mostBytes) e
   where
     go : (b : Bool) → pick b (λ _. andThen (head s) (λ h p. andThen (rules (namesAt s (h .places)) s (h .count) p) (λ ws x. atEnd s (contents (h .window) (h .places) ws) x))) (refused 1 0) ≡ got k q
         → (m : ℕ) × (p : ℕ) × (head s ≡ got (headOf (k .window) (k .places) m) p)

@@ -4,6 +4,7 @@ use mathlib.Core.Path.{_≡_}
 use mathlib.Core.List.{List}
 use Prim.Native.Nat.{ℕ, _+_, _-_, _≤_, _<_}
 use lib.ListN.{length}
+use Rattle.spec_limits.specs.Limits.{arenaNumbers, mostRuleBytes, mostSignals}
 use Rattle.read_bytes.specs.Read.{Read}
 use Rattle.read_bytes.specs.Read.Read.{got, refused}
 use Rattle.read_bytes.specs.Bytes.{byte, peek}
@@ -18,9 +19,9 @@ use Rattle.read_parts.specs.declared.parts.Parsed.the-variants as parsed
 pub record Ready (s a places : List ℕ) (p h : ℕ) : Type 0 where
   pub within : p ≤ length s
   pub before : All (λ v. v ≤ p) places
-  pub few : length places ≤ 64
-  pub room : 1024 ≤ length a
-  pub rows : h + 256 ≤ 65535
+  pub few : length places ≤ mostSignals
+  pub room : arenaNumbers ≤ length a
+  pub rows : h + mostRuleBytes ≤ 65535
 
 -- A line's value stands from v to its LF at e.
 pub record Ended (s : List ℕ) (v e : ℕ) : Type 0 where
@@ -36,7 +37,7 @@ pub record Rule (a : List ℕ) (h : ℕ) (R : Read Written) (q u h′ : ℕ) : T
   pub arena : Arena u a
   pub held : Held a h (u - 1) rule
   pub next : h′ ≡ h + hiddens rule
-  pub few : h′ ≤ h + 256
+  pub few : h′ ≤ h + mostRuleBytes
 
 -- What each case of a rule line's reader says.
 pub data RuleRead (a : List ℕ) (h : ℕ) (R : Read Written) : Parsed → Type 0 where

@@ -4,6 +4,7 @@ use Prim.Native.Nat.{ℕ, _+_, _-_, _≤_}
 use mathlib.Core.List.{List, [], _∷_, _++_}
 use lib.ListN.{length, take}
 use lib.Dec.{leb, eqb}
+use Rattle.spec_limits.specs.Limits.{mostBytes, mostOffset, mostRuleBytes}
 use Rattle.read_bytes.specs.Read.{Read, andThen}
 use Rattle.read_bytes.specs.Read.Read.{got, refused}
 use Rattle.read_bytes.specs.Bytes.{byte, bytes, pick, between}
@@ -16,7 +17,7 @@ use Rattle.read_head.specs.SheetHead.{head}
 
 -- A rule from v to its LF at e, and the place after the line. "A rule has 1 to 256 bytes", else 5 at v, before its formula is read.
 unfoldable pub ruleTo : List (List ℕ) → List ℕ → ℕ → ℕ → Read Written
-ruleTo names s v e = pick (between 1 256 (e - v)) (λ _. andThen (rule names (take e s) v) (λ w q. got w (e + 1))) (refused 5 v)
+ruleTo names s v e = pick (between 1 mostRuleBytes (e - v)) (λ _. andThen (rule names (take e s) v) (λ w q. got w (e + 1))) (refused 5 v)
 
 -- The line `rule=` with a rule.
 unfoldable pub ruleLine : List (List ℕ) → List ℕ → ℕ → Read Written
@@ -43,7 +44,7 @@ atEnd s k q = pick (eqb q (length s)) (λ _. got k q) (refused 2 q)
 -- A whole sheet, at most 32,768 bytes.
 unfoldable pub sheetOf : List ℕ → Read Contents
 sheetOf s =
-    pick (leb (length s) 32768) (λ _.
+    pick (leb (length s) mostBytes) (λ _.
     andThen (head s) (λ h p.
     andThen (rules (namesAt s (h .places)) s (h .count) p) (λ ws q. atEnd s (contents (h .window) (h .places) ws) q)))
     (refused 1 0)
@@ -67,7 +68,7 @@ sheetText h bodies = h ++ ruleLines bodies
 
 -- The interval has whole numbers from -63 to 63 only (refusal 7).
 abbrev pub near : ℕ → ℕ → Type 0
-near first more = (1 ≤ first) × (first + more ≤ 127)
+near first more = (1 ≤ first) × (first + more ≤ mostOffset)
 
 -- Every interval in the rule has, as reading it ensures.
 abbrev pub Near : Written → Type 0

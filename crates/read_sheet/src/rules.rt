@@ -3,6 +3,7 @@ use crate::whole_rule::rule;
 use read_lines::Step;
 use read_lines::line_at;
 use read_parts::parts::Parsed;
+use spec_limits::RULE_BYTES;
 ghost use Rattle.read_names.specs.Words.{namesAt};
 ghost use Rattle.read_sheet.specs.Sheet.{ruleTo, ruleLine};
 ghost use Rattle.read_sheet.specs.Reading.{Ready, Ended, RuleRead};
@@ -14,7 +15,7 @@ fn rule_to(s: &[u8], places: &[u64], arena: &mut [u16], v: usize, e: usize, hidd
 {
     let n = e - v;
     match n {
-        1..=256 => {}
+        1..=RULE_BYTES => {}
         _ => return Parsed::Refused(5, v),
     }
     let r = rule(&s[..e], places, arena, v, hidden);

@@ -2,6 +2,7 @@
 use read_arena::Sign;
 use read_formula::joined;
 use read_parts::parts::Parsed;
+use spec_limits::OPEN;
 ghost use lib.ListN.{length};
 ghost use Rattle.read_names.specs.Words.{namesAt};
 ghost use Rattle.read_parts.specs.Grammar.{rule as ruleOf};
@@ -12,7 +13,7 @@ pub fn rule(s: &[u8], names: &[u64], arena: &mut [u16], at: usize, hidden: usize
     requires { ⌜ Ready (now s) (now arena) (now names) at 0 hidden ⌝ }
     ensures { λ r. ⌜ Parses (now (arena .entry)) (now (arena .exit)) (length (now (s .entry))) 1 at 0 hidden hidden (ruleOf (namesAt (now (s .entry)) (now (names .entry))) (now (s .entry)) at) r ⌝ }
 {
-    let r = joined(Sign::Iff, s, names, arena, at, 0, hidden, 32);
+    let r = joined(Sign::Iff, s, names, arena, at, 0, hidden, OPEN);
     let Parsed::Got(next, count, rows) = r else {
         return r;
     };

@@ -6,6 +6,7 @@ use mathlib.Core.List.{List, [], _∷_, _++_, List·Memᴰ}
 use Prim.Native.Nat.{ℕ, _+_, _≤_}
 use native.Mathlib.Omega.{arith}
 use lib.ListN.{length}
+use Rattle.spec_limits.specs.Limits.{mostSignals}
 use Rattle.read_bytes.specs.Bytes.{bytes}
 use Rattle.read_names.specs.Words.{wordAt, namesAt}
 use Rattle.read_bytes.proofs.Tests.{between-is}
@@ -48,7 +49,7 @@ module _ (s : List ℕ) where
 
   right-named : {p : ℕ} {c e : Next} {v : List ℕ} → LineAt s p (key c ++ v) → Right s p c v e → Named c → Named e
   right-named a (Right.number Ranged.ticks n b) h = tt
-  right-named a (Right.number {x = x} Ranged.signal-count n b) h = inl (between-is 1 64 x b .0)
+  right-named a (Right.number {x = x} Ranged.signal-count n b) h = inl (between-is 1 mostSignals x b .0)
   right-named a (Right.number (Ranged.rule-count) n b) h = ⊎-elim (λ l. let z : ⊥ = omega arith in absurd z) (λ k. k) h
   right-named {p} {v = v} a (Right.name {places = places} m k) h = inr (one-more places (p + length (bytes "signal=")) v (m .name) (same-word s (p + length (bytes "signal=")) 4 v (value-at (bytes "signal=") v a) m))
   right-named a (Right.formula b f) h = h

@@ -13,7 +13,7 @@ use Rattle.read_bytes.specs.declared.numbers.Number.the-variants.{Value, Missin
 use Rattle.read_bytes.specs.Bytes.{byte, peek, pick, digit, starts}
 use Rattle.read_bytes.specs.Numbers.{digits}
 use Rattle.read_bytes.proofs.Tests.{between-is}
-use Rattle.read_interval.specs.Interval.{signed, leading, endAt}
+use Rattle.read_interval.specs.Interval.{signed, leading, endAt, endZero}
 use Rattle.spec_grammar.specs.Tokens.{Each, decimal, Numeral, End, Token, TokenAt}
 use Rattle.spec_grammar.proofs.Standing.{starts-head, starts-tail, starts-none, starts-one, starts-cons}
 use Rattle.spec_grammar.proofs.Signs.{leading-digit, numeral-first, end-first, sign-end, word-no-end}
@@ -167,15 +167,15 @@ module _ (s : List ℕ) (p : ℕ) where
 
 unfoldable pub valueOf : List ℕ → ℕ
 valueOf [] = 0
-valueOf (b ∷ w) = pick (eqb b (byte "0")) (λ _. 10000) (pick (eqb b (byte "-")) (λ _. 10000 - decimal 0 w) (10000 + decimal 0 (b ∷ w)))
+valueOf (b ∷ w) = pick (eqb b (byte "0")) (λ _. endZero) (pick (eqb b (byte "-")) (λ _. endZero - decimal 0 w) (endZero + decimal 0 (b ∷ w)))
 
-plus-value : {w : List ℕ} {v : ℕ} → Numeral w v → 10000 + v ≡ valueOf w
+plus-value : {w : List ℕ} {v : ℕ} → Numeral w v → endZero + v ≡ valueOf w
 unfolding valueOf
 plus-value (Numeral.numeral {b} h k l) =
     let i = between-is (byte "1") (byte "9") b h in
     rw (ne-eqb b (byte "0") (λ e. omega (arith, i .0)), ne-eqb b (byte "-") (λ e. omega (arith, i .0)))
 
-minus-value : {w : List ℕ} {v : ℕ} → Numeral w v → 10000 - v ≡ valueOf (byte "-" ∷ w)
+minus-value : {w : List ℕ} {v : ℕ} → Numeral w v → endZero - v ≡ valueOf (byte "-" ∷ w)
 unfolding valueOf
 minus-value (Numeral.numeral {b} h k l) = refl
 

@@ -5,6 +5,7 @@ use mathlib.Core.Logic.{_↔_}
 use mathlib.Core.List.{List}
 use Prim.Native.Nat.{ℕ}
 use lib.ListN.{length}
+use Rattle.spec_limits.specs.Limits.{mostOpen}
 use Rattle.read_bytes.specs.Read.Read.{got}
 use Rattle.read_bytes.proofs.Answers.{same-value}
 use Rattle.spec_tilco.specs.Formula.{Written}
@@ -22,5 +23,5 @@ module _ (names : List (List ℕ)) (s : List ℕ) (p : ℕ) where
   pub one-formula : {f g : Written} → Rule names s p f → Rule names s p g → f ≡ g
   one-formula h k = same-value (sym (rule-complete names s p h) ∙ rule-complete names s p k)
 
-  pub unambiguous : {ws : List (List ℕ)} {f g : Written} → Tokens s (length s) p ws → Is (Declared names) Legal formula 32 ws f → Is (Declared names) Legal formula 32 ws g → f ≡ g
+  pub unambiguous : {ws : List (List ℕ)} {f g : Written} → Tokens s (length s) p ws → Is (Declared names) Legal formula mostOpen ws f → Is (Declared names) Legal formula mostOpen ws g → f ≡ g
   unambiguous {ws} t h k = one-formula (record { tokens = ws; stand = t; is = h }) (record { tokens = ws; stand = t; is = k })

@@ -6,6 +6,7 @@ use mathlib.Core.List.{List, [], _∷_, _++_, List·Memᴰ}
 use Prim.Native.Nat.{ℕ, zero, suc, _+_, _≤_, _<_}
 use native.Mathlib.Omega.{arith}
 use lib.ListN.{length, length-append}
+use Rattle.spec_limits.specs.Limits.{mostRules, mostSignals, mostTicks}
 use Rattle.read_bytes.specs.Read.{Read, andThen}
 use Rattle.read_bytes.specs.Read.Read.{got, refused}
 use Rattle.read_bytes.specs.Bytes.{bytes, between, InLine}
@@ -27,12 +28,12 @@ then-then (refused n p) K J = refl
 
 -- What is made of the signals' lines and the number of rules from p on.
 signalsFrom : {A : Type 0} → (ℕ → List ℕ → ℕ → List Written → ℕ → Read A) → List ℕ → ℕ → ℕ → List ℕ → ℕ → Read A
-signalsFrom K s w n places p = andThen (inTurn (signalLine s) n places p) (λ ps u. andThen (rangedLine s u (bytes "rules=") 2 3 0 64) (λ m e. K w ps m [] e))
+signalsFrom K s w n places p = andThen (inTurn (signalLine s) n places p) (λ ps u. andThen (rangedLine s u (bytes "rules=") 2 3 0 mostRules) (λ m e. K w ps m [] e))
 
 -- What is made of the text from p on, where this comes next.
 pub from : {A : Type 0} → (ℕ → List ℕ → ℕ → List Written → ℕ → Read A) → List ℕ → Next → ℕ → Read A
-from K s Next.window p = andThen (rangedLine s p (bytes "window=") 2 3 1 64) (λ w q. andThen (rangedLine s q (bytes "signals=") 2 3 1 64) (λ n u. signalsFrom K s w n [] u))
-from K s (Next.signals w) p = andThen (rangedLine s p (bytes "signals=") 2 3 1 64) (λ n u. signalsFrom K s w n [] u)
+from K s Next.window p = andThen (rangedLine s p (bytes "window=") 2 3 1 mostTicks) (λ w q. andThen (rangedLine s q (bytes "signals=") 2 3 1 mostSignals) (λ n u. signalsFrom K s w n [] u))
+from K s (Next.signals w) p = andThen (rangedLine s p (bytes "signals=") 2 3 1 mostSignals) (λ n u. signalsFrom K s w n [] u)
 from K s (Next.signal w n places) p = signalsFrom K s w n places p
 from K s (Next.rule w places m ws) p = K w places m ws p
 
@@ -83,14 +84,14 @@ module _ (s : List ℕ) where
     pub head-then : andThen (head s) (λ d q. K (d .window) (d .places) (d .count) [] q) ≡ from K s Next.window 0
     unfolding head from signalsFrom
     head-then =
-        then-then (rangedLine s 0 (bytes "window=") 2 3 1 64) _ _
-        ∙ then-same (rangedLine s 0 (bytes "window=") 2 3 1 64) _ _
+        then-then (rangedLine s 0 (bytes "window=") 2 3 1 mostTicks) _ _
+        ∙ then-same (rangedLine s 0 (bytes "window=") 2 3 1 mostTicks) _ _
         (λ w p i.
-        then-then (rangedLine s p (bytes "signals=") 2 3 1 64) _ _
-        ∙ then-same (rangedLine s p (bytes "signals=") 2 3 1 64) _ _
+        then-then (rangedLine s p (bytes "signals=") 2 3 1 mostSignals) _ _
+        ∙ then-same (rangedLine s p (bytes "signals=") 2 3 1 mostSignals) _ _
         (λ n q j.
         then-then (inTurn (signalLine s) n [] q) _ _
-        ∙ then-same (inTurn (signalLine s) n [] q) _ _ (λ ps u h. then-then (rangedLine s u (bytes "rules=") 2 3 0 64) _ _)))
+        ∙ then-same (inTurn (signalLine s) n [] q) _ _ (λ ps u h. then-then (rangedLine s u (bytes "rules=") 2 3 0 mostRules) _ _)))
 
     -- ---- each line's answer
 

@@ -7,6 +7,7 @@ use mathlib.Core.List.{List, [], _∷_, _++_, append-nil, append-assoc, List·Me
 use Prim.Native.Nat.{ℕ, suc, _+_, _-_, _≤_, _<_}
 use native.Mathlib.Nat.{add-zero}
 use native.Mathlib.Omega.{arith}
+use Rattle.spec_limits.specs.Limits.{mostRuleBytes}
 use Rattle.spec_ticks.proofs.Bits.{lt-or-ge}
 use borrow.Author.Tests.{eqb-true, eqb-false}
 use lib.Dec.{eqb}
@@ -191,7 +192,7 @@ rule-there names s u v a =
 module _ (names : List (List ℕ)) (s : List ℕ) (p : ℕ) where
   -- The answer to a rule of the text v.
   pub rule-line-reads : (v : List ℕ) → LineAt s p (bytes "rule=" ++ v)
-      → ruleLine names s p ≡ pick (between 1 256 (length v)) (λ _. andThen (later (p + length (bytes "rule=")) (rule names v 0)) (λ w q. got w (after p (bytes "rule=" ++ v)))) (refused 5 (p + length (bytes "rule=")))
+      → ruleLine names s p ≡ pick (between 1 mostRuleBytes (length v)) (λ _. andThen (later (p + length (bytes "rule=")) (rule names v 0)) (λ w q. got w (after p (bytes "rule=" ++ v)))) (refused 5 (p + length (bytes "rule=")))
   unfolding ruleLine ruleTo
   rule-line-reads v a =
       let u : p + length (bytes "rule=") + length v - (p + length (bytes "rule=")) ≡ length v = omega arith in

@@ -11,6 +11,7 @@ use native.Mathlib.Decide.{decLt}
 use borrow.Author.Tests.{eq-eqb, eqb-true, eqb-false, ltb-true, lt-ltb, le-leb, not-false}
 use lib.Dec.{eqb, ltb}
 use lib.ListN.{length, length-append}
+use Rattle.spec_limits.specs.Limits.{mostNameBytes}
 use Rattle.read_names.specs.declared.Word as words
 use Rattle.read_names.specs.declared.Word.the-variants.{Name, Other}
 use Rattle.read_bytes.specs.Read.{Read}
@@ -282,7 +283,7 @@ module _ (s : List ℕ) (u content : ℕ) (v : List ℕ) (a : LineAt s u v) wher
       let z = same-word n in
       let since = word-not s u true (λ x. n .name .not-since (sym z ∙ x)) in
       let until = word-not s u false (λ x. n .name .not-until (sym z ∙ x)) in
-      rw (word-first s u (n .name .word) (a .stands), z, le-leb (length v) 16 (n .short), since, until)
+      rw (word-first s u (n .name .word) (a .stands), z, le-leb (length v) mostNameBytes (n .short), since, until)
 
   pub name-is : NameIs v u (u + length v) content (wholeName u content (u + length v) (nameAt s u))
   unfolding runEnd

@@ -5,12 +5,13 @@ use mathlib.Core.Bool.{Bool, true, false, true≢false, _||_}
 use mathlib.Core.Logic.{_⊎_, inl, inr, ⊎-elim}
 use mathlib.Core.List.{List, [], _∷_, _++_, append-assoc}
 use mathlib.Core.Option.{some}
-use Prim.Native.Nat.{ℕ, _≤_, _<_}
+use Prim.Native.Nat.{ℕ, suc, _≤_, _<_}
 use native.Mathlib.Omega.{arith}
 use native.Mathlib.Decide.{decLt}
 use borrow.Author.Tests.{eqb-true, ltb-true, lt-ltb}
 use lib.Dec.{eqb, ltb}
 use lib.ListN.{length}
+use Rattle.spec_limits.specs.Limits.{mostOpen}
 use Rattle.read_bytes.specs.Bytes.{bytes, oneOf, letter}
 use Rattle.read_names.specs.Words.{findName}
 use Rattle.spec_tilco.specs.Lists.{All}
@@ -67,7 +68,7 @@ begins-front {d} a b h = record { rest = b ++ h .rest; says = h .says; is = subs
 begins-one : {d : ℕ} (us : List (List ℕ)) (w : List ℕ) (ws : List (List ℕ)) → Begins d (us ++ (w ∷ ws)) → Begins d (us ++ (w ∷ []))
 begins-one {d} us w ws h = begins-front (us ++ (w ∷ [])) ws (subst (Begins d) (sym (append-assoc us (w ∷ []) ws)) h)
 
-begins-deep : {us : List (List ℕ)} → Begins 32 us → Begins 33 us
+begins-deep : {us : List (List ℕ)} → Begins mostOpen us → Begins (suc mostOpen) us
 begins-deep h = record { rest = h .rest; says = h .says; is = deep AnyName AnySpan (h .is) }
 
 -- The last token of a list is the one before the rest, or stands in the rest.
@@ -131,22 +132,22 @@ inner-starts (Interval.interval {o} {c} {v} {w} {x} {y} ho kx ky hc) u r t ts e 
 pub record Clean (names : List (List ℕ)) (s : List ℕ) (p κ : ℕ) : Type 0 where
   pub tokens : List (List ℕ)
   pub stand : Tokens s κ p tokens
-  pub begins : Begins 33 tokens
+  pub begins : Begins (suc mostOpen) tokens
   pub at : Place
-  pub walks : Walks (strict names) (Place.want 32 32 fresh []) tokens at
-  pub before : Before AnyName AnySpan formula 32 tokens
+  pub walks : Walks (strict names) (Place.want mostOpen mostOpen fresh []) tokens at
+  pub before : Before AnyName AnySpan formula mostOpen tokens
   pub next : (w : List ℕ) (d : ℕ) → TokenAt s κ w → Begins d (tokens ++ (w ∷ [])) → starter (firstOf w) ≡ true
 
 module _ {names : List (List ℕ)} {s : List ℕ} {p κ : ℕ} (c : Clean names s p κ) where
   -- The walk up to a token before κ, and over it.
-  over : (us ws : List (List ℕ)) → c .tokens ≡ us ++ ws → (y : Place) × Walks (strict names) (Place.want 32 32 fresh []) us y × Walks (strict names) y ws (c .at)
-  over us ws e = walks-part us (subst (λ z. Walks (strict names) (Place.want 32 32 fresh []) z (c .at)) e (c .walks))
+  over : (us ws : List (List ℕ)) → c .tokens ≡ us ++ ws → (y : Place) × Walks (strict names) (Place.want mostOpen mostOpen fresh []) us y × Walks (strict names) y ws (c .at)
+  over us ws e = walks-part us (subst (λ z. Walks (strict names) (Place.want mostOpen mostOpen fresh []) z (c .at)) e (c .walks))
 
   module _ {i : ℕ} {us : List (List ℕ)} (t : Tokens s i p us) where
     no-token : i < κ → ((w : List ℕ) (d : ℕ) → TokenAt s i w → Begins d (us ++ (w ∷ [])) → ⊥) → ⊥
     no-token l k =
         let a = tokens-past us (c .tokens) t (c .stand) l in
-        k (a .0) 33 (a .3) (begins-one us (a .0) (a .1) (subst (Begins 33) (a .2) (c .begins)))
+        k (a .0) (suc mostOpen) (a .3) (begins-one us (a .0) (a .1) (subst (Begins (suc mostOpen)) (a .2) (c .begins)))
 
     no-name : {w : List ℕ} → i < κ → TokenAt s i w → Name w → ((x : ℕ) → Declared names w x → ⊥) → ⊥
     no-name {w} l a n u =
@@ -156,7 +157,7 @@ module _ {names : List (List ℕ)} {s : List ℕ} {p κ : ℕ} (c : Clean names 
         let k = subst (λ z. step (strict names) (h .0) z ≡ some (f .0)) (token-one (b .3) a) (f .1) in
         u _ (passes-declared names w (name-known (strict names) (h .0) (f .0) n k))
 
-    no-span : {q o v w x : ℕ} {ws : List (List ℕ)} → i < κ → Tokens s q i ws → Interval ws o v w x → ((first more : ℕ) → Legal o v w x first more → ⊥) → Begins 32 (us ++ ws) → ⊥
+    no-span : {q o v w x : ℕ} {ws : List (List ℕ)} → i < κ → Tokens s q i ws → Interval ws o v w x → ((first more : ℕ) → Legal o v w x first more → ⊥) → Begins mostOpen (us ++ ws) → ⊥
     no-span {q} {o} {v} {w} {x} {ws} l a j n b = go (decLt κ q)
       where
         go : Dec (κ < q) → ⊥
@@ -169,22 +170,22 @@ module _ {names : List (List ℕ)} {s : List ℕ} {p κ : ℕ} (c : Clean names 
             let r = tokens-past (c .tokens) (us ++ ws) (c .stand) (tokens-then us t a) m in
             let f = tokens-past us (c .tokens) t (c .stand) l in
             let e = r .2 ∙ ap (λ z. z ++ (r .0 ∷ r .1)) (f .2) ∙ append-assoc us (f .0 ∷ f .1) (r .0 ∷ r .1) in
-            let k = c .next (r .0) 32 (r .3) (begins-one (c .tokens) (r .0) (r .1) (subst (Begins 32) (r .2) b)) in
+            let k = c .next (r .0) mostOpen (r .3) (begins-one (c .tokens) (r .0) (r .1) (subst (Begins mostOpen) (r .2) b)) in
             inner-starts j (f .0) (f .1) (r .0) (r .1) (front-same us e) k
 
-    no-deep : {o : ℕ} → i < κ → oneOf o (bytes "(!") ≡ true → TokenAt s i (o ∷ []) → (Begins 32 (us ++ ((o ∷ []) ∷ [])) → ⊥) → ⊥
+    no-deep : {o : ℕ} → i < κ → oneOf o (bytes "(!") ≡ true → TokenAt s i (o ∷ []) → (Begins mostOpen (us ++ ((o ∷ []) ∷ [])) → ⊥) → ⊥
     no-deep {o} l m a n =
         let b = tokens-past us (c .tokens) t (c .stand) l in
         go (b .1) (c .before) (b .2 ∙ ap (λ z. us ++ (z ∷ b .1)) (token-one (b .3) a))
       where
-        from : (ts ws : List (List ℕ)) → Begin AnyName AnySpan formula 32 ts → ts ≡ us ++ ((o ∷ []) ∷ ws) → Begins 32 (us ++ ((o ∷ []) ∷ []))
-        from ts ws h e = begins-one us (o ∷ []) ws (subst (Begins 32) e (record { rest = h .rest; says = h .says; is = h .is }))
+        from : (ts ws : List (List ℕ)) → Begin AnyName AnySpan formula mostOpen ts → ts ≡ us ++ ((o ∷ []) ∷ ws) → Begins mostOpen (us ++ ((o ∷ []) ∷ []))
+        from ts ws h e = begins-one us (o ∷ []) ws (subst (Begins mostOpen) e (record { rest = h .rest; says = h .says; is = h .is }))
 
         keep-other : (b : Bool) → keepWord b ≡ o ∷ [] → ⊥
         keep-other true e = true≢false (sym m ∙ ap (λ z. oneOf (firstOf z) (bytes "(!")) (sym e))
         keep-other false e = true≢false (sym m ∙ ap (λ z. oneOf (firstOf z) (bytes "(!")) (sym e))
 
-        go : (r : List (List ℕ)) {ts : List (List ℕ)} → Before AnyName AnySpan formula 32 ts → ts ≡ us ++ ((o ∷ []) ∷ r) → ⊥
+        go : (r : List (List ℕ)) {ts : List (List ℕ)} → Before AnyName AnySpan formula mostOpen ts → ts ≡ us ++ ((o ∷ []) ∷ r) → ⊥
         go r (Before.whole {us = ts} h) e = n (from ts r h e)
         go r (Before.word {us = ts} b h) e = ⊎-elim (λ k. keep-other b k) (λ k. n (from ts (k .0) h (k .1))) (last-split ts us (keepWord b) (o ∷ []) r e)
         go r (Before.span b h j k) e = n (from _ r k e)
@@ -210,8 +211,8 @@ module _ {s : List ℕ} {p κ : ℕ} {us ts : List (List ℕ)} (t : Tokens s κ 
   unfit {d} {w} k a b = k w d a (subst (λ z. Begins d (z ++ (w ∷ []))) (tokens-one ts us u t) b)
 
   -- A bracket with which 32 may be open, and one with which they may not.
-  one-bracket : {o x : ℕ} → TokenAt s κ (o ∷ []) → Begins 32 (us ++ ((o ∷ []) ∷ [])) → TokenAt s κ (x ∷ []) → (Begins 32 (ts ++ ((x ∷ []) ∷ [])) → ⊥) → ⊥
-  one-bracket {o} {x} a h b n = n (subst (λ z. Begins 32 (ts ++ (z ∷ []))) (token-one a b) (subst (λ z. Begins 32 (z ++ ((o ∷ []) ∷ []))) (tokens-one us ts t u) h))
+  one-bracket : {o x : ℕ} → TokenAt s κ (o ∷ []) → Begins mostOpen (us ++ ((o ∷ []) ∷ [])) → TokenAt s κ (x ∷ []) → (Begins mostOpen (ts ++ ((x ∷ []) ∷ [])) → ⊥) → ⊥
+  one-bracket {o} {x} a h b n = n (subst (λ z. Begins mostOpen (ts ++ (z ∷ []))) (token-one a b) (subst (λ z. Begins mostOpen (z ++ ((o ∷ []) ∷ []))) (tokens-one us ts t u) h))
 
 module _ {s : List ℕ} {κ : ℕ} where
   -- A name is no sign.
@@ -219,7 +220,7 @@ module _ {s : List ℕ} {κ : ℕ} where
   no-sign {o = o} l h n a b m = none-of letter o l h (subst (λ z. letter (firstOf z) ≡ true) (token-one a b) (name-letter n)) m
 
   -- An interval's bracket.
-  pub span-opens : {q o v w c : ℕ} {ws : List (List ℕ)} (us : List (List ℕ)) → Interval ws o v w c → Tokens s q κ ws → Begins 32 (us ++ ws) → TokenAt s κ (o ∷ []) × (oneOf o (bytes "[(") ≡ true) × Begins 32 (us ++ ((o ∷ []) ∷ []))
+  pub span-opens : {q o v w c : ℕ} {ws : List (List ℕ)} (us : List (List ℕ)) → Interval ws o v w c → Tokens s q κ ws → Begins mostOpen (us ++ ws) → TokenAt s κ (o ∷ []) × (oneOf o (bytes "[(") ≡ true) × Begins mostOpen (us ++ ((o ∷ []) ∷ []))
   span-opens us (Interval.interval {o} ho kx ky hc) a b = (next-is a .0, ho, begins-one us (o ∷ []) _ b)
 
 pub one-wrong : {names : List (List ℕ)} {s : List ℕ} {p κ n m : ℕ} → Wrong names s p n κ → Wrong names s p m κ → n ≡ m
@@ -247,11 +248,11 @@ module _ {s : List ℕ} {p κ : ℕ} {us : List (List ℕ)} (t : Tokens s κ p u
   here {ts} d ws u h = subst (λ z. Begins d (z ++ ws)) (tokens-one ts us u t) h
 
   -- What stands before begins a formula,
-  pub wrong-begins : {names : List (List ℕ)} {n : ℕ} → Wrong names s p n κ → Begins 33 us
-  wrong-begins (Wrong.token {us = ts} u b k e) = subst (Begins 33) (tokens-one ts us u t) b
-  wrong-begins (Wrong.name {w = w} u a n f b) = begins-deep (begins-front us (w ∷ []) (here 32 (w ∷ []) u b))
-  wrong-begins (Wrong.span {ws = ws} u a j n b) = begins-deep (begins-front us ws (here 32 ws u b))
-  wrong-begins (Wrong.deep {o = o} u m a b n) = begins-front us ((o ∷ []) ∷ []) (here 33 ((o ∷ []) ∷ []) u b)
+  pub wrong-begins : {names : List (List ℕ)} {n : ℕ} → Wrong names s p n κ → Begins (suc mostOpen) us
+  wrong-begins (Wrong.token {us = ts} u b k e) = subst (Begins (suc mostOpen)) (tokens-one ts us u t) b
+  wrong-begins (Wrong.name {w = w} u a n f b) = begins-deep (begins-front us (w ∷ []) (here mostOpen (w ∷ []) u b))
+  wrong-begins (Wrong.span {ws = ws} u a j n b) = begins-deep (begins-front us ws (here mostOpen ws u b))
+  wrong-begins (Wrong.deep {o = o} u m a b n) = begins-front us ((o ∷ []) ∷ []) (here (suc mostOpen) ((o ∷ []) ∷ []) u b)
 
   -- and a token that fits at the fault starts something.
   pub wrong-starts : {names : List (List ℕ)} {n : ℕ} → Wrong names s p n κ → (w : List ℕ) (d : ℕ) → TokenAt s κ w → Begins d (us ++ (w ∷ [])) → starter (firstOf w) ≡ true

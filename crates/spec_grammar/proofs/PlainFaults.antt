@@ -10,6 +10,7 @@ use native.Mathlib.Omega.{arith}
 use borrow.Author.Tests.{eqb-true, eqb-false, ltb-true, ltb-false}
 use lib.Dec.{eqb, ltb}
 use lib.ListN.{length}
+use Rattle.spec_limits.specs.Limits.{mostOpen}
 use Rattle.read_bytes.specs.declared.bytes.Class.{Class}
 use Rattle.read_bytes.specs.declared.bytes.Class.the-variants.{Letter, Digit, Sign, Bracket, Other}
 use Rattle.read_bytes.specs.Read.{Read, andThen}
@@ -501,15 +502,15 @@ module _ {names : List (List ℕ)} (s : List ℕ) (ν : View names) (e : ℕ) wh
 
   -- ---- a rule
 
-  pub rule-out : (p : ℕ) → Out s ν e (e + 32) (e + 32) fresh [] formula 32 p (rule names s p)
+  pub rule-out : (p : ℕ) → Out s ν e (e + mostOpen) (e + mostOpen) fresh [] formula mostOpen p (rule names s p)
   unfolding rule reading.plain
-  rule-out p = go (formula-out 32 (plainIn (inside 32 names s) names s) (plain-out (inner 32)) p [])
+  rule-out p = go (formula-out mostOpen (plainIn (inside mostOpen names s) names s) (plain-out (inner mostOpen)) p [])
     where
-      go : {R : Read Written} → Out s ν e (e + 32) (e + 32) fresh [] formula 32 p R → Out s ν e (e + 32) (e + 32) fresh [] formula 32 p (andThen R (λ f q. pick (eqb q (length s)) (λ _. got f q) (refused 5 q)))
+      go : {R : Read Written} → Out s ν e (e + mostOpen) (e + mostOpen) fresh [] formula mostOpen p R → Out s ν e (e + mostOpen) (e + mostOpen) fresh [] formula mostOpen p (andThen R (λ f q. pick (eqb q (length s)) (λ _. got f q) (refused 5 q)))
       go (Out.bad x) = Out.bad x
       go (Out.good {f = f} {q = q} g) = on (eqb q (length s)) refl
         where
-          on : (c : Bool) → eqb q (length s) ≡ c → Out s ν e (e + 32) (e + 32) fresh [] formula 32 p (pick (eqb q (length s)) (λ _. got f q) (refused 5 q))
+          on : (c : Bool) → eqb q (length s) ≡ c → Out s ν e (e + mostOpen) (e + mostOpen) fresh [] formula mostOpen p (pick (eqb q (length s)) (λ _. got f q) (refused 5 q))
           on true i = rw i (Out.good g)
           on false i =
               rw i
@@ -517,15 +518,15 @@ module _ {names : List (List ℕ)} (s : List ℕ) (ν : View names) (e : ℕ) wh
               (record {
                 tokens = g .tokens;
                 stand = g .stand;
-                at = Place.after (e + 32) (g .left) [];
+                at = Place.after (e + mostOpen) (g .left) [];
                 walks = g .walks;
-                before = Before.whole (record { rest = []; says = f; is = subst (λ z. Asked formula 32 z f) (sym (append-nil (g .tokens))) (g .is) });
+                before = Before.whole (record { rest = []; says = f; is = subst (λ z. Asked formula mostOpen z f) (sym (append-nil (g .tokens))) (g .is) });
                 hopes =
                     Hopes.token
                     (record {
                       rest = [];
                       says = f;
-                      is = subst (λ z. Wide formula 33 z f) (sym (append-nil (g .tokens ++ []) ∙ append-nil (g .tokens))) (deeper AnyName AnySpan (loosen (ν .N) (ν .I) (g .is)));
+                      is = subst (λ z. Wide formula (suc mostOpen) z f) (sym (append-nil (g .tokens ++ []) ∙ append-nil (g .tokens))) (deeper AnyName AnySpan (loosen (ν .N) (ν .I) (g .is)));
                     })
-                    (λ w z a k. stuck-after a (g .left) (ν .tests) (e + 32) [] z (g .quiet) (λ x y. none-not y) (λ x y. none-not y) k) (λ l c m x. eqb-false q (length s) i l);
+                    (λ w z a k. stuck-after a (g .left) (ν .tests) (e + mostOpen) [] z (g .quiet) (λ x y. none-not y) (λ x y. none-not y) k) (λ l c m x. eqb-false q (length s) i l);
               }))

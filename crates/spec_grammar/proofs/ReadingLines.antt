@@ -10,6 +10,7 @@ use native.Mathlib.Decide.{decLt}
 use borrow.Author.Tests.{ltb-true, ltb-false, lt-ltb, le-ltb, le-leb}
 use lib.Dec.{eqb, ltb}
 use lib.ListN.{length}
+use Rattle.spec_limits.specs.Limits.{mostBytes}
 use Rattle.read_bytes.specs.Read.{Read, andThen}
 use Rattle.read_bytes.specs.Read.Read.{got, refused}
 use Rattle.read_bytes.specs.Bytes.{bytes, pick, InLine}
@@ -114,9 +115,9 @@ module _ (names : List (List ℕ)) (W : ℕ) (r : List ℕ) where
   from-end zero ms p l = refl
   from-end (suc n) ms p l = rw (le-ltb p (length r) l)
 
-  from-start : length r ≤ 32768 → readings names W r ≡ from (length r) (Next.at []) 0
+  from-start : length r ≤ mostBytes → readings names W r ≡ from (length r) (Next.at []) 0
   unfolding readings from
-  from-start l = rw (le-leb (length r) 32768 l)
+  from-start l = rw (le-leb (length r) mostBytes l)
 
   in-key : {c : Next} {lo hi content : ℕ} {k : ℕ → Next} → Ranged W c lo hi content k → InLine (key c)
   in-key Ranged.tick = in-line-by (bytes "at=") refl
@@ -221,7 +222,7 @@ module _ (names : List (List ℕ)) (W : ℕ) (r : List ℕ) where
 
   -- ---- exactly
 
-  module _ (fits : length r ≤ 32768) where
+  module _ (fits : length r ≤ mostBytes) where
     fault-refused : {n i : ℕ} → ReadingsFault names W r n i → readings names W r ≡ refused n i
     fault-refused f = let b = reached-reads (f .reached) in from-start fits ∙ b .2 ∙ fault-reads (b .0) (b .1) (f .holds)
 

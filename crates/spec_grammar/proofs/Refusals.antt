@@ -8,6 +8,7 @@ use native.Mathlib.Omega.{arith}
 use native.Mathlib.Decide.{decLt}
 use borrow.Author.Tests.{lt-leb}
 use lib.ListN.{length}
+use Rattle.spec_limits.specs.Limits.{mostBytes}
 use Rattle.read_bytes.specs.Read.Read.{refused}
 use Rattle.read_sheet.specs.Sheet.{sheetOf}
 use Rattle.read_readings.specs.Readings.{readings}
@@ -20,9 +21,9 @@ use Rattle.spec_grammar.proofs.ReadingLines.{readings-refused}
 
 -- ---- a sheet
 
-long-sheet : (s : List ℕ) → 32768 < length s → sheetOf s ≡ refused 1 0
+long-sheet : (s : List ℕ) → mostBytes < length s → sheetOf s ≡ refused 1 0
 unfolding sheetOf
-long-sheet s l = rw (lt-leb (length s) 32768 l)
+long-sheet s l = rw (lt-leb (length s) mostBytes l)
 
 -- The number of what is wrong in a formula.
 wrong-number : {names : List (List ℕ)} {v : List ℕ} {n k : ℕ} → Wrong names v 0 n k → 5 ≤ n
@@ -81,14 +82,14 @@ module _ {s : List ℕ} {p : ℕ} {c : sheets.Next} where
 
 module _ (s : List ℕ) where
   -- "Sheet over its length": 0.
-  pub refusal-1 : (i : ℕ) → (sheetOf s ≡ refused 1 i) ↔ ((32768 < length s) × (i ≡ 0))
-  refusal-1 i = (λ e. go (decLt 32768 (length s)) e, λ h. long-sheet s (h .0) ∙ ap (refused 1) (sym (h .1)))
+  pub refusal-1 : (i : ℕ) → (sheetOf s ≡ refused 1 i) ↔ ((mostBytes < length s) × (i ≡ 0))
+  refusal-1 i = (λ e. go (decLt mostBytes (length s)) e, λ h. long-sheet s (h .0) ∙ ap (refused 1) (sym (h .1)))
     where
-      go : Dec (32768 < length s) → sheetOf s ≡ refused 1 i → (32768 < length s) × (i ≡ 0)
+      go : Dec (mostBytes < length s) → sheetOf s ≡ refused 1 i → (mostBytes < length s) × (i ≡ 0)
       go (yes l) e = (l, (let z = sym e ∙ long-sheet s l in let k : i ≡ 0 = cc in k))
       go (no l) e = let f = sheet-refused s (omega arith) 1 i .0 e in let k = sheet-number (f .holds) in absurd (omega arith)
 
-  module _ (fits : length s ≤ 32768) where
+  module _ (fits : length s ≤ mostBytes) where
     row : (n i : ℕ) (Q : sheets.Next → ℕ → Type 0) → ((c : sheets.Next) (p : ℕ) → Fault s p c n i → Q c p) → ((c : sheets.Next) (p : ℕ) → Q c p → Fault s p c n i) → (sheetOf s ≡ refused n i) ↔ First s Q
     row n i Q f g = (λ e. map _ Q f (sheet-refused s fits n i .0 e), λ h. sheet-refused s fits n i .1 (map Q _ g h))
       where
@@ -131,9 +132,9 @@ module _ (s : List ℕ) where
 
 -- ---- readings
 
-long-readings : (names : List (List ℕ)) (W : ℕ) (r : List ℕ) → 32768 < length r → readings names W r ≡ refused 10 0
+long-readings : (names : List (List ℕ)) (W : ℕ) (r : List ℕ) → mostBytes < length r → readings names W r ≡ refused 10 0
 unfolding readings
-long-readings names W r l = rw (lt-leb (length r) 32768 l)
+long-readings names W r l = rw (lt-leb (length r) mostBytes l)
 
 range-number : {W n p : ℕ} {r : List ℕ} {c : taking.Next} → taking.OutOfRange W r p c n → (n ≡ 13) ⊎ (n ≡ 14)
 range-number (taking.OutOfRange.number taking.Ranged.tick a n b) = inl refl
@@ -162,14 +163,14 @@ module _ {names : List (List ℕ)} {W : ℕ} {r : List ℕ} {p : ℕ} {c : takin
 
 module _ (names : List (List ℕ)) (W : ℕ) (r : List ℕ) where
   -- "Readings over their length": 0.
-  pub refusal-10 : (i : ℕ) → (readings names W r ≡ refused 10 i) ↔ ((32768 < length r) × (i ≡ 0))
-  refusal-10 i = (λ e. go (decLt 32768 (length r)) e, λ h. long-readings names W r (h .0) ∙ ap (refused 10) (sym (h .1)))
+  pub refusal-10 : (i : ℕ) → (readings names W r ≡ refused 10 i) ↔ ((mostBytes < length r) × (i ≡ 0))
+  refusal-10 i = (λ e. go (decLt mostBytes (length r)) e, λ h. long-readings names W r (h .0) ∙ ap (refused 10) (sym (h .1)))
     where
-      go : Dec (32768 < length r) → readings names W r ≡ refused 10 i → (32768 < length r) × (i ≡ 0)
+      go : Dec (mostBytes < length r) → readings names W r ≡ refused 10 i → (mostBytes < length r) × (i ≡ 0)
       go (yes l) e = (l, (let z = sym e ∙ long-readings names W r l in let k : i ≡ 0 = cc in k))
       go (no l) e = let f = readings-refused names W r (omega arith) 10 i .0 e in let k = readings-number (f .holds) in absurd (omega arith)
 
-  module _ (fits : length r ≤ 32768) where
+  module _ (fits : length r ≤ mostBytes) where
     readings-row : (n i : ℕ) (Q : taking.Next → ℕ → Type 0) → ((c : taking.Next) (p : ℕ) → taking.Fault names W r p c n i → Q c p) → ((c : taking.Next) (p : ℕ) → Q c p → taking.Fault names W r p c n i)
         → (readings names W r ≡ refused n i) ↔ taking.First names W r Q
     readings-row n i Q f g = (λ e. map _ Q f (readings-refused names W r fits n i .0 e), λ h. readings-refused names W r fits n i .1 (map Q _ g h))

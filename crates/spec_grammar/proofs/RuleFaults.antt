@@ -5,9 +5,10 @@ use mathlib.Core.Bool.{Bool, true}
 use mathlib.Core.Logic.{_↔_}
 use mathlib.Core.List.{List, [], _∷_, _++_, append-nil, append-assoc}
 use mathlib.Core.Option as option
-use Prim.Native.Nat.{ℕ, _+_, _≤_}
+use Prim.Native.Nat.{ℕ, suc, _+_, _≤_}
 use native.Mathlib.Omega.{arith}
 use lib.ListN.{length}
+use Rattle.spec_limits.specs.Limits.{mostOpen}
 use Rattle.read_bytes.specs.Read.{Read}
 use Rattle.read_bytes.specs.Read.Read.{got, refused}
 use Rattle.read_bytes.specs.Bytes.{byte, bytes}
@@ -87,31 +88,31 @@ begins-walk {d} us w b h =
     (y .0, y .1)
 
 -- A formula with more room.
-roomy : {d : ℕ} {ws : List (List ℕ)} {f : Written} → Is AnyName AnySpan formula d ws f → Is AnyName AnySpan formula (d + 32) ws f
-roomy {d} {ws} {f} h = let e : 32 + d ≡ d + 32 = omega arith in subst (λ x. Is AnyName AnySpan formula x ws f) e (deeper AnyName AnySpan 32 h)
+roomy : {d : ℕ} {ws : List (List ℕ)} {f : Written} → Is AnyName AnySpan formula d ws f → Is AnyName AnySpan formula (d + mostOpen) ws f
+roomy {d} {ws} {f} h = let e : mostOpen + d ≡ d + mostOpen = omega arith in subst (λ x. Is AnyName AnySpan formula x ws f) e (deeper AnyName AnySpan mostOpen h)
 
 module _ (names : List (List ℕ)) (s : List ℕ) (p : ℕ) where
   -- The refusal, with e more to be opened.
-  refusal : (ν : View names) {n κ : ℕ} → rule names s p ≡ refused n κ → (e : ℕ) → Bad s ν e (Place.want (e + 32) (e + 32) fresh []) formula 32 p n κ
+  refusal : (ν : View names) {n κ : ℕ} → rule names s p ≡ refused n κ → (e : ℕ) → Bad s ν e (Place.want (e + mostOpen) (e + mostOpen) fresh []) formula mostOpen p n κ
   refusal ν {n} {κ} h e = go (rule-out s ν e p) h
     where
-      go : {R : Read Written} → Out s ν e (e + 32) (e + 32) fresh [] formula 32 p R → R ≡ refused n κ → Bad s ν e (Place.want (e + 32) (e + 32) fresh []) formula 32 p n κ
+      go : {R : Read Written} → Out s ν e (e + mostOpen) (e + mostOpen) fresh [] formula mostOpen p R → R ≡ refused n κ → Bad s ν e (Place.want (e + mostOpen) (e + mostOpen) fresh []) formula mostOpen p n κ
       go (Out.good g) k = absurd (not-both k)
       go (Out.bad {n = m} {κ = i} b) k =
           let a : m ≡ n = cc in
           let c : i ≡ κ = cc in
-          subst (Bad s ν e (Place.want (e + 32) (e + 32) fresh []) formula 32 p n) c (subst (λ x. Bad s ν e (Place.want (e + 32) (e + 32) fresh []) formula 32 p x i) a b)
+          subst (Bad s ν e (Place.want (e + mostOpen) (e + mostOpen) fresh []) formula mostOpen p n) c (subst (λ x. Bad s ν e (Place.want (e + mostOpen) (e + mostOpen) fresh []) formula mostOpen p x i) a b)
 
   -- A token that leads nowhere begins no formula.
   no-formula : {κ : ℕ} {us : List (List ℕ)} → rule names s p ≡ refused 5 κ → Tokens s κ p us → (w : List ℕ) (d : ℕ) → TokenAt s κ w → Begins d (us ++ (w ∷ [])) → ⊥
   no-formula {κ} {us} h t w d a i =
       let b = refusal (loosely names) h d in
       let e = tokens-one (b .tokens) us (b .stand) t in
-      let m : Begins (d + 32) (us ++ (w ∷ [])) = record { rest = i .rest; says = i .says; is = roomy (i .is) } in
-      let y = begins-walk us w m (subst (λ z. Walks lax (Place.want (d + 32) (d + 32) fresh []) z (b .at)) e (b .walks)) in
+      let m : Begins (d + mostOpen) (us ++ (w ∷ [])) = record { rest = i .rest; says = i .says; is = roomy (i .is) } in
+      let y = begins-walk us w m (subst (λ z. Walks lax (Place.want (d + mostOpen) (d + mostOpen) fresh []) z (b .at)) e (b .walks)) in
       stuck (b .hopes) (y .0) (y .1)
     where
-      stuck : {y : Place} {B : ℕ → List (List ℕ) → Type 0} → Hopes names s lax d y 32 B 5 κ → (z : Place) → step lax y w ≡ option.some z → ⊥
+      stuck : {y : Place} {B : ℕ → List (List ℕ) → Type 0} → Hopes names s lax d y mostOpen B 5 κ → (z : Place) → step lax y w ≡ option.some z → ⊥
       stuck (Hopes.token c k l) z g = k w z a g
 
   no-end : {κ : ℕ} {us : List (List ℕ)} → rule names s p ≡ refused 5 κ → Tokens s κ p us → κ ≡ length s → (d : ℕ) (f : Written) → Is AnyName AnySpan formula d us f → ⊥
@@ -119,9 +120,9 @@ module _ (names : List (List ℕ)) (s : List ℕ) (p : ℕ) where
       let b = refusal (loosely names) h d in
       let e = tokens-one (b .tokens) us (b .stand) t in
       let x = formula-walk (roomy i) in
-      short (b .hopes) (d + 32) (x .0) (walks-same us (subst (λ z. Walks lax (Place.want (d + 32) (d + 32) fresh []) z (b .at)) e (b .walks)) (x .1))
+      short (b .hopes) (d + mostOpen) (x .0) (walks-same us (subst (λ z. Walks lax (Place.want (d + mostOpen) (d + mostOpen) fresh []) z (b .at)) e (b .walks)) (x .1))
     where
-      short : {y : Place} {B : ℕ → List (List ℕ) → Type 0} → Hopes names s lax d y 32 B 5 κ → (c : ℕ) (j : Joins) → y ≡ Place.after c j [] → ⊥
+      short : {y : Place} {B : ℕ → List (List ℕ) → Type 0} → Hopes names s lax d y mostOpen B 5 κ → (c : ℕ) (j : Joins) → y ≡ Place.after c j [] → ⊥
       short (Hopes.token c k m) b j g = m l b j g
 
   begins : {d : ℕ} {us : List (List ℕ)} → Loose formula d us → Begins d us
@@ -130,11 +131,11 @@ module _ (names : List (List ℕ)) (s : List ℕ) (p : ℕ) where
   wrong : {n κ : ℕ} → rule names s p ≡ refused n κ → Wrong names s p n κ
   wrong {n} {κ} h = go (b .hopes) h
     where
-      b : Bad s (loosely names) 0 (Place.want 32 32 fresh []) formula 32 p n κ
+      b : Bad s (loosely names) 0 (Place.want mostOpen mostOpen fresh []) formula mostOpen p n κ
       b = refusal (loosely names) h 0
 
-      go : {n : ℕ} → Hopes names s lax 0 (b .at) 32 (λ c ts. Loose formula c (b .tokens ++ ts)) n κ → rule names s p ≡ refused n κ → Wrong names s p n κ
-      go (Hopes.token c k l) h = Wrong.token (b .stand) (subst (Begins 33) (append-nil (b .tokens)) (begins c)) (no-formula h (b .stand)) (no-end h (b .stand))
+      go : {n : ℕ} → Hopes names s lax 0 (b .at) mostOpen (λ c ts. Loose formula c (b .tokens ++ ts)) n κ → rule names s p ≡ refused n κ → Wrong names s p n κ
+      go (Hopes.token c k l) h = Wrong.token (b .stand) (subst (Begins (suc mostOpen)) (append-nil (b .tokens)) (begins c)) (no-formula h (b .stand)) (no-end h (b .stand))
       go (Hopes.name a m u c) h = Wrong.name (b .stand) a m u (begins c)
       go (Hopes.span t i l c) h = Wrong.span (b .stand) t i l (begins c)
       go (Hopes.deep {o = o} m a c k) h = Wrong.deep (b .stand) m a (begins c) (λ i. let y = begins-walk (b .tokens) (o ∷ []) i (b .walks) in k refl (y .0) (y .1))
@@ -153,7 +154,7 @@ module _ (names : List (List ℕ)) (s : List ℕ) (p : ℕ) where
         next = wrong-starts (b .stand) (wrong h);
       }
     where
-      b : Bad s (strictly names) 0 (Place.want 32 32 fresh []) formula 32 p n κ
+      b : Bad s (strictly names) 0 (Place.want mostOpen mostOpen fresh []) formula mostOpen p n κ
       b = refusal (strictly names) h 0
 
   -- An accepted rule is clean, and nothing is wrong in it.
@@ -163,19 +164,19 @@ module _ (names : List (List ℕ)) (s : List ℕ) (p : ℕ) where
         tokens = h .tokens;
         stand = h .stand;
         begins = whole (deep AnyName AnySpan loose);
-        at = Place.after 32 (Joins.joins (w .0) (w .1)) [];
+        at = Place.after mostOpen (Joins.joins (w .0) (w .1)) [];
         walks = w .2;
-        before = Before.whole (record { rest = []; says = f; is = subst (λ z. Is AnyName AnySpan formula 32 z f) (sym (append-nil (h .tokens))) loose });
+        before = Before.whole (record { rest = []; says = f; is = subst (λ z. Is AnyName AnySpan formula mostOpen z f) (sym (append-nil (h .tokens))) loose });
         next = λ w d a b. (let l = token-inside a in let z : ⊥ = omega arith in absurd z);
       }
     where
-      loose : Is AnyName AnySpan formula 32 (h .tokens) f
+      loose : Is AnyName AnySpan formula mostOpen (h .tokens) f
       loose = loosen (Declared names) Legal (h .is)
 
       whole : {d : ℕ} → Is AnyName AnySpan formula d (h .tokens) f → Begins d (h .tokens)
       whole {d} i = record { rest = []; says = f; is = subst (λ z. Is AnyName AnySpan formula d z f) (sym (append-nil (h .tokens))) i }
 
-      w : (a : Bool) × (c : Bool) × Walks (strict names) (Place.want 32 32 fresh []) (h .tokens) (Place.after 32 (Joins.joins a c) [])
+      w : (a : Bool) × (c : Bool) × Walks (strict names) (Place.want mostOpen mostOpen fresh []) (h .tokens) (Place.after mostOpen (Joins.joins a c) [])
       w = walked (strict names) (Declared names) Legal (declared-passes names) (legal-passes names) (h .is) []
 
   nothing-wrong : {f : Written} {m i : ℕ} → Rule names s p f → Wrong names s p m i → ⊥
@@ -185,7 +186,7 @@ module _ (names : List (List ℕ)) (s : List ℕ) (p : ℕ) where
       no-token l a = let k = token-inside a in omega arith
 
       at-end : (us rest : List (List ℕ)) → us ≡ h .tokens ++ rest → Tokens s i (length s) rest → (i ≡ length s → (d : ℕ) (f : Written) → Is AnyName AnySpan formula d us f → ⊥) → ⊥
-      at-end us [] e t k = k (sym (none-is t)) 32 f (subst (λ z. Is AnyName AnySpan formula 32 z f) (sym (e ∙ append-nil (h .tokens))) (loosen (Declared names) Legal (h .is)))
+      at-end us [] e t k = k (sym (none-is t)) mostOpen f (subst (λ z. Is AnyName AnySpan formula mostOpen z f) (sym (e ∙ append-nil (h .tokens))) (loosen (Declared names) Legal (h .is)))
       at-end us (x ∷ rest) e t k = let l = token-inside (next-is t .0) in omega arith
 
       go : {m : ℕ} → Wrong names s p m i → length s ≤ i → ⊥
@@ -213,13 +214,13 @@ module _ (names : List (List ℕ)) (s : List ℕ) (p : ℕ) where
   pub rule-open : {w : List ℕ} {i n κ : ℕ} {us : List (List ℕ)} → Name w → Declared names w i → rule names s p ≡ refused n κ → Tokens s κ p us → Open names us
   rule-open {n = n} {κ} {us} hn hd h t = subst (Open names) (tokens-one (b .tokens) us (b .stand) t) (opens (b .before))
     where
-      b : Bad s (accepting names hn hd) 0 (Place.want 32 32 fresh []) formula 32 p n κ
+      b : Bad s (accepting names hn hd) 0 (Place.want mostOpen mostOpen fresh []) formula mostOpen p n κ
       b = refusal (accepting names hn hd) h 0
 
-      becomes : {us : List (List ℕ)} → Begin (Declared names) Legal formula 32 us → Becomes names us
+      becomes : {us : List (List ℕ)} → Begin (Declared names) Legal formula mostOpen us → Becomes names us
       becomes h = record { rest = h .rest; says = h .says; is = h .is }
 
-      opens : {us : List (List ℕ)} → Before (Declared names) Legal formula 32 us → Open names us
+      opens : {us : List (List ℕ)} → Before (Declared names) Legal formula mostOpen us → Open names us
       opens (Before.whole h) = Open.whole (becomes h)
       opens (Before.word b h) = Open.word b (becomes h)
       opens (Before.span b h j k) = Open.span b (becomes h) j

@@ -9,6 +9,7 @@ use native.Mathlib.Omega.{arith}
 use native.Mathlib.Decide.{decLt}
 use borrow.Author.Tests.{eq-eqb, ne-eqb, le-leb}
 use lib.ListN.{length}
+use Rattle.spec_limits.specs.Limits.{mostBytes, mostRuleBytes}
 use Rattle.read_bytes.specs.Read.{Read, andThen}
 use Rattle.read_bytes.specs.Read.Read.{got, refused}
 use Rattle.read_bytes.specs.Bytes.{bytes, between}
@@ -50,9 +51,9 @@ module _ (s : List ℕ) where
   unfolding rulesFrom inTurn
   from-end w places ws p = from-rules s (rulesFrom s) w places zero ws p
 
-  from-start : length s ≤ 32768 → sheetOf s ≡ from s Next.window 0
+  from-start : length s ≤ mostBytes → sheetOf s ≡ from s Next.window 0
   unfolding sheetOf sheet.rules rulesFrom
-  from-start l = let e = le-leb (length s) 32768 l in rw e (head-then s (rulesFrom s))
+  from-start l = let e = le-leb (length s) mostBytes l in rw e (head-then s (rulesFrom s))
 
   -- ---- each line's answer
 
@@ -89,13 +90,13 @@ module _ (s : List ℕ) where
   rule-next : (w : ℕ) (places : List ℕ) (m : ℕ) (ws : List Written) (p : ℕ) → NextIs s p (Next.rule w places (suc m) ws)
   rule-next w places m ws p = go (line-is s p (bytes "rule=") 2 in-rule)
     where
-      by : (v : List ℕ) → LineAt s p (bytes "rule=" ++ v) → (b : Bool) → between 1 256 (length v) ≡ b → (R : Read Written) → reading.rule (namesAt s places) v 0 ≡ R → NextIs s p (Next.rule w places (suc m) ws)
+      by : (v : List ℕ) → LineAt s p (bytes "rule=" ++ v) → (b : Bool) → between 1 mostRuleBytes (length v) ≡ b → (R : Read Written) → reading.rule (namesAt s places) v 0 ≡ R → NextIs s p (Next.rule w places (suc m) ws)
       by v a true e (got f q) i = on a (Right.formula e (rule-sound (namesAt s places) v 0 i .0))
       by v a true e (refused n k) i = fault (Fault.formula (BadFormula.formula a e (rule-refused (namesAt s places) v 0 n k .0 i)))
       by v a false e R i = fault (Fault.size (BadLength.outside a e))
 
       go : {R : Read ℕ} → KeyedIs s p (bytes "rule=") 2 R → NextIs s p (Next.rule w places (suc m) ws)
-      go (KeyedIs.keyed v a) = by v a (between 1 256 (length v)) refl (reading.rule (namesAt s places) v 0) refl
+      go (KeyedIs.keyed v a) = by v a (between 1 mostRuleBytes (length v)) refl (reading.rule (namesAt s places) v 0) refl
       go (KeyedIs.unkeyed n) = fault (Fault.unformed (record { more = tt; none = λ v a k. n v a }))
 
   next-is : (c : Next) (p : ℕ) → p ≤ length s → NextIs s p c
@@ -125,7 +126,7 @@ module _ (s : List ℕ) where
 
   -- ---- exactly
 
-  module _ (fits : length s ≤ 32768) where
+  module _ (fits : length s ≤ mostBytes) where
     fault-refused : {n i : ℕ} → SheetFault s n i → sheetOf s ≡ refused n i
     fault-refused f = from-start fits ∙ reached-reads (f .reached) ∙ fault-reads (f .holds)
 

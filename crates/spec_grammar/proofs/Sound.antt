@@ -9,6 +9,7 @@ use Prim.Native.Nat.{ℕ, zero, suc, _+_}
 use borrow.Author.Tests.{eqb-true, ltb-true}
 use lib.Dec.{eqb, ltb}
 use lib.ListN.{length}
+use Rattle.spec_limits.specs.Limits.{mostOpen}
 use Rattle.read_bytes.specs.declared.bytes.Class.{Class}
 use Rattle.read_bytes.specs.declared.bytes.Class.the-variants.{Letter, Digit, Sign, Bracket, Other}
 use Rattle.read_bytes.specs.Read.{Read, andThen}
@@ -289,8 +290,8 @@ module _ (names : List (List ℕ)) (s : List ℕ) where
   pub rule-sound : (p : ℕ) {f : Written} {q : ℕ} → rule names s p ≡ got f q → Rule names s p f × (q ≡ length s)
   unfolding rule reading.plain
   rule-sound p {f} {q} e =
-      let c = came (reading.formula (reading.plain 32 names s) s p) (λ g r. pick (eqb r (length s)) (λ _. got g r) (refused 5 r)) e in
+      let c = came (reading.formula (reading.plain mostOpen names s) s p) (λ g r. pick (eqb r (length s)) (λ _. got g r) (refused 5 r)) e in
       let t = through (eqb (c .place) (length s)) (c .value) (c .place) 5 (c .place) (c .then) in
       let i = eqb-true (c .place) (length s) (t .0) in
-      let a = formula-sound 32 (plainIn (inside 32 names s) names s) (plain-sound (inner-inside 32)) p _ _ (c .first) in
+      let a = formula-sound mostOpen (plainIn (inside mostOpen names s) names s) (plain-sound (inner-inside mostOpen)) p _ _ (c .first) in
       (moved a (let j = t .1 in cc), sym (t .2) ∙ i)

@@ -14,7 +14,7 @@ use Rattle.read_bytes.specs.Bytes.{byte, bytes, peek, pick, oneOf}
 use Rattle.read_bytes.proofs.Tests.{between-is}
 use Rattle.read_interval.specs.declared.Span.{Span}
 use Rattle.read_interval.specs.declared.Span.the-variants.{Over, Refused}
-use Rattle.read_interval.specs.Interval.{leftOut, near, endAt, spanOf, endThen, endAfter, closeAt, commaAt, interval}
+use Rattle.read_interval.specs.Interval.{leftOut, near, endAt, spanOf, endThen, endAfter, closeAt, commaAt, interval, leastEnd, greatestEnd, overOffset}
 use Rattle.spec_grammar.specs.Tokens.{End, TokenAt, Tokens}
 use Rattle.spec_grammar.specs.Grammar.{Interval, Legal}
 use Rattle.spec_grammar.proofs.Standing.{starts-head, token-one, next-is, none-is, one-at}
@@ -30,11 +30,11 @@ module _ (p o v w c q : ℕ) where
   pub legal-span : {first more : ℕ} → Legal o v w c first more → spanOf p o v w c q ≡ Over first more q
   unfolding spanOf
   legal-span {first} {more} l =
-      let i = between-is 9937 10063 w (l .near-last) in
+      let i = between-is leastEnd greatestEnd w (l .near-last) in
       let a = l .first-is in
       let b = l .last-is in
       let t : v + leftOut o (byte "(") ≤ w - leftOut c (byte ")") = omega arith in
-      let x : v + leftOut o (byte "(") - 9936 ≡ first = omega arith in
+      let x : v + leftOut o (byte "(") - overOffset ≡ first = omega arith in
       let y : w - leftOut c (byte ")") - (v + leftOut o (byte "(")) ≡ more = omega arith in
       rw (l .near-first, l .near-last, le-leb (v + leftOut o (byte "(")) (w - leftOut c (byte ")")) t, x, y)
 
@@ -51,11 +51,11 @@ module _ (p o v w c q : ℕ) where
       go true e =
           let a = and-eq-true-iff (near v && near w) (leb (v + leftOut o (byte "(")) (w - leftOut c (byte ")"))) .0 e in
           let b = and-eq-true-iff (near v) (near w) .0 (a .0) in
-          let i = between-is 9937 10063 v (b .0) in
-          let j = between-is 9937 10063 w (b .1) in
+          let i = between-is leastEnd greatestEnd v (b .0) in
+          let j = between-is leastEnd greatestEnd w (b .1) in
           let k = leb-true (v + leftOut o (byte "(")) (w - leftOut c (byte ")")) (a .1) in
           rw e
-          (legal {first = v + leftOut o (byte "(") - 9936} {more = w - leftOut c (byte ")") - (v + leftOut o (byte "("))}
+          (legal {first = v + leftOut o (byte "(") - overOffset} {more = w - leftOut c (byte ")") - (v + leftOut o (byte "("))}
           (record {
             near-first = b .0;
             near-last = b .1;

@@ -19,7 +19,7 @@ use Rattle.spec_tilco.specs.Formula.{Written}
 use Rattle.read_interval.specs.declared.Span.{Span}
 use Rattle.read_interval.specs.declared.Span.the-variants.{Over, Refused}
 use Rattle.read_interval.specs.Interval as reading
-use Rattle.read_interval.specs.Interval.{endAt, endThen, endAfter, closeAt, commaAt, spanOf}
+use Rattle.read_interval.specs.Interval.{endAt, endThen, endAfter, closeAt, commaAt, spanOf, endZero}
 use Rattle.read_parts.specs.Grammar.{Reader, spanThen, times, timedPart}
 use Rattle.spec_grammar.specs.Tokens.{End, Token, TokenAt, Tokens}
 use Rattle.spec_grammar.specs.Grammar.{Part, timeSign, Interval, Is}
@@ -193,7 +193,7 @@ module _ (names : List (List ℕ)) (s : List ℕ) (τ : Tests) (e d p b : ℕ) (
           next hm (EndAt.some ay ky) = close-out hm ay ky
           next hm (EndAt.missing n) =
               cut (Upto.comma (peek s p) v) (u + 1) (two ++ (bytes "," ∷ [])) (tokens-then two stand (one-at (lone-token s u refl hm) refl)) (walks-then walks (walks-one (step-comma τ b j st (peek s p) v)))
-              (record { rest = bytes "0" ∷ bytes "]" ∷ []; opens = peek s p; low = v; high = 10000; closes = byte "]"; is = Interval.interval ho kx End.nought refl })
+              (record { rest = bytes "0" ∷ bytes "]" ∷ []; opens = peek s p; low = v; high = endZero; closes = byte "]"; is = Interval.interval ho kx End.nought refl })
               (λ w z a k. stuck-last τ b j st w z (peek s p) v (no-end n a) k)
 
           go : (c : Bool) → eqb (peek s u) (byte ",") ≡ c → Here (pick (eqb (peek s u) (byte ",")) (λ _. endThen (endAt s (u + 1)) (u + 1) (closeAt s p (peek s p) v)) (Refused 5 u))
@@ -201,7 +201,7 @@ module _ (names : List (List ℕ)) (s : List ℕ) (τ : Tests) (e d p b : ℕ) (
           go false hm =
               rw hm
               (cut (Upto.low (peek s p) v) u two stand walks
-              (record { rest = bytes "," ∷ bytes "0" ∷ bytes "]" ∷ []; opens = peek s p; low = v; high = 10000; closes = byte "]"; is = Interval.interval ho kx End.nought refl })
+              (record { rest = bytes "," ∷ bytes "0" ∷ bytes "]" ∷ []; opens = peek s p; low = v; high = endZero; closes = byte "]"; is = Interval.interval ho kx End.nought refl })
               (λ w z a k. stuck-comma τ b j st w z (peek s p) v (ap (λ q. eqb q (byte ",")) (token-first a) ∙ hm) k))
 
   interval-out : Here (reading.interval s p)
@@ -212,7 +212,7 @@ module _ (names : List (List ℕ)) (s : List ℕ) (τ : Tests) (e d p b : ℕ) (
       next ho (EndAt.some ax kx) = comma-out ho ax kx
       next ho (EndAt.missing n) =
           cut (Upto.bracket (peek s p)) (p + 1) ((peek s p ∷ []) ∷ []) (one-at (open-token ho) refl) (walks-one (step-opens τ b j st (peek s p) ho))
-          (record { rest = bytes "0" ∷ bytes "," ∷ bytes "0" ∷ bytes "]" ∷ []; opens = peek s p; low = 10000; high = 10000; closes = byte "]"; is = Interval.interval ho End.nought End.nought refl })
+          (record { rest = bytes "0" ∷ bytes "," ∷ bytes "0" ∷ bytes "]" ∷ []; opens = peek s p; low = endZero; high = endZero; closes = byte "]"; is = Interval.interval ho End.nought End.nought refl })
           (λ w z a k. stuck-first τ b j st w z (peek s p) (no-end n a) k)
 
       go : (c : Bool) → oneOf (peek s p) (bytes "[(") ≡ c → Here (pick (oneOf (peek s p) (bytes "[(")) (λ _. endThen (endAt s (p + 1)) (p + 1) (commaAt s p (peek s p))) (Refused 5 p))
@@ -220,7 +220,7 @@ module _ (names : List (List ℕ)) (s : List ℕ) (τ : Tests) (e d p b : ℕ) (
       go false ho =
           rw ho
           (cut Upto.start p [] Tokens.none Walks.stop
-          (record { rest = bytes "[" ∷ bytes "0" ∷ bytes "," ∷ bytes "0" ∷ bytes "]" ∷ []; opens = byte "["; low = 10000; high = 10000; closes = byte "]"; is = Interval.interval refl End.nought End.nought refl })
+          (record { rest = bytes "[" ∷ bytes "0" ∷ bytes "," ∷ bytes "0" ∷ bytes "]" ∷ []; opens = byte "["; low = endZero; high = endZero; closes = byte "]"; is = Interval.interval refl End.nought End.nought refl })
           (λ w z a k. stuck-open τ b j st w z (ap (λ q. oneOf q (bytes "[(")) (token-first a) ∙ ho) k))
 
 -- ---- timed parts

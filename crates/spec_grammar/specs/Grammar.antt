@@ -5,10 +5,11 @@ use mathlib.Core.Bool.{Bool, true}
 use mathlib.Core.List.{List, [], _∷_, _++_}
 use Prim.Native.Nat.{ℕ, suc, _+_, _<_}
 use lib.ListN.{length}
+use Rattle.spec_limits.specs.Limits.{mostOpen}
 use Rattle.read_bytes.specs.Bytes.{byte, bytes, pick, oneOf}
 use Rattle.read_names.specs.Words.{findName}
 use Rattle.spec_tilco.specs.Formula.{Op, And, Or, Implies, Iff, Written}
-use Rattle.read_interval.specs.Interval.{leftOut, near}
+use Rattle.read_interval.specs.Interval.{leftOut, near, overOffset}
 use Rattle.read_parts.specs.Grammar.{signText, repeats}
 use Rattle.spec_grammar.specs.Tokens.{Word, End, Tokens}
 
@@ -74,8 +75,8 @@ pub record Declared (names : List (List ℕ)) (w : List ℕ) (i : ℕ) : Type 0 
 pub record Legal (o v w c first more : ℕ) : Type 0 where
   pub near-first : near v ≡ true
   pub near-last : near w ≡ true
-  pub first-is : first + 9936 ≡ v + leftOut o (byte "(")
-  pub last-is : first + more + 9936 + leftOut c (byte ")") ≡ w
+  pub first-is : first + overOffset ≡ v + leftOut o (byte "(")
+  pub last-is : first + more + overOffset + leftOut c (byte ")") ≡ w
 
 -- The tokens of s from p to q are a part of the kind k that says f, with declared names and legal intervals, and at most d open at one place.
 pub record Stands (names : List (List ℕ)) (s : List ℕ) (k : Part) (d p q : ℕ) (f : Written) : Type 0 where
@@ -85,4 +86,4 @@ pub record Stands (names : List (List ℕ)) (s : List ℕ) (k : Part) (d p q : �
 
 -- The text from p to its end is a rule that says f: "at most 32 of `(` and `!` may be open at one place".
 abbrev pub Rule : List (List ℕ) → List ℕ → ℕ → Written → Type 0
-Rule names s p f = Stands names s formula 32 p (length s) f
+Rule names s p f = Stands names s formula mostOpen p (length s) f

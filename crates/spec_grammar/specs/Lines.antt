@@ -5,6 +5,7 @@ use mathlib.Core.Bool.{true}
 use mathlib.Core.List.{List, _∷_}
 use Prim.Native.Nat.{ℕ, _+_, _≤_, _<_}
 use lib.ListN.{length}
+use Rattle.spec_limits.specs.Limits.{mostNameBytes}
 use Rattle.read_bytes.specs.Bytes.{byte, bytes, peek, digit, starts, InLine}
 use Rattle.read_interval.specs.Interval.{leading}
 use Rattle.spec_grammar.specs.Tokens.{Each, decimal}
@@ -29,4 +30,4 @@ pub data Number : List ℕ → ℕ → Type 0 where
 -- "A name is a lower-case letter and then lower-case letters or digits, 1 to 16 in all."
 pub record SignalName (w : List ℕ) : Type 0 where
   pub name : Name w
-  pub short : length w ≤ 16
+  pub short : length w ≤ mostNameBytes

@@ -3,8 +3,9 @@
 use mathlib.Core.Path.{_≡_}
 use mathlib.Core.Bool.{Bool, true}
 use mathlib.Core.List.{List, [], _∷_, _++_}
-use Prim.Native.Nat.{ℕ, _≤_}
+use Prim.Native.Nat.{ℕ, suc, _≤_}
 use lib.ListN.{length}
+use Rattle.spec_limits.specs.Limits.{mostOpen}
 use Rattle.read_bytes.specs.Bytes.{bytes, oneOf}
 use Rattle.spec_tilco.specs.Formula.{Written}
 use Rattle.spec_grammar.specs.Tokens.{TokenAt, Tokens}
@@ -27,16 +28,16 @@ pub record Begins (d : ℕ) (us : List (List ℕ)) : Type 0 where
 pub data Wrong (names : List (List ℕ)) (s : List ℕ) (p : ℕ) : ℕ → ℕ → Type 0 where
   -- 5: "formula does not fit": a formula begins with the tokens before, and none goes on with the token at κ, or ends there where the rule does.
   -- With 33, since the word since or until may stand where 32 are open
-  token : {κ : ℕ} {us : List (List ℕ)} → Tokens s κ p us → Begins 33 us → ((w : List ℕ) (d : ℕ) → TokenAt s κ w → Begins d (us ++ (w ∷ [])) → ⊥)
+  token : {κ : ℕ} {us : List (List ℕ)} → Tokens s κ p us → Begins (suc mostOpen) us → ((w : List ℕ) (d : ℕ) → TokenAt s κ w → Begins d (us ++ (w ∷ [])) → ⊥)
       → (κ ≡ length s → (d : ℕ) (f : Written) → Is AnyName AnySpan formula d us f → ⊥) → Wrong names s p 5 κ
   -- 6: "name not declared", where a name may stand
-  name : {κ : ℕ} {w : List ℕ} {us : List (List ℕ)} → Tokens s κ p us → TokenAt s κ w → Name w → ((i : ℕ) → Declared names w i → ⊥) → Begins 32 (us ++ (w ∷ [])) → Wrong names s p 6 κ
+  name : {κ : ℕ} {w : List ℕ} {us : List (List ℕ)} → Tokens s κ p us → TokenAt s κ w → Name w → ((i : ℕ) → Declared names w i → ⊥) → Begins mostOpen (us ++ (w ∷ [])) → Wrong names s p 6 κ
   -- 7: "a whole interval has an end outside -63 to 63, or no whole number inside", where an interval may stand
-  span : {κ q o v w c : ℕ} {us ws : List (List ℕ)} → Tokens s κ p us → Tokens s q κ ws → Interval ws o v w c → ((first more : ℕ) → Legal o v w c first more → ⊥) → Begins 32 (us ++ ws)
+  span : {κ q o v w c : ℕ} {us ws : List (List ℕ)} → Tokens s κ p us → Tokens s q κ ws → Interval ws o v w c → ((first more : ℕ) → Legal o v w c first more → ⊥) → Begins mostOpen (us ++ ws)
       → Wrong names s p 7 κ
   -- 8: "a 33rd `(` or `!` is open": with 33 a formula goes on with it, and with 32 none. "At one byte 5 comes before 8": where it goes on in no way
   -- it is 5
-  deep : {κ o : ℕ} {us : List (List ℕ)} → Tokens s κ p us → oneOf o (bytes "(!") ≡ true → TokenAt s κ (o ∷ []) → Begins 33 (us ++ ((o ∷ []) ∷ [])) → (Begins 32 (us ++ ((o ∷ []) ∷ [])) → ⊥)
+  deep : {κ o : ℕ} {us : List (List ℕ)} → Tokens s κ p us → oneOf o (bytes "(!") ≡ true → TokenAt s κ (o ∷ []) → Begins (suc mostOpen) (us ++ ((o ∷ []) ∷ [])) → (Begins mostOpen (us ++ ((o ∷ []) ∷ [])) → ⊥)
       → Wrong names s p 8 κ
 
 -- "A formula from left to right": the first place where something is wrong.
@@ -48,7 +49,7 @@ pub record RuleFault (names : List (List ℕ)) (s : List ℕ) (p n κ : ℕ) : T
 pub record Becomes (names : List (List ℕ)) (us : List (List ℕ)) : Type 0 where
   pub rest : List (List ℕ)
   pub says : Written
-  pub is : Is (Declared names) Legal formula 32 (us ++ rest) says
+  pub is : Is (Declared names) Legal formula mostOpen (us ++ rest) says
 
 -- An interval begins with the tokens us.
 pub record SpanBegins (us : List (List ℕ)) : Type 0 where

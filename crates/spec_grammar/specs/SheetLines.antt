@@ -5,6 +5,7 @@ use mathlib.Core.Bool.{true, false}
 use mathlib.Core.List.{List, [], _∷_, _++_, List·Memᴰ}
 use Prim.Native.Nat.{ℕ, zero, suc, _+_, _<_}
 use lib.ListN.{length}
+use Rattle.spec_limits.specs.Limits.{mostRuleBytes, mostRules, mostSignals, mostTicks}
 use Rattle.read_bytes.specs.Bytes.{bytes, between}
 use Rattle.read_names.specs.Words.{namesAt}
 use Rattle.spec_tilco.specs.Formula.{Written}
@@ -30,9 +31,9 @@ key (rule w places m ws) = bytes "rule="
 
 -- "Window 1 to 64 ticks, signals 1 to 64, rules 0 to 64": the least and the greatest number, and what comes after one.
 pub data Ranged : Next → ℕ → ℕ → (ℕ → Next) → Type 0 where
-  ticks : Ranged window 1 64 signals
-  signal-count : {w : ℕ} → Ranged (signals w) 1 64 (λ n. signal w n [])
-  rule-count : {w : ℕ} {places : List ℕ} → Ranged (signal w zero places) 0 64 (λ m. rule w places m [])
+  ticks : Ranged window 1 mostTicks signals
+  signal-count : {w : ℕ} → Ranged (signals w) 1 mostSignals (λ n. signal w n [])
+  rule-count : {w : ℕ} {places : List ℕ} → Ranged (signal w zero places) 0 mostRules (λ m. rule w places m [])
 
 -- "A number that breaks its writing rule is form; a name's or formula's writing is content."
 pub data Formed : Next → List ℕ → Type 0 where
@@ -53,7 +54,7 @@ pub data Right (s : List ℕ) (p : ℕ) : Next → List ℕ → Next → Type 0 
   number : {c : Next} {lo hi x : ℕ} {k : ℕ → Next} {v : List ℕ} → Ranged c lo hi k → Number v x → between lo hi x ≡ true → Right s p c v (k x)
   name : {w n : ℕ} {places v : List ℕ} → SignalName v → (List·Memᴰ v (namesAt s places) → ⊥)
       → Right s p (signal w (suc n) places) v (signal w n (places ++ ((p + length (bytes "signal=")) ∷ [])))
-  formula : {w m : ℕ} {places v : List ℕ} {ws : List Written} {f : Written} → between 1 256 (length v) ≡ true → Rule (namesAt s places) v 0 f
+  formula : {w m : ℕ} {places v : List ℕ} {ws : List Written} {f : Written} → between 1 mostRuleBytes (length v) ≡ true → Rule (namesAt s places) v 0 f
       → Right s p (rule w places (suc m) ws) v (rule w places m (ws ++ (f ∷ [])))
 
 -- The lines before p are right, and c comes next.
@@ -86,11 +87,11 @@ pub data BadName (s : List ℕ) (p : ℕ) : Next → Type 0 where
 
 -- "Rule length outside 1 to 256."
 pub data BadLength (s : List ℕ) (p : ℕ) : Next → Type 0 where
-  outside : {w m : ℕ} {places v : List ℕ} {ws : List Written} → LineAt s p (bytes "rule=" ++ v) → between 1 256 (length v) ≡ false → BadLength s p (rule w places (suc m) ws)
+  outside : {w m : ℕ} {places v : List ℕ} {ws : List Written} → LineAt s p (bytes "rule=" ++ v) → between 1 mostRuleBytes (length v) ≡ false → BadLength s p (rule w places (suc m) ws)
 
 -- A rule's formula is at fault, with the refusal's number and place.
 pub data BadFormula (s : List ℕ) (p : ℕ) : Next → ℕ → ℕ → Type 0 where
-  formula : {w m n k : ℕ} {places v : List ℕ} {ws : List Written} → LineAt s p (bytes "rule=" ++ v) → between 1 256 (length v) ≡ true → RuleFault (namesAt s places) v 0 n k
+  formula : {w m n k : ℕ} {places v : List ℕ} {ws : List Written} → LineAt s p (bytes "rule=" ++ v) → between 1 mostRuleBytes (length v) ≡ true → RuleFault (namesAt s places) v 0 n k
       → BadFormula s p (rule w places (suc m) ws) n (p + length (bytes "rule=") + k)
 
 -- What comes next at p is at fault, with the refusal's number and place. A line's form is before its content, and a rule's length before its formula.

@@ -8,7 +8,7 @@ use Prim.Native.Nat.{ℕ, _+_, _-_, _*_, _≤_}
 use lib.ListN.{length}
 use Rattle.read_bytes.specs.Bytes.{byte, bytes, letter, digit, nameByte, starts}
 use Rattle.spec_tilco.specs.Lists.{All}
-use Rattle.read_interval.specs.Interval.{leading}
+use Rattle.read_interval.specs.Interval.{leading, endZero}
 
 -- Every byte passes the test.
 abbrev pub Each : (ℕ → Bool) → List ℕ → Type 0
@@ -29,9 +29,9 @@ pub data Numeral : List ℕ → ℕ → Type 0 where
 
 -- "An end is `0`, or an optional `-` and one to four digits, the first not 0": its number with 10,000 added.
 pub data End : List ℕ → ℕ → Type 0 where
-  nought : End (bytes "0") 10000
-  plus : {w : List ℕ} {v : ℕ} → Numeral w v → End w (10000 + v)
-  minus : {w : List ℕ} {v : ℕ} → Numeral w v → End (byte "-" ∷ w) (10000 - v)
+  nought : End (bytes "0") endZero
+  plus : {w : List ℕ} {v : ℕ} → Numeral w v → End w (endZero + v)
+  minus : {w : List ℕ} {v : ℕ} → Numeral w v → End (byte "-" ∷ w) (endZero - v)
 
 -- "=>, <=> and the other signs one by one."
 abbrev pub signs : List (List ℕ)

@@ -2,6 +2,7 @@
 use borrow.Author.Needs.{needs}
 use native.Mathlib.Omega.{arith}
 use mathlib.Core.Path.{sym, _∙_}
+use Rattle.read_interval.specs.Interval.{leastEnd, greatestEnd}
 use Rattle.read_bytes.proofs.Tests.{between-is}
 use Rattle.read_interval.proofs.Spans.{left-out-most, span-in, span-empty, span-far}
 use Rattle.read_interval.proofs.span_of.Statement.{statement}
@@ -17,16 +18,16 @@ left-out-requires : tie.Need-left-out-requires
 left-out-requires c κs = search needs
 
 add-lo : tie.Need-add-lo
-add-lo c = omega (arith, c .left-out .ensures, left-out-most (c .before .before .before .before .before .args .o) 40, between-is 9937 10063 (c .before .before .before .before .before .args .v) (sym (c .before .before .before .before .near .ensures) ∙ c .before .before .before .if1 .taken) .1)
+add-lo c = omega (arith, c .left-out .ensures, left-out-most (c .before .before .before .before .before .args .o) 40, between-is leastEnd greatestEnd (c .before .before .before .before .before .args .v) (sym (c .before .before .before .before .near .ensures) ∙ c .before .before .before .if1 .taken) .1)
 
 left-out-requires-2 : tie.Need-left-out-requires-2
 left-out-requires-2 c κs = search needs
 
 sub-hi : tie.Need-sub-hi
-sub-hi c = omega (arith, c .left-out2 .ensures, left-out-most (c .before .before .before .before .before .before .args .c) 41, between-is 9937 10063 (c .before .before .before .before .before .before .args .w) (sym (c .before .before .before .near2 .ensures) ∙ c .before .before .if2 .taken) .0)
+sub-hi c = omega (arith, c .left-out2 .ensures, left-out-most (c .before .before .before .before .before .before .args .c) 41, between-is leastEnd greatestEnd (c .before .before .before .before .before .before .args .w) (sym (c .before .before .before .near2 .ensures) ∙ c .before .before .if2 .taken) .0)
 
 sub-t13 : tie.Need-sub-t13
-sub-t13 c = omega (arith, between-is 9937 10063 (c .before .before .before .before .before .before .before .args .v) (sym (c .before .before .before .before .before .before .near .ensures) ∙ c .before .before .before .before .before .if1 .taken) .0)
+sub-t13 c = omega (arith, between-is leastEnd greatestEnd (c .before .before .before .before .before .before .before .args .v) (sym (c .before .before .before .before .before .before .near .ensures) ∙ c .before .before .before .before .before .if1 .taken) .0)
 
 returns : tie.Need-returns
 returns c = span-in _ _ _ _ _ _ (c .before .before .left-out .ensures) (c .before .left-out2 .ensures) (sym (c .before .before .before .before .before .before .near .ensures) ∙ c .before .before .before .before .before .if1 .taken) (sym (c .before .before .before .before .near2 .ensures) ∙ c .before .before .before .if2 .taken) (c .if3 .taken)
