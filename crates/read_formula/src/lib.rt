@@ -16,17 +16,11 @@ use read_parts::parts::repeats;
 use read_parts::parts::sign_at;
 use read_parts::parts::sign_len;
 use read_parts::parts::times_at;
-ghost use mathlib.Core.Path.{_≡_};
-ghost use Prim.Native.Nat.{ℕ, suc, _+_, _-_, _<_, _≤_};
-ghost use lib.ListN.{length};
-ghost use Rattle.read_bytes.specs.Bytes.{peek, classOf};
-ghost use Rattle.read_names.specs.Words.{namesAt};
-ghost use Rattle.read_bytes.specs.declared.bytes.Class.the-variants.{Letter};
-ghost use Rattle.spec_tilco.specs.Formula.{Written, hiddens};
+ghost use Prim.Native.Nat.{_-_};
 ghost use Rattle.read_arena.specs.Nodes.{opOf};
-ghost use Rattle.read_arena.specs.Readings.{Held};
-ghost use Rattle.read_parts.specs.Grammar.{timedPart, more as moreOf, level, below, formula, negated, inParens, second as secondOf, kept, worded, inside, plain};
-ghost use Rattle.read_parts.specs.Parsed.{Ready, Parses};
+ghost use Rattle.read_parts.specs.Parsed.{Ready};
+ghost use Rattle.read_parts.specs.Promise.{AtByte, AtLetter, AfterPart, AfterKeyword, AfterFirst};
+ghost use Rattle.read_parts.specs.Promise.{plainAt, timedAt, belowAt, levelAt, moreAt, negatedAt, parensAt, wordedAt, keptAt, secondAt, Reads, ReadsOn, ReadsSecond};
 
 // A plain part and its intervals.
 fn timed(
@@ -39,7 +33,7 @@ fn timed(
     depth: usize,
 ) -> Parsed
     requires { ⌜ Ready (now s) (now arena) (now names) at used hidden ⌝ }
-    ensures { λ r. ⌜ Parses (now (arena .entry)) (now (arena .exit)) (length (now (s .entry))) 1 at used hidden hidden (timedPart (plain depth (namesAt (now (s .entry)) (now (names .entry))) (now (s .entry))) (now (s .entry)) at) r ⌝ }
+    ensures { λ r. ⌜ Reads (timedAt s names depth at) s arena at used hidden r ⌝ }
 {
     let r = plain_part(s, names, arena, at, used, hidden, depth);
     let Parsed::Got(next, count, rows) = r else {
@@ -60,7 +54,7 @@ fn below_part(
     depth: usize,
 ) -> Parsed
     requires { ⌜ Ready (now s) (now arena) (now names) at used hidden ⌝ }
-    ensures { λ r. ⌜ Parses (now (arena .entry)) (now (arena .exit)) (length (now (s .entry))) 1 at used hidden hidden (below (opOf sign) (plain depth (namesAt (now (s .entry)) (now (names .entry))) (now (s .entry))) (now (s .entry)) at) r ⌝ }
+    ensures { λ r. ⌜ Reads (belowAt s names depth (opOf sign) at) s arena at used hidden r ⌝ }
 {
     match sign {
         Sign::And => timed(s, names, arena, at, used, hidden, depth),
@@ -82,7 +76,7 @@ pub fn joined(
     depth: usize,
 ) -> Parsed
     requires { ⌜ Ready (now s) (now arena) (now names) at used hidden ⌝ }
-    ensures { λ r. ⌜ Parses (now (arena .entry)) (now (arena .exit)) (length (now (s .entry))) 1 at used hidden hidden (level (opOf sign) (below (opOf sign) (plain depth (namesAt (now (s .entry)) (now (names .entry))) (now (s .entry))) (now (s .entry))) (now (s .entry)) at) r ⌝ }
+    ensures { λ r. ⌜ Reads (levelAt s names depth (opOf sign) at) s arena at used hidden r ⌝ }
 {
     let r = below_part(sign, s, names, arena, at, used, hidden, depth);
     let Parsed::Got(next, count, rows) = r else {
@@ -102,8 +96,8 @@ fn more(
     hidden: usize,
     depth: usize,
 ) -> Parsed
-    requires { ⌜ Ready (now s) (now arena) (now names) at used hidden × (0 < used) ⌝ }
-    ensures { λ r. ⌜ ((n x : ℕ) (f : Written) → length (now (s .entry)) ≤ at + n → Held (now (arena .entry)) x (used - 1) f → hidden ≡ x + hiddens f → Parses (now (arena .entry)) (now (arena .exit)) (length (now (s .entry))) 0 at used hidden x (moreOf (opOf sign) (below (opOf sign) (plain depth (namesAt (now (s .entry)) (now (names .entry))) (now (s .entry))) (now (s .entry))) (now (s .entry)) n f at) r) ⌝ }
+    requires { ⌜ AfterPart (now s) (now arena) (now names) at used hidden ⌝ }
+    ensures { λ r. ⌜ ReadsOn (moreAt s names depth (opOf sign) at) s arena at used hidden r ⌝ }
 {
     if !sign_at(s, at, sign) {
         return Parsed::Got(at, used, hidden);
@@ -135,7 +129,7 @@ fn plain_part(
     depth: usize,
 ) -> Parsed
     requires { ⌜ Ready (now s) (now arena) (now names) at used hidden ⌝ }
-    ensures { λ r. ⌜ Parses (now (arena .entry)) (now (arena .exit)) (length (now (s .entry))) 1 at used hidden hidden (plain depth (namesAt (now (s .entry)) (now (names .entry))) (now (s .entry)) at) r ⌝ }
+    ensures { λ r. ⌜ Reads (plainAt s names depth at) s arena at used hidden r ⌝ }
 {
     let b = byte_at(s, at);
     let k = class_of(b);
@@ -170,8 +164,8 @@ fn deny(
     hidden: usize,
     depth: usize,
 ) -> Parsed
-    requires { ⌜ Ready (now s) (now arena) (now names) at used hidden × (at < length (now s)) ⌝ }
-    ensures { λ r. ⌜ Parses (now (arena .entry)) (now (arena .exit)) (length (now (s .entry))) 1 at used hidden hidden (negated (inside depth (namesAt (now (s .entry)) (now (names .entry))) (now (s .entry))) at) r ⌝ }
+    requires { ⌜ AtByte (now s) (now arena) (now names) at used hidden ⌝ }
+    ensures { λ r. ⌜ Reads (negatedAt s names depth at) s arena at used hidden r ⌝ }
 {
     if depth == 0 {
         return Parsed::Refused(8, at);
@@ -197,8 +191,8 @@ fn paren(
     hidden: usize,
     depth: usize,
 ) -> Parsed
-    requires { ⌜ Ready (now s) (now arena) (now names) at used hidden × (at < length (now s)) ⌝ }
-    ensures { λ r. ⌜ Parses (now (arena .entry)) (now (arena .exit)) (length (now (s .entry))) 1 at used hidden hidden (inParens (inside depth (namesAt (now (s .entry)) (now (names .entry))) (now (s .entry))) (now (s .entry)) at) r ⌝ }
+    requires { ⌜ AtByte (now s) (now arena) (now names) at used hidden ⌝ }
+    ensures { λ r. ⌜ Reads (parensAt s names depth at) s arena at used hidden r ⌝ }
 {
     if depth == 0 {
         return Parsed::Refused(8, at);
@@ -226,8 +220,8 @@ fn word(
     hidden: usize,
     depth: usize,
 ) -> Parsed
-    requires { ⌜ Ready (now s) (now arena) (now names) at used hidden × (classOf (peek (now s) at) ≡ Letter) ⌝ }
-    ensures { λ r. ⌜ Parses (now (arena .entry)) (now (arena .exit)) (length (now (s .entry))) 1 at used hidden hidden (worded (inside depth (namesAt (now (s .entry)) (now (names .entry))) (now (s .entry))) (namesAt (now (s .entry)) (now (names .entry))) (now (s .entry)) at) r ⌝ }
+    requires { ⌜ AtLetter (now s) (now arena) (now names) at used hidden ⌝ }
+    ensures { λ r. ⌜ Reads (wordedAt s names depth at) s arena at used hidden r ⌝ }
 {
     if is_since(s, at) {
         let next = at + 5;
@@ -253,8 +247,8 @@ fn keep(
     depth: usize,
     since: bool,
 ) -> Parsed
-    requires { ⌜ Ready (now s) (now arena) (now names) (at - 5) used hidden × (5 ≤ at) × (at ≤ length (now s)) ⌝ }
-    ensures { λ r. ⌜ Parses (now (arena .entry)) (now (arena .exit)) (length (now (s .entry))) 1 (at - 5) used hidden hidden (kept (inside depth (namesAt (now (s .entry)) (now (names .entry))) (now (s .entry))) since (now (s .entry)) at) r ⌝ }
+    requires { ⌜ AfterKeyword (now s) (now arena) (now names) at used hidden ⌝ }
+    ensures { λ r. ⌜ Reads (keptAt s names depth since at) s arena (at - 5) used hidden r ⌝ }
 {
     let b = byte_at(s, at);
     if b != b'(' {
@@ -284,8 +278,8 @@ fn second(
     since: bool,
     row: usize,
 ) -> Parsed
-    requires { ⌜ Ready (now s) (now arena) (now names) (at - 4) used hidden × (0 < used) × (row < hidden) × (4 ≤ at) × (at ≤ length (now s)) ⌝ }
-    ensures { λ r. ⌜ ((f : Written) → Held (now (arena .entry)) (suc row) (used - 1) f → hidden ≡ suc row + hiddens f → Parses (now (arena .entry)) (now (arena .exit)) (length (now (s .entry))) 0 (at - 4) used hidden row (secondOf since (formula (plain depth (namesAt (now (s .entry)) (now (names .entry))) (now (s .entry))) (now (s .entry))) (now (s .entry)) f at) r) ⌝ }
+    requires { ⌜ AfterFirst (now s) (now arena) (now names) at used hidden row ⌝ }
+    ensures { λ r. ⌜ ReadsSecond (secondAt s names depth since at) s arena (at - 4) used hidden row r ⌝ }
 {
     let b = byte_at(s, at);
     if b != b',' {

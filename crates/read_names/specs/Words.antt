@@ -1,6 +1,7 @@
 -- Words, and names among them (01, "The sheet").
 -- Assumes nothing.
-use Prim.Native.Nat.{ℕ, suc, _+_}
+use mathlib.Core.Path.{_≡_}
+use Prim.Native.Nat.{ℕ, suc, _+_, _-_, _<_, _≤_}
 use mathlib.Core.List.{List, [], _∷_}
 use mathlib.Core.Bool.{Bool, true, false, not, _&&_}
 use lib.ListN.{length}
@@ -49,3 +50,10 @@ nameAt s p =
     pick
     (letter (peek s p) && leb (length (wordAt s p)) mostNameBytes && not (isWord s p (bytes "since")) && not (isWord s p (bytes "until")))
     (λ _. Name (wordEnd s p)) Other
+
+-- The word at p of r ends at e: it is not empty, and the text s has as many bytes.
+pub record Searched (s r : List ℕ) (p e : ℕ) : Type 0 where
+  pub some : p < e
+  pub ends : e ≡ wordEnd r p
+  pub inside : e ≤ length r
+  pub fits : e - p ≤ length s

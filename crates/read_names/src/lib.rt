@@ -6,10 +6,11 @@ use read_bytes::bytes::starts_at;
 use spec_limits::NAME_BYTES;
 ghost use mathlib.Core.Path.{_≡_};
 ghost use mathlib.Core.Bool.{not};
-ghost use Prim.Native.Nat.{_+_, _-_, _<_, _≤_};
+ghost use Prim.Native.Nat.{_+_, _≤_};
 ghost use lib.ListN.{length};
 ghost use Rattle.read_bytes.specs.Bytes.{bytes, peek, nameByte};
-ghost use Rattle.read_names.specs.Words.{wordAt, wordEnd, namesAt, sameText, findName, isWord, nameAt};
+ghost use Rattle.read_names.specs.Words.{wordAt, wordEnd, sameText, findName, isWord, nameAt, Searched};
+ghost use Rattle.read_names.specs.Slices.{before, namesOf};
 
 // The place after a name, or no name.
 pub enum Word {
@@ -107,7 +108,7 @@ pub fn same_word(s: &[u8], a: usize, r: &[u8], b: usize) -> bool
 // What `find_name` finds, by comparing whole words.
 fn find_plain(s: &[u8], names: &[u64], r: &[u8], at: usize) -> usize
     requires { ⌜ at ≤ length (now r) ⌝ }
-    ensures { λ v. ⌜ v ≡ findName (wordAt (now (r .entry)) at) (namesAt (now (s .entry)) (now (names .entry))) ⌝ }
+    ensures { λ v. ⌜ v ≡ findName (wordAt (before r) at) (namesOf s names) ⌝ }
 {
     let mut i = 0;
     while i < names.len() {
@@ -122,8 +123,8 @@ fn find_plain(s: &[u8], names: &[u64], r: &[u8], at: usize) -> usize
 
 // The same for a word up to `e` that is not empty and not longer than `s`. The last byte mostly decides: that of such a word at `a` is `lasts[a]`.
 fn find_quick(s: &[u8], names: &[u64], r: &[u8], at: usize, e: usize) -> usize
-    requires { ⌜ (at < e) × (e ≡ wordEnd (now r) at) × (e ≤ length (now r)) × (e - at ≤ length (now s)) ⌝ }
-    ensures { λ v. ⌜ v ≡ findName (wordAt (now (r .entry)) at) (namesAt (now (s .entry)) (now (names .entry))) ⌝ }
+    requires { ⌜ Searched (now s) (now r) at e ⌝ }
+    ensures { λ v. ⌜ v ≡ findName (wordAt (before r) at) (namesOf s names) ⌝ }
 {
     let w = &r[at..e];
     let before = w.len() - 1;
@@ -147,7 +148,7 @@ fn find_quick(s: &[u8], names: &[u64], r: &[u8], at: usize, e: usize) -> usize
 // The number of the first of the names that is the word at `at` of `r`, or how many names there are. The names stand at places of `s`.
 pub fn find_name(s: &[u8], names: &[u64], r: &[u8], at: usize) -> usize
     requires { ⌜ at ≤ length (now r) ⌝ }
-    ensures { λ v. ⌜ v ≡ findName (wordAt (now (r .entry)) at) (namesAt (now (s .entry)) (now (names .entry))) ⌝ }
+    ensures { λ v. ⌜ v ≡ findName (wordAt (before r) at) (namesOf s names) ⌝ }
 {
     let e = word_end(r, at);
     let n = e - at;

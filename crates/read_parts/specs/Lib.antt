@@ -1,3 +1,4 @@
 -- The definitions, lowest layer first.
 pub mod Grammar
 pub mod Parsed
+pub mod Promise

@@ -12,16 +12,12 @@ use read_names::find_name;
 use read_names::word_end;
 ghost use mathlib.Core.Path.{_≡_};
 ghost use mathlib.Core.List.{[]};
-ghost use Prim.Native.Nat.{ℕ, _+_, _-_, _<_, _≤_};
+ghost use Prim.Native.Nat.{_≤_};
 ghost use lib.ListN.{length};
-ghost use Rattle.read_bytes.specs.Bytes.{peek, classOf, starts};
-ghost use Rattle.read_names.specs.Words.{namesAt};
-ghost use Rattle.read_bytes.specs.declared.bytes.Class.the-variants.{Letter};
-ghost use Rattle.spec_tilco.specs.Formula.{Written, hiddens};
+ghost use Rattle.read_bytes.specs.Bytes.{starts};
 ghost use Rattle.read_arena.specs.Nodes.{opOf};
-ghost use Rattle.read_arena.specs.Readings.{Held};
-ghost use Rattle.read_parts.specs.Grammar.{declared, times, signText, repeats as repeatsOf};
-ghost use Rattle.read_parts.specs.Parsed.{Ready, Parses};
+ghost use Rattle.read_parts.specs.Grammar.{signText, repeats as repeatsOf};
+ghost use Rattle.read_parts.specs.Promise.{AtLetter, AfterPart, declaredAt, timesAt, Reads, ReadsOn};
 
 // The place after what was read, the nodes then used and the next hidden signal's row; or a refusal's number and place.
 pub enum Parsed {
@@ -75,8 +71,8 @@ pub fn name(
     used: usize,
     hidden: usize,
 ) -> Parsed
-    requires { ⌜ Ready (now s) (now arena) (now names) at used hidden × (classOf (peek (now s) at) ≡ Letter) ⌝ }
-    ensures { λ r. ⌜ Parses (now (arena .entry)) (now (arena .exit)) (length (now (s .entry))) 1 at used hidden hidden (declared (namesAt (now (s .entry)) (now (names .entry))) (now (s .entry)) at) r ⌝ }
+    requires { ⌜ AtLetter (now s) (now arena) (now names) at used hidden ⌝ }
+    ensures { λ r. ⌜ Reads (declaredAt s names at) s arena at used hidden r ⌝ }
 {
     let i = find_name(s, names, s, at);
     if i < names.len() {
@@ -91,8 +87,8 @@ pub fn name(
 
 // The `@` and `?` with their intervals after a plain part, whose node is the last one.
 pub fn times_at(s: &[u8], arena: &mut [u16], at: usize, used: usize, hidden: usize) -> Parsed
-    requires { ⌜ Ready (now s) (now arena) [] at used hidden × (0 < used) ⌝ }
-    ensures { λ r. ⌜ ((n x : ℕ) (f : Written) → length (now (s .entry)) ≤ at + n → Held (now (arena .entry)) x (used - 1) f → hidden ≡ x + hiddens f → Parses (now (arena .entry)) (now (arena .exit)) (length (now (s .entry))) 0 at used hidden x (times (now (s .entry)) n f at) r) ⌝ }
+    requires { ⌜ AfterPart (now s) (now arena) [] at used hidden ⌝ }
+    ensures { λ r. ⌜ ReadsOn (timesAt s at) s arena at used hidden r ⌝ }
 {
     let b = byte_at(s, at);
     match b {

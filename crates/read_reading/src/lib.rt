@@ -9,7 +9,7 @@ ghost use lib.ListN.{length};
 ghost use Rattle.read_bytes.specs.Read.{Refusal};
 ghost use Rattle.read_bytes.specs.Read.Read.{refused};
 ghost use Rattle.read_lines.specs.Lines.{says};
-ghost use Rattle.read_names.specs.Words.{namesAt};
+ghost use Rattle.read_names.specs.Slices.{before, namesOf};
 ghost use Rattle.read_reading.specs.declared.Reading.the-variants.{Refused};
 ghost use Rattle.read_reading.specs.OneReading.{knownLine, reading, readingOf};
 
@@ -27,7 +27,7 @@ pub enum Reading {
 // The line at `at` with a declared name: the signal's number, and the place after the line.
 pub fn known_line(s: &[u8], places: &[u64], r: &[u8], at: usize) -> Step
     requires { ⌜ at ≤ length (now r) ⌝ }
-    ensures { λ v. ⌜ says v ≡ knownLine (namesAt (now (s .entry)) (now (places .entry))) (now (r .entry)) at ⌝ }
+    ensures { λ v. ⌜ says v ≡ knownLine (namesOf s places) (before r) at ⌝ }
 {
     let l = name_line(r, at, b"signal=", 11, 12);
     let Step::Got(v, next) = l else {
@@ -55,7 +55,7 @@ fn refused_line(l: Step) -> Reading
 // The reading whose first line starts at `at`.
 pub fn reading_at(s: &[u8], places: &[u64], window: usize, r: &[u8], at: usize) -> Reading
     requires { ⌜ (1 ≤ window) × (at ≤ length (now r)) ⌝ }
-    ensures { λ v. ⌜ readingOf v ≡ reading (namesAt (now (s .entry)) (now (places .entry))) window (now (r .entry)) at ⌝ }
+    ensures { λ v. ⌜ readingOf v ≡ reading (namesOf s places) window (before r) at ⌝ }
 {
     let last = window - 1;
     let a = ranged_line(r, at, b"at=", 11, 13, 0, last);

@@ -29,6 +29,11 @@ pub record Ended (s : List ℕ) (v e : ℕ) : Type 0 where
   pub inside : e < length s
   pub lf : peek s e ≡ byte "\n"
 
+-- A rule's line can be read from its value at v on, up to its LF at e.
+pub record AtValue (s a places : List ℕ) (v e h : ℕ) : Type 0 where
+  pub ready : Ready s a places v h
+  pub ended : Ended s v e
+
 -- A rule was read up to q: it stands in the arena at the last of u nodes, its hidden signals numbered from h, and h′ is the next row.
 pub record Rule (a : List ℕ) (h : ℕ) (R : Read Written) (q u h′ : ℕ) : Type 0 where
   pub rule : Written

@@ -4,14 +4,14 @@ use read_lines::Step;
 use read_lines::line_at;
 use read_parts::parts::Parsed;
 use spec_limits::RULE_BYTES;
-ghost use Rattle.read_names.specs.Words.{namesAt};
+ghost use Rattle.read_names.specs.Slices.{before, after, namesOf};
 ghost use Rattle.read_sheet.specs.Sheet.{ruleTo, ruleLine};
-ghost use Rattle.read_sheet.specs.Reading.{Ready, Ended, RuleRead};
+ghost use Rattle.read_sheet.specs.Reading.{Ready, AtValue, RuleRead};
 
 // The rule from `v` to its LF at `e`, read into the arena. Its hidden signals are numbered from `hidden`.
 fn rule_to(s: &[u8], places: &[u64], arena: &mut [u16], v: usize, e: usize, hidden: usize) -> Parsed
-    requires { ⌜ Ready (now s) (now arena) (now places) v hidden × Ended (now s) v e ⌝ }
-    ensures { λ r. ⌜ RuleRead (now (arena .exit)) hidden (ruleTo (namesAt (now (s .entry)) (now (places .entry))) (now (s .entry)) v e) r ⌝ }
+    requires { ⌜ AtValue (now s) (now arena) (now places) v e hidden ⌝ }
+    ensures { λ r. ⌜ RuleRead (after arena) hidden (ruleTo (namesOf s places) (before s) v e) r ⌝ }
 {
     let n = e - v;
     match n {
@@ -29,7 +29,7 @@ fn rule_to(s: &[u8], places: &[u64], arena: &mut [u16], v: usize, e: usize, hidd
 // The line at `at` with a rule, read into the arena: the place after the line, the nodes used, and the next hidden signal's row.
 pub fn rule_line(s: &[u8], places: &[u64], arena: &mut [u16], at: usize, hidden: usize) -> Parsed
     requires { ⌜ Ready (now s) (now arena) (now places) at hidden ⌝ }
-    ensures { λ r. ⌜ RuleRead (now (arena .exit)) hidden (ruleLine (namesAt (now (s .entry)) (now (places .entry))) (now (s .entry)) at) r ⌝ }
+    ensures { λ r. ⌜ RuleRead (after arena) hidden (ruleLine (namesOf s places) (before s) at) r ⌝ }
 {
     let l = line_at(s, at, b"rule=", 2);
     match l {

@@ -3,15 +3,13 @@ use read_arena::Sign;
 use read_formula::joined;
 use read_parts::parts::Parsed;
 use spec_limits::OPEN;
-ghost use lib.ListN.{length};
-ghost use Rattle.read_names.specs.Words.{namesAt};
-ghost use Rattle.read_parts.specs.Grammar.{rule as ruleOf};
-ghost use Rattle.read_parts.specs.Parsed.{Ready, Parses};
+ghost use Rattle.read_parts.specs.Parsed.{Ready};
+ghost use Rattle.read_parts.specs.Promise.{ruleAt, Reads};
 
 // A whole rule, from `at` to the text's end, into an empty arena that has a node for each byte.
 pub fn rule(s: &[u8], names: &[u64], arena: &mut [u16], at: usize, hidden: usize) -> Parsed
     requires { ⌜ Ready (now s) (now arena) (now names) at 0 hidden ⌝ }
-    ensures { λ r. ⌜ Parses (now (arena .entry)) (now (arena .exit)) (length (now (s .entry))) 1 at 0 hidden hidden (ruleOf (namesAt (now (s .entry)) (now (names .entry))) (now (s .entry)) at) r ⌝ }
+    ensures { λ r. ⌜ Reads (ruleAt s names at) s arena at 0 hidden r ⌝ }
 {
     let r = joined(Sign::Iff, s, names, arena, at, 0, hidden, OPEN);
     let Parsed::Got(next, count, rows) = r else {

@@ -241,7 +241,7 @@ module _ (t : ℕ) where
   deny-sub-plain-part c = search needs
 
   deny-plain-part-requires : deny-lts.Need-plain-part-requires deny-calls deny-at deny.Post
-  deny-plain-part-requires c κs = (omega (arith, c .before .before .before .before .before .pre .1 .1), on (c .before .before .before .before .before .pre .1 .0) _ _ _ (omega (arith, c .before .before .before .before .before .pre .1 .1)) (omega arith) (omega arith) (c .before .before .before .before .before .pre .1 .0 .arena) refl)
+  deny-plain-part-requires c κs = (omega (arith, c .before .before .before .before .before .pre .1 .inside), on (c .before .before .before .before .before .pre .1 .ready) _ _ _ (omega (arith, c .before .before .before .before .before .pre .1 .inside)) (omega arith) (omega arith) (c .before .before .before .before .before .pre .1 .ready .arena) refl)
 
   deny-enum-known-r : deny-lts.Need-enum-known-r deny-calls deny-at deny.Post
   deny-enum-known-r c = search needs
@@ -256,19 +256,19 @@ module _ (t : ℕ) where
   deny-returns-2 c = by (deny-on _ _ _ _ (c .before .before .before .before .before .before .if1 .left)) (hand-on _ (c .before .before .before .before .plain-part .ensures) (c .enum-told .given .1))
 
   deny-sub-child : deny-lts.Need-sub-child deny-calls deny-at deny.Post
-  deny-sub-child c = let w = far (c .before .before .before .before .before .plain-part .ensures) (c .before .r .given .1) in omega (arith, w .ahead, w .inside, w .fresh, w .nodes, w .rows, w .hidden)
+  deny-sub-child c = let w = far (c .before .before .before .before .before .plain-part .ensures) (c .before .r .given .1) in omega arith
 
   deny-put-node-requires : deny-lts.Need-put-node-requires deny-calls deny-at deny.Post
-  deny-put-node-requires c κs = let w = far (c .before .before .before .before .before .before .plain-part .ensures) (c .before .before .r .given .1) in (room-for (c .before .before .before .before .before .before .before .before .before .before .before .before .pre .1 .0) _ 1 (omega (arith, w .ahead, w .inside, w .fresh, w .nodes, w .rows, w .hidden)) (search needs), omega (arith, w .ahead, w .inside, w .fresh, w .nodes, w .rows, w .hidden))
+  deny-put-node-requires c κs = let w = far (c .before .before .before .before .before .before .plain-part .ensures) (c .before .before .r .given .1) in (room-for (c .before .before .before .before .before .before .before .before .before .before .before .before .pre .1 .ready) _ 1 (omega arith) (search needs), omega arith)
 
   deny-add-count : deny-lts.Need-add-count deny-calls deny-at deny.Post
-  deny-add-count c = let w = far (c .before .before .before .before .before .before .before .before .before .plain-part .ensures) (c .before .before .before .before .before .r .given .1) in omega (arith, w .nodes, w .inside, c .before .before .before .before .before .before .before .before .before .before .before .before .before .before .before .pre .1 .0 .room .few)
+  deny-add-count c = let w = far (c .before .before .before .before .before .before .before .before .before .plain-part .ensures) (c .before .before .before .before .before .r .given .1) in omega (arith, w .nodes, w .inside, c .before .before .before .before .before .before .before .before .before .before .before .before .before .before .before .pre .1 .ready .room .few)
 
   deny-same-length-2 : deny-lts.Need-same-length-2 deny-calls deny-at deny.Post
   deny-same-length-2 c = search needs
 
   deny-returns-3 : deny-lts.Need-returns-3 deny-calls deny-at deny.Post
-  deny-returns-3 c = let w = far (c .before .before .before .before .before .before .before .before .before .plain-part .ensures) (c .before .before .before .before .before .r .given .1) in by (deny-on _ _ _ _ (c .before .before .before .before .before .before .before .before .before .before .before .if1 .left)) (wrap _ _ (omega arith) (was (c .before .before .before .before .before .before .before .before .before .plain-part .ensures) (c .before .before .before .before .before .r .given .1)) (room-for (c .before .before .before .before .before .before .before .before .before .before .before .before .before .before .before .pre .1 .0) _ 1 (omega (arith, w .ahead, w .inside, w .fresh, w .nodes, w .rows, w .hidden)) (search needs)) (c .before .before .put-node .ensures))
+  deny-returns-3 c = let w = far (c .before .before .before .before .before .before .before .before .before .plain-part .ensures) (c .before .before .before .before .before .r .given .1) in by (deny-on _ _ _ _ (c .before .before .before .before .before .before .before .before .before .before .before .if1 .left)) (wrap _ _ (omega arith) (was (c .before .before .before .before .before .before .before .before .before .plain-part .ensures) (c .before .before .before .before .before .r .given .1)) (room-for (c .before .before .before .before .before .before .before .before .before .before .before .before .before .before .before .pre .1 .ready) _ 1 (omega arith) (search needs)) (c .before .before .put-node .ensures))
 
   joined-below-part-requires : joined-lts.Need-below-part-requires joined-calls joined-at joined.Post
   joined-below-part-requires c κs = (omega arith, c .before .before .before .before .pre .1)
@@ -287,14 +287,14 @@ module _ (t : ℕ) where
   joined-returns c = hand-on _ (c .before .before .before .before .below-part .ensures) (c .enum-told .given .1)
 
   joined-more-requires : joined-lts.Need-more-requires joined-calls joined-at joined.Post
-  joined-more-requires c κs = let w = far (c .before .before .before .before .before .before .below-part .ensures) (c .before .before .r .given .1) in (omega (arith, w .ahead, w .inside, w .fresh, w .nodes, w .rows, w .hidden), (on (c .before .before .before .before .before .before .before .before .before .before .before .pre .1) _ _ _ (w .inside) (omega (arith, w .ahead, w .inside, w .fresh, w .nodes, w .rows, w .hidden)) (omega (arith, w .ahead, w .inside, w .fresh, w .nodes, w .rows, w .hidden)) (left (c .before .before .before .before .before .before .below-part .ensures) (c .before .before .r .given .1)) (search needs), omega (arith, w .ahead, w .inside, w .fresh, w .nodes, w .rows, w .hidden)))
+  joined-more-requires c κs = let w = far (c .before .before .before .before .before .before .below-part .ensures) (c .before .before .r .given .1) in (omega arith, record { ready = on (c .before .before .before .before .before .before .before .before .before .before .before .pre .1) _ _ _ (w .inside) (omega arith) (omega arith) (left (c .before .before .before .before .before .before .below-part .ensures) (c .before .before .r .given .1)) (search needs); some = omega arith })
 
   joined-same-length-2 : joined-lts.Need-same-length-2 joined-calls joined-at joined.Post
   joined-same-length-2 c = search needs
 
   joined-returns-2 : joined-lts.Need-returns-2 joined-calls joined-at joined.Post
   unfolding level
-  joined-returns-2 c = let w = far (c .before .before .before .before .before .before .before .before .before .below-part .ensures) (c .before .before .before .before .before .r .given .1) in then _ _ _ (omega (arith, w .ahead, w .inside, w .fresh, w .nodes, w .rows, w .hidden)) (omega arith) (omega arith) (omega arith) (was (c .before .before .before .before .before .before .before .before .before .below-part .ensures) (c .before .before .before .before .before .r .given .1)) (λ f hf hs. c .before .before .more .ensures _ _ f (omega arith) hf hs)
+  joined-returns-2 c = let w = far (c .before .before .before .before .before .before .before .before .before .below-part .ensures) (c .before .before .before .before .before .r .given .1) in then _ _ _ (omega arith) (omega arith) (omega arith) (omega arith) (was (c .before .before .before .before .before .before .before .before .before .below-part .ensures) (c .before .before .before .before .before .r .given .1)) (λ f hf hs. c .before .before .more .ensures _ _ f (omega arith) hf hs)
 
   keep-byte-at-requires : keep-lts.Need-byte-at-requires keep-calls keep-at keep.Post
   keep-byte-at-requires c κs = search needs
@@ -315,7 +315,7 @@ module _ (t : ℕ) where
   keep-sub-joined c = search needs
 
   keep-joined-requires : keep-lts.Need-joined-requires keep-calls keep-at keep.Post
-  keep-joined-requires c κs = let i = byte-inside _ _ (byte "(") (c .before .before .before .byte-at .ensures) (c .before .before .if1 .left) (λ z. omega arith) in (omega (arith, i), on (c .before .before .before .before .before .before .before .pre .1 .0) _ _ _ (omega (arith, i)) (omega arith) (omega arith) (c .before .before .before .before .before .before .before .pre .1 .0 .arena) refl)
+  keep-joined-requires c κs = let i = byte-inside _ _ (byte "(") (c .before .before .before .byte-at .ensures) (c .before .before .if1 .left) (λ z. omega arith) in (omega (arith, i), on (c .before .before .before .before .before .before .before .pre .1 .ready) _ _ _ (omega (arith, i)) (omega arith) (omega arith) (c .before .before .before .before .before .before .before .pre .1 .ready .arena) refl)
 
   keep-enum-known-r : keep-lts.Need-enum-known-r keep-calls keep-at keep.Post
   keep-enum-known-r c = search needs
@@ -333,7 +333,7 @@ module _ (t : ℕ) where
   keep-sub-second c = search needs
 
   keep-second-requires : keep-lts.Need-second-requires keep-calls keep-at keep.Post
-  keep-second-requires c κs = let w = far (c .before .before .before .before .before .before .joined .ensures) (c .before .before .r .given .1) in (omega (arith, w .ahead, w .inside, w .fresh, w .nodes, w .rows, w .hidden), (on (c .before .before .before .before .before .before .before .before .before .before .before .before .before .before .pre .1 .0) _ _ _ (omega (arith, w .ahead, w .inside, w .fresh, w .nodes, w .rows, w .hidden)) (omega (arith, w .ahead, w .inside, w .fresh, w .nodes, w .rows, w .hidden)) (omega (arith, w .ahead, w .inside, w .fresh, w .nodes, w .rows, w .hidden)) (left (c .before .before .before .before .before .before .joined .ensures) (c .before .before .r .given .1)) (search needs), omega (arith, w .ahead, w .inside, w .fresh, w .nodes, w .rows, w .hidden), omega (arith, w .ahead, w .inside, w .fresh, w .nodes, w .rows, w .hidden), omega (arith, w .ahead, w .inside, w .fresh, w .nodes, w .rows, w .hidden), w .inside))
+  keep-second-requires c κs = let w = far (c .before .before .before .before .before .before .joined .ensures) (c .before .before .r .given .1) in (omega arith, record { ready = on (c .before .before .before .before .before .before .before .before .before .before .before .before .before .before .pre .1 .ready) _ _ _ (omega arith) (omega arith) (omega arith) (left (c .before .before .before .before .before .before .joined .ensures) (c .before .before .r .given .1)) (search needs); some = omega arith; numbered = omega arith; four = omega arith; within = w .inside })
 
   keep-same-length-2 : keep-lts.Need-same-length-2 keep-calls keep-at keep.Post
   keep-same-length-2 c = search needs
@@ -342,23 +342,23 @@ module _ (t : ℕ) where
   keep-returns-4 c =
       let w = far (c .before .before .before .before .before .before .before .before .before .joined .ensures) (c .before .before .before .before .before .r .given .1) in
       by (keep-on _ _ _ _ _ (sym (c .before .before .before .before .before .before .before .before .before .before .before .before .before .byte-at .ensures) ∙ c .before .before .before .before .before .before .before .before .before .before .before .before .if1 .left) (c .before .before .before .before .before .before .before .before .before .before .before .if2 .left))
-      (then _ _ _ (omega (arith, w .ahead, w .inside, w .fresh, w .nodes, w .rows, w .hidden)) (omega (arith, w .ahead, w .inside, w .fresh, w .nodes, w .rows, w .hidden)) (omega arith) (omega (arith, w .ahead, w .inside, w .fresh, w .nodes, w .rows, w .hidden)) (was (c .before .before .before .before .before .before .before .before .before .joined .ensures) (c .before .before .before .before .before .r .given .1))
+      (then _ _ _ (omega arith) (omega arith) (omega arith) (omega arith) (was (c .before .before .before .before .before .before .before .before .before .joined .ensures) (c .before .before .before .before .before .r .given .1))
       (λ f hf hs. c .before .before .second .ensures f (held-next _ hf) (omega arith)))
 
   more-sign-at-requires : more-lts.Need-sign-at-requires more-calls more-at more.Post
   more-sign-at-requires c κs = search needs
 
   more-returns : more-lts.Need-returns more-calls more-at more.Post
-  more-returns c = λ n x f l he hs. by (more-none _ _ _ n f _ (sym (c .before .sign-at .ensures) ∙ not-true _ (c .if1 .taken))) (stop (c .before .before .before .before .before .pre .1 .0 .within) (c .before .before .before .before .before .pre .1 .0 .arena) he hs)
+  more-returns c = λ n x f l he hs. by (more-none _ _ _ n f _ (sym (c .before .sign-at .ensures) ∙ not-true _ (c .if1 .taken))) (stop (c .before .before .before .before .before .pre .1 .ready .within) (c .before .before .before .before .before .pre .1 .ready .arena) he hs)
 
   more-sign-len-requires : more-lts.Need-sign-len-requires more-calls more-at more.Post
   more-sign-len-requires c κs = search needs
 
   more-add-part : more-lts.Need-add-part more-calls more-at more.Post
-  more-add-part c = let st = sym (c .before .before .sign-at .ensures) ∙ not-false _ (c .before .if1 .left) in let g = sign-inside (opOf (c .before .before .before .before .before .before .args .sign)) (now (c .before .before .before .before .before .before .args .s)) (c .before .before .before .before .before .before .args .at) (c .before .before .before .before .before .before .pre .1 .0 .within) st in let k = sign-some (opOf (c .before .before .before .before .before .before .args .sign)) in let y = c .sign-len .ensures in omega (arith, g, k, y)
+  more-add-part c = let st = sym (c .before .before .sign-at .ensures) ∙ not-false _ (c .before .if1 .left) in let g = sign-inside (opOf (c .before .before .before .before .before .before .args .sign)) (now (c .before .before .before .before .before .before .args .s)) (c .before .before .before .before .before .before .args .at) (c .before .before .before .before .before .before .pre .1 .ready .within) st in let k = sign-some (opOf (c .before .before .before .before .before .before .args .sign)) in let y = c .sign-len .ensures in omega (arith, g, k, y)
 
   more-below-part-requires : more-lts.Need-below-part-requires more-calls more-at more.Post
-  more-below-part-requires c κs = let st = sym (c .before .before .before .sign-at .ensures) ∙ not-false _ (c .before .before .if1 .left) in let g = sign-inside (opOf (c .before .before .before .before .before .before .before .args .sign)) (now (c .before .before .before .before .before .before .before .args .s)) (c .before .before .before .before .before .before .before .args .at) (c .before .before .before .before .before .before .before .pre .1 .0 .within) st in let k = sign-some (opOf (c .before .before .before .before .before .before .before .args .sign)) in let y = c .before .sign-len .ensures in (omega (arith, g, k, y, rank-most (c .before .before .before .before .before .before .before .args .sign)), on (c .before .before .before .before .before .before .before .pre .1 .0) _ _ _ (omega (arith, g, k, y)) (omega (arith, g, k, y)) (omega (arith, g, k, y)) (c .before .before .before .before .before .before .before .pre .1 .0 .arena) refl)
+  more-below-part-requires c κs = let st = sym (c .before .before .before .sign-at .ensures) ∙ not-false _ (c .before .before .if1 .left) in let g = sign-inside (opOf (c .before .before .before .before .before .before .before .args .sign)) (now (c .before .before .before .before .before .before .before .args .s)) (c .before .before .before .before .before .before .before .args .at) (c .before .before .before .before .before .before .before .pre .1 .ready .within) st in let k = sign-some (opOf (c .before .before .before .before .before .before .before .args .sign)) in let y = c .before .sign-len .ensures in (omega (arith, g, k, y, rank-most (c .before .before .before .before .before .before .before .args .sign)), on (c .before .before .before .before .before .before .before .pre .1 .ready) _ _ _ (omega (arith, g, k, y)) (omega (arith, g, k, y)) (omega (arith, g, k, y)) (c .before .before .before .before .before .before .before .pre .1 .ready .arena) refl)
 
   more-enum-known-r : more-lts.Need-enum-known-r more-calls more-at more.Post
   more-enum-known-r c = search needs
@@ -370,44 +370,44 @@ module _ (t : ℕ) where
   more-same-length c = search needs
 
   more-returns-2 : more-lts.Need-returns-2 more-calls more-at more.Post
-  more-returns-2 c = let st = sym (c .before .before .before .before .before .before .before .before .sign-at .ensures) ∙ not-false _ (c .before .before .before .before .before .before .before .if1 .left) in let g = sign-inside (opOf (c .before .before .before .before .before .before .before .before .before .before .before .before .args .sign)) (now (c .before .before .before .before .before .before .before .before .before .before .before .before .args .s)) (c .before .before .before .before .before .before .before .before .before .before .before .before .args .at) (c .before .before .before .before .before .before .before .before .before .before .before .before .pre .1 .0 .within) st in let k = sign-some (opOf (c .before .before .before .before .before .before .before .before .before .before .before .before .args .sign)) in let y = c .before .before .before .before .before .before .sign-len .ensures in λ n x f l he hs. by (more-one _ _ _ n f _ st (omega (arith, g, k, y)) l) (hand-on _ (by (ap (below (opOf (c .before .before .before .before .before .before .before .before .before .before .before .before .args .sign)) _ _) (omega (arith, y))) (c .before .before .before .before .below-part .ensures)) (c .enum-told .given .1))
+  more-returns-2 c = let st = sym (c .before .before .before .before .before .before .before .before .sign-at .ensures) ∙ not-false _ (c .before .before .before .before .before .before .before .if1 .left) in let g = sign-inside (opOf (c .before .before .before .before .before .before .before .before .before .before .before .before .args .sign)) (now (c .before .before .before .before .before .before .before .before .before .before .before .before .args .s)) (c .before .before .before .before .before .before .before .before .before .before .before .before .args .at) (c .before .before .before .before .before .before .before .before .before .before .before .before .pre .1 .ready .within) st in let k = sign-some (opOf (c .before .before .before .before .before .before .before .before .before .before .before .before .args .sign)) in let y = c .before .before .before .before .before .before .sign-len .ensures in λ n x f l he hs. by (more-one _ _ _ n f _ st (omega (arith, g, k, y)) l) (hand-on _ (by (ap (below (opOf (c .before .before .before .before .before .before .before .before .before .before .before .before .args .sign)) _ _) (omega (arith, y))) (c .before .before .before .before .below-part .ensures)) (c .enum-told .given .1))
 
   more-sub-left : more-lts.Need-sub-left more-calls more-at more.Post
   more-sub-left c = search needs
 
   more-sub-right : more-lts.Need-sub-right more-calls more-at more.Post
-  more-sub-right c = let w = far (c .before .before .before .before .before .below-part .ensures) (c .before .r .given .1) in omega (arith, w .ahead, w .inside, w .fresh, w .nodes, w .rows, w .hidden)
+  more-sub-right c = let w = far (c .before .before .before .before .before .below-part .ensures) (c .before .r .given .1) in omega arith
 
   more-put-node-requires : more-lts.Need-put-node-requires more-calls more-at more.Post
-  more-put-node-requires c κs = let st = sym (c .before .before .before .before .before .before .before .before .before .before .sign-at .ensures) ∙ not-false _ (c .before .before .before .before .before .before .before .before .before .if1 .left) in let g = sign-inside (opOf (c .before .before .before .before .before .before .before .before .before .before .before .before .before .before .args .sign)) (now (c .before .before .before .before .before .before .before .before .before .before .before .before .before .before .args .s)) (c .before .before .before .before .before .before .before .before .before .before .before .before .before .before .args .at) (c .before .before .before .before .before .before .before .before .before .before .before .before .before .before .pre .1 .0 .within) st in let k = sign-some (opOf (c .before .before .before .before .before .before .before .before .before .before .before .before .before .before .args .sign)) in let y = c .before .before .before .before .before .before .before .before .sign-len .ensures in let w = far (c .before .before .before .before .before .before .below-part .ensures) (c .before .before .r .given .1) in (room-for (c .before .before .before .before .before .before .before .before .before .before .before .before .before .before .pre .1 .0) _ 1 (omega (arith, g, k, y, w .ahead, w .inside, w .fresh, w .nodes, w .rows, w .hidden)) (search needs), (omega (arith, w .ahead, w .inside, w .fresh, w .nodes, w .rows, w .hidden), omega (arith, w .ahead, w .inside, w .fresh, w .nodes, w .rows, w .hidden)))
+  more-put-node-requires c κs = let st = sym (c .before .before .before .before .before .before .before .before .before .before .sign-at .ensures) ∙ not-false _ (c .before .before .before .before .before .before .before .before .before .if1 .left) in let g = sign-inside (opOf (c .before .before .before .before .before .before .before .before .before .before .before .before .before .before .args .sign)) (now (c .before .before .before .before .before .before .before .before .before .before .before .before .before .before .args .s)) (c .before .before .before .before .before .before .before .before .before .before .before .before .before .before .args .at) (c .before .before .before .before .before .before .before .before .before .before .before .before .before .before .pre .1 .ready .within) st in let k = sign-some (opOf (c .before .before .before .before .before .before .before .before .before .before .before .before .before .before .args .sign)) in let y = c .before .before .before .before .before .before .before .before .sign-len .ensures in let w = far (c .before .before .before .before .before .before .below-part .ensures) (c .before .before .r .given .1) in (room-for (c .before .before .before .before .before .before .before .before .before .before .before .before .before .before .pre .1 .ready) _ 1 (omega (arith, g, k, y)) (search needs), (omega arith, omega arith))
 
   more-add-count : more-lts.Need-add-count more-calls more-at more.Post
-  more-add-count c = let st = sym (c .before .before .before .before .before .before .before .before .before .before .before .before .before .sign-at .ensures) ∙ not-false _ (c .before .before .before .before .before .before .before .before .before .before .before .before .if1 .left) in let g = sign-inside (opOf (c .before .before .before .before .before .before .before .before .before .before .before .before .before .before .before .before .before .args .sign)) (now (c .before .before .before .before .before .before .before .before .before .before .before .before .before .before .before .before .before .args .s)) (c .before .before .before .before .before .before .before .before .before .before .before .before .before .before .before .before .before .args .at) (c .before .before .before .before .before .before .before .before .before .before .before .before .before .before .before .before .before .pre .1 .0 .within) st in let k = sign-some (opOf (c .before .before .before .before .before .before .before .before .before .before .before .before .before .before .before .before .before .args .sign)) in let y = c .before .before .before .before .before .before .before .before .before .before .before .sign-len .ensures in let w = far (c .before .before .before .before .before .before .before .before .before .below-part .ensures) (c .before .before .before .before .before .r .given .1) in omega (arith, g, k, y, w .ahead, w .inside, w .fresh, w .nodes, w .rows, w .hidden, c .before .before .before .before .before .before .before .before .before .before .before .before .before .before .before .before .before .pre .1 .0 .room .few)
+  more-add-count c = let st = sym (c .before .before .before .before .before .before .before .before .before .before .before .before .before .sign-at .ensures) ∙ not-false _ (c .before .before .before .before .before .before .before .before .before .before .before .before .if1 .left) in let g = sign-inside (opOf (c .before .before .before .before .before .before .before .before .before .before .before .before .before .before .before .before .before .args .sign)) (now (c .before .before .before .before .before .before .before .before .before .before .before .before .before .before .before .before .before .args .s)) (c .before .before .before .before .before .before .before .before .before .before .before .before .before .before .before .before .before .args .at) (c .before .before .before .before .before .before .before .before .before .before .before .before .before .before .before .before .before .pre .1 .ready .within) st in let k = sign-some (opOf (c .before .before .before .before .before .before .before .before .before .before .before .before .before .before .before .before .before .args .sign)) in let y = c .before .before .before .before .before .before .before .before .before .before .before .sign-len .ensures in let w = far (c .before .before .before .before .before .before .before .before .before .below-part .ensures) (c .before .before .before .before .before .r .given .1) in omega (arith, g, k, y, c .before .before .before .before .before .before .before .before .before .before .before .before .before .before .before .before .before .pre .1 .ready .room .few)
 
   more-repeats-requires : more-lts.Need-repeats-requires more-calls more-at more.Post
   more-repeats-requires c κs = search needs
 
   more-more-requires : more-lts.Need-more-requires more-calls more-at more.Post
-  more-more-requires c κs = let st = sym (c .before .before .before .before .before .before .before .before .before .before .before .before .before .before .before .before .sign-at .ensures) ∙ not-false _ (c .before .before .before .before .before .before .before .before .before .before .before .before .before .before .before .if1 .left) in let g = sign-inside (opOf (c .before .before .before .before .before .before .before .before .before .before .before .before .before .before .before .before .before .before .before .before .args .sign)) (now (c .before .before .before .before .before .before .before .before .before .before .before .before .before .before .before .before .before .before .before .before .args .s)) (c .before .before .before .before .before .before .before .before .before .before .before .before .before .before .before .before .before .before .before .before .args .at) (c .before .before .before .before .before .before .before .before .before .before .before .before .before .before .before .before .before .before .before .before .pre .1 .0 .within) st in let k = sign-some (opOf (c .before .before .before .before .before .before .before .before .before .before .before .before .before .before .before .before .before .before .before .before .args .sign)) in let y = c .before .before .before .before .before .before .before .before .before .before .before .before .before .before .sign-len .ensures in let w = far (c .before .before .before .before .before .before .before .before .before .before .before .before .below-part .ensures) (c .before .before .before .before .before .before .before .before .r .given .1) in (omega (arith, g, k, y, w .ahead, w .inside, w .fresh, w .nodes, w .rows, w .hidden), (on (c .before .before .before .before .before .before .before .before .before .before .before .before .before .before .before .before .before .before .before .before .pre .1 .0) _ _ _ (w .inside) (omega (arith, g, k, y, w .ahead, w .inside, w .fresh, w .nodes, w .rows, w .hidden)) (omega (arith, g, k, y, w .ahead, w .inside, w .fresh, w .nodes, w .rows, w .hidden)) (subst (Arena _) (sym (c .before .before .before .before .before .put-node .ensures)) (arena-put (Pair _ _ _) (left (c .before .before .before .before .before .before .before .before .before .before .before .before .below-part .ensures) (c .before .before .before .before .before .before .before .before .r .given .1)) (room-for (c .before .before .before .before .before .before .before .before .before .before .before .before .before .before .before .before .before .before .before .before .pre .1 .0) _ 1 (omega (arith, g, k, y, w .ahead, w .inside, w .fresh, w .nodes, w .rows, w .hidden)) (search needs)) (omega (arith, w .ahead, w .inside, w .fresh, w .nodes, w .rows, w .hidden), omega (arith, w .ahead, w .inside, w .fresh, w .nodes, w .rows, w .hidden)))) (search needs), omega arith))
+  more-more-requires c κs = let st = sym (c .before .before .before .before .before .before .before .before .before .before .before .before .before .before .before .before .sign-at .ensures) ∙ not-false _ (c .before .before .before .before .before .before .before .before .before .before .before .before .before .before .before .if1 .left) in let g = sign-inside (opOf (c .before .before .before .before .before .before .before .before .before .before .before .before .before .before .before .before .before .before .before .before .args .sign)) (now (c .before .before .before .before .before .before .before .before .before .before .before .before .before .before .before .before .before .before .before .before .args .s)) (c .before .before .before .before .before .before .before .before .before .before .before .before .before .before .before .before .before .before .before .before .args .at) (c .before .before .before .before .before .before .before .before .before .before .before .before .before .before .before .before .before .before .before .before .pre .1 .ready .within) st in let k = sign-some (opOf (c .before .before .before .before .before .before .before .before .before .before .before .before .before .before .before .before .before .before .before .before .args .sign)) in let y = c .before .before .before .before .before .before .before .before .before .before .before .before .before .before .sign-len .ensures in let w = far (c .before .before .before .before .before .before .before .before .before .before .before .before .below-part .ensures) (c .before .before .before .before .before .before .before .before .r .given .1) in (omega (arith, g, k, y), record { ready = on (c .before .before .before .before .before .before .before .before .before .before .before .before .before .before .before .before .before .before .before .before .pre .1 .ready) _ _ _ (w .inside) (omega (arith, g, k, y)) (omega (arith, g, k, y)) (subst (Arena _) (sym (c .before .before .before .before .before .put-node .ensures)) (arena-put (Pair _ _ _) (left (c .before .before .before .before .before .before .before .before .before .before .before .before .below-part .ensures) (c .before .before .before .before .before .before .before .before .r .given .1)) (room-for (c .before .before .before .before .before .before .before .before .before .before .before .before .before .before .before .before .before .before .before .before .pre .1 .ready) _ 1 (omega (arith, g, k, y)) (search needs)) (omega arith, omega arith))) (search needs); some = omega arith })
 
   more-same-length-2 : more-lts.Need-same-length-2 more-calls more-at more.Post
   more-same-length-2 c = search needs
 
   more-returns-3 : more-lts.Need-returns-3 more-calls more-at more.Post
   more-returns-3 c =
-      let st = sym (c .before .before .before .before .before .before .before .before .before .before .before .before .before .before .before .before .before .before .before .sign-at .ensures) ∙ not-false _ (c .before .before .before .before .before .before .before .before .before .before .before .before .before .before .before .before .before .before .if1 .left) in let g = sign-inside (opOf (c .before .before .before .before .before .before .before .before .before .before .before .before .before .before .before .before .before .before .before .before .before .before .before .args .sign)) (now (c .before .before .before .before .before .before .before .before .before .before .before .before .before .before .before .before .before .before .before .before .before .before .before .args .s)) (c .before .before .before .before .before .before .before .before .before .before .before .before .before .before .before .before .before .before .before .before .before .before .before .args .at) (c .before .before .before .before .before .before .before .before .before .before .before .before .before .before .before .before .before .before .before .before .before .before .before .pre .1 .0 .within) st in let k = sign-some (opOf (c .before .before .before .before .before .before .before .before .before .before .before .before .before .before .before .before .before .before .before .before .before .before .before .args .sign)) in let y = c .before .before .before .before .before .before .before .before .before .before .before .before .before .before .before .before .before .sign-len .ensures in let w = far (c .before .before .before .before .before .before .before .before .before .before .before .before .before .before .before .below-part .ensures) (c .before .before .before .before .before .before .before .before .before .before .before .r .given .1) in
+      let st = sym (c .before .before .before .before .before .before .before .before .before .before .before .before .before .before .before .before .before .before .before .sign-at .ensures) ∙ not-false _ (c .before .before .before .before .before .before .before .before .before .before .before .before .before .before .before .before .before .before .if1 .left) in let g = sign-inside (opOf (c .before .before .before .before .before .before .before .before .before .before .before .before .before .before .before .before .before .before .before .before .before .before .before .args .sign)) (now (c .before .before .before .before .before .before .before .before .before .before .before .before .before .before .before .before .before .before .before .before .before .before .before .args .s)) (c .before .before .before .before .before .before .before .before .before .before .before .before .before .before .before .before .before .before .before .before .before .before .before .args .at) (c .before .before .before .before .before .before .before .before .before .before .before .before .before .before .before .before .before .before .before .before .before .before .before .pre .1 .ready .within) st in let k = sign-some (opOf (c .before .before .before .before .before .before .before .before .before .before .before .before .before .before .before .before .before .before .before .before .before .before .before .args .sign)) in let y = c .before .before .before .before .before .before .before .before .before .before .before .before .before .before .before .before .before .sign-len .ensures in let w = far (c .before .before .before .before .before .before .before .before .before .before .before .before .before .before .before .below-part .ensures) (c .before .before .before .before .before .before .before .before .before .before .before .r .given .1) in
       λ n x f l he hs. by (more-one _ _ _ n f _ st (omega (arith, g, k, y)) l)
-      (join _ _ (c .before .before .before .before .before .before .before .before .before .before .before .before .before .before .before .before .before .before .before .before .before .before .before .args .sign) f (onward (opOf (c .before .before .before .before .before .before .before .before .before .before .before .before .before .before .before .before .before .before .before .before .before .before .before .args .sign)) _ _ (n - 1)) (c .before .before .before .before .before .before .before .before .before .before .before .before .before .before .before .before .before .before .before .before .before .before .before .pre .1 .1) (omega (arith, g, k, y)) (c .before .before .before .before .before .before .before .before .before .before .before .before .before .before .before .before .before .before .before .before .before .before .before .pre .1 .0 .arena) he hs (was (by (ap (below (opOf (c .before .before .before .before .before .before .before .before .before .before .before .before .before .before .before .before .before .before .before .before .before .before .before .args .sign)) _ _) (omega (arith, y))) (c .before .before .before .before .before .before .before .before .before .before .before .before .before .before .before .below-part .ensures)) (c .before .before .before .before .before .before .before .before .before .before .before .r .given .1)) (room-for (c .before .before .before .before .before .before .before .before .before .before .before .before .before .before .before .before .before .before .before .before .before .before .before .pre .1 .0) _ 1 (omega (arith, g, k, y, w .ahead, w .inside, w .fresh, w .nodes, w .rows, w .hidden)) (search needs)) (c .before .before .before .before .before .before .before .before .put-node .ensures)
-      (λ z hz hs′ ar. by (onward-more _ _ _ _ z _ (c .before .before .before .before .before .repeats .ensures) (c .before .before .before .before .if2 .taken)) (c .before .before .more .ensures (n - 1) x z (omega (arith, g, k, y, w .ahead, w .inside, w .fresh, w .nodes, w .rows, w .hidden)) hz hs′)))
+      (join _ _ (c .before .before .before .before .before .before .before .before .before .before .before .before .before .before .before .before .before .before .before .before .before .before .before .args .sign) f (onward (opOf (c .before .before .before .before .before .before .before .before .before .before .before .before .before .before .before .before .before .before .before .before .before .before .before .args .sign)) _ _ (n - 1)) (c .before .before .before .before .before .before .before .before .before .before .before .before .before .before .before .before .before .before .before .before .before .before .before .pre .1 .some) (omega (arith, g, k, y)) (c .before .before .before .before .before .before .before .before .before .before .before .before .before .before .before .before .before .before .before .before .before .before .before .pre .1 .ready .arena) he hs (was (by (ap (below (opOf (c .before .before .before .before .before .before .before .before .before .before .before .before .before .before .before .before .before .before .before .before .before .before .before .args .sign)) _ _) (omega (arith, y))) (c .before .before .before .before .before .before .before .before .before .before .before .before .before .before .before .below-part .ensures)) (c .before .before .before .before .before .before .before .before .before .before .before .r .given .1)) (room-for (c .before .before .before .before .before .before .before .before .before .before .before .before .before .before .before .before .before .before .before .before .before .before .before .pre .1 .ready) _ 1 (omega (arith, g, k, y)) (search needs)) (c .before .before .before .before .before .before .before .before .put-node .ensures)
+      (λ z hz hs′ ar. by (onward-more _ _ _ _ z _ (c .before .before .before .before .before .repeats .ensures) (c .before .before .before .before .if2 .taken)) (c .before .before .more .ensures (n - 1) x z (omega (arith, g, k, y)) hz hs′)))
 
   more-same-length-3 : more-lts.Need-same-length-3 more-calls more-at more.Post
   more-same-length-3 c = search needs
 
   more-returns-4 : more-lts.Need-returns-4 more-calls more-at more.Post
   more-returns-4 c =
-      let st = sym (c .before .before .before .before .before .before .before .before .before .before .before .before .before .before .before .sign-at .ensures) ∙ not-false _ (c .before .before .before .before .before .before .before .before .before .before .before .before .before .before .if1 .left) in let g = sign-inside (opOf (c .before .before .before .before .before .before .before .before .before .before .before .before .before .before .before .before .before .before .before .args .sign)) (now (c .before .before .before .before .before .before .before .before .before .before .before .before .before .before .before .before .before .before .before .args .s)) (c .before .before .before .before .before .before .before .before .before .before .before .before .before .before .before .before .before .before .before .args .at) (c .before .before .before .before .before .before .before .before .before .before .before .before .before .before .before .before .before .before .before .pre .1 .0 .within) st in let k = sign-some (opOf (c .before .before .before .before .before .before .before .before .before .before .before .before .before .before .before .before .before .before .before .args .sign)) in let y = c .before .before .before .before .before .before .before .before .before .before .before .before .before .sign-len .ensures in let w = far (c .before .before .before .before .before .before .before .before .before .before .before .below-part .ensures) (c .before .before .before .before .before .before .before .r .given .1) in
+      let st = sym (c .before .before .before .before .before .before .before .before .before .before .before .before .before .before .before .sign-at .ensures) ∙ not-false _ (c .before .before .before .before .before .before .before .before .before .before .before .before .before .before .if1 .left) in let g = sign-inside (opOf (c .before .before .before .before .before .before .before .before .before .before .before .before .before .before .before .before .before .before .before .args .sign)) (now (c .before .before .before .before .before .before .before .before .before .before .before .before .before .before .before .before .before .before .before .args .s)) (c .before .before .before .before .before .before .before .before .before .before .before .before .before .before .before .before .before .before .before .args .at) (c .before .before .before .before .before .before .before .before .before .before .before .before .before .before .before .before .before .before .before .pre .1 .ready .within) st in let k = sign-some (opOf (c .before .before .before .before .before .before .before .before .before .before .before .before .before .before .before .before .before .before .before .args .sign)) in let y = c .before .before .before .before .before .before .before .before .before .before .before .before .before .sign-len .ensures in let w = far (c .before .before .before .before .before .before .before .before .before .before .before .below-part .ensures) (c .before .before .before .before .before .before .before .r .given .1) in
       λ n x f l he hs. by (more-one _ _ _ n f _ st (omega (arith, g, k, y)) l)
-      (join _ _ (c .before .before .before .before .before .before .before .before .before .before .before .before .before .before .before .before .before .before .before .args .sign) f (onward (opOf (c .before .before .before .before .before .before .before .before .before .before .before .before .before .before .before .before .before .before .before .args .sign)) _ _ (n - 1)) (c .before .before .before .before .before .before .before .before .before .before .before .before .before .before .before .before .before .before .before .pre .1 .1) (omega (arith, g, k, y)) (c .before .before .before .before .before .before .before .before .before .before .before .before .before .before .before .before .before .before .before .pre .1 .0 .arena) he hs (was (by (ap (below (opOf (c .before .before .before .before .before .before .before .before .before .before .before .before .before .before .before .before .before .before .before .args .sign)) _ _) (omega (arith, y))) (c .before .before .before .before .before .before .before .before .before .before .before .below-part .ensures)) (c .before .before .before .before .before .before .before .r .given .1)) (room-for (c .before .before .before .before .before .before .before .before .before .before .before .before .before .before .before .before .before .before .before .pre .1 .0) _ 1 (omega (arith, g, k, y, w .ahead, w .inside, w .fresh, w .nodes, w .rows, w .hidden)) (search needs)) (c .before .before .before .before .put-node .ensures)
+      (join _ _ (c .before .before .before .before .before .before .before .before .before .before .before .before .before .before .before .before .before .before .before .args .sign) f (onward (opOf (c .before .before .before .before .before .before .before .before .before .before .before .before .before .before .before .before .before .before .before .args .sign)) _ _ (n - 1)) (c .before .before .before .before .before .before .before .before .before .before .before .before .before .before .before .before .before .before .before .pre .1 .some) (omega (arith, g, k, y)) (c .before .before .before .before .before .before .before .before .before .before .before .before .before .before .before .before .before .before .before .pre .1 .ready .arena) he hs (was (by (ap (below (opOf (c .before .before .before .before .before .before .before .before .before .before .before .before .before .before .before .before .before .before .before .args .sign)) _ _) (omega (arith, y))) (c .before .before .before .before .before .before .before .before .before .before .before .below-part .ensures)) (c .before .before .before .before .before .before .before .r .given .1)) (room-for (c .before .before .before .before .before .before .before .before .before .before .before .before .before .before .before .before .before .before .before .pre .1 .ready) _ 1 (omega (arith, g, k, y)) (search needs)) (c .before .before .before .before .put-node .ensures)
       (λ z hz hs′ ar. by (onward-stop (opOf (c .before .before .before .before .before .before .before .before .before .before .before .before .before .before .before .before .before .before .before .args .sign)) (below (opOf (c .before .before .before .before .before .before .before .before .before .before .before .before .before .before .before .before .before .before .before .args .sign)) (plain (c .before .before .before .before .before .before .before .before .before .before .before .before .before .before .before .before .before .before .before .args .depth) (namesAt (now (c .before .before .before .before .before .before .before .before .before .before .before .before .before .before .before .before .before .before .before .args .s)) (now (c .before .before .before .before .before .before .before .before .before .before .before .before .before .before .before .before .before .before .before .args .names))) (now (c .before .before .before .before .before .before .before .before .before .before .before .before .before .before .before .before .before .before .before .args .s))) (now (c .before .before .before .before .before .before .before .before .before .before .before .before .before .before .before .before .before .before .before .args .s))) (now (c .before .before .before .before .before .before .before .before .before .before .before .before .before .before .before .before .before .before .before .args .s)) (n - 1) z _ (c .before .repeats .ensures) (c .if2 .left)) (stop (w .inside) ar hz hs′)))
 
   paren-returns : paren-lts.Need-returns paren-calls paren-at paren.Post
@@ -420,7 +420,7 @@ module _ (t : ℕ) where
   paren-sub-joined c = search needs
 
   paren-joined-requires : paren-lts.Need-joined-requires paren-calls paren-at paren.Post
-  paren-joined-requires c κs = (omega (arith, c .before .before .before .before .before .pre .1 .1), on (c .before .before .before .before .before .pre .1 .0) _ _ _ (omega (arith, c .before .before .before .before .before .pre .1 .1)) (omega arith) (omega arith) (c .before .before .before .before .before .pre .1 .0 .arena) refl)
+  paren-joined-requires c κs = (omega (arith, c .before .before .before .before .before .pre .1 .inside), on (c .before .before .before .before .before .pre .1 .ready) _ _ _ (omega (arith, c .before .before .before .before .before .pre .1 .inside)) (omega arith) (omega arith) (c .before .before .before .before .before .pre .1 .ready .arena) refl)
 
   paren-enum-known-r : paren-lts.Need-enum-known-r paren-calls paren-at paren.Post
   paren-enum-known-r c = search needs
@@ -444,7 +444,7 @@ module _ (t : ℕ) where
   paren-returns-3 c = by (paren-on _ _ _ _ (c .before .before .before .before .before .before .before .before .before .if1 .left)) (unshut _ _ (was (c .before .before .before .before .before .before .before .joined .ensures) (c .before .before .before .r .given .1)) (λ e. c .if2 .taken (c .before .byte-at .ensures ∙ e)) (λ f. refl))
 
   paren-add-after : paren-lts.Need-add-after paren-calls paren-at paren.Post
-  paren-add-after c = let w = far (c .before .before .before .before .before .before .before .joined .ensures) (c .before .before .before .r .given .1) in omega (arith, w .ahead, w .inside, w .fresh, w .nodes, w .rows, w .hidden)
+  paren-add-after c = let w = far (c .before .before .before .before .before .before .before .joined .ensures) (c .before .before .before .r .given .1) in omega arith
 
   paren-same-length-3 : paren-lts.Need-same-length-3 paren-calls paren-at paren.Post
   paren-same-length-3 c = search needs
@@ -462,19 +462,19 @@ module _ (t : ℕ) where
   plain-part-enum-told c = search needs
 
   plain-part-word-requires : plain-part-lts.Need-word-requires plain-part-calls plain-part-at plain-part.Post
-  plain-part-word-requires c κs = (omega arith, (c .before .before .before .before .before .before .before .before .pre .1, class-told _ _ (c .before .before .before .before .byte-at .ensures) (c .before .before .before .class-of .ensures) (c .before .enum-told .given .1)))
+  plain-part-word-requires c κs = (omega arith, record { ready = c .before .before .before .before .before .before .before .before .pre .1; letter = class-told _ _ (c .before .before .before .before .byte-at .ensures) (c .before .before .before .class-of .ensures) (c .before .enum-told .given .1) })
 
   plain-part-enum-told-2 : plain-part-lts.Need-enum-told-2 plain-part-calls plain-part-at plain-part.Post
   plain-part-enum-told-2 c = search needs
 
   plain-part-deny-requires : plain-part-lts.Need-deny-requires plain-part-calls plain-part-at plain-part.Post
-  plain-part-deny-requires c κs = (omega arith, (c .before .before .before .before .before .before .before .before .before .pre .1, byte-inside _ _ (byte "!") (c .before .before .before .before .before .byte-at .ensures) (c .before .if1 .taken) (λ z. omega arith)))
+  plain-part-deny-requires c κs = (omega arith, record { ready = c .before .before .before .before .before .before .before .before .before .pre .1; inside = byte-inside _ _ (byte "!") (c .before .before .before .before .before .byte-at .ensures) (c .before .if1 .taken) (λ z. omega arith) })
 
   plain-part-enum-told-3 : plain-part-lts.Need-enum-told-3 plain-part-calls plain-part-at plain-part.Post
   plain-part-enum-told-3 c = search needs
 
   plain-part-paren-requires : plain-part-lts.Need-paren-requires plain-part-calls plain-part-at plain-part.Post
-  plain-part-paren-requires c κs = (omega arith, (c .before .before .before .before .before .before .before .before .before .pre .1, byte-inside _ _ (byte "(") (c .before .before .before .before .before .byte-at .ensures) (c .before .if2 .taken) (λ z. omega arith)))
+  plain-part-paren-requires c κs = (omega arith, record { ready = c .before .before .before .before .before .before .before .before .before .pre .1; inside = byte-inside _ _ (byte "(") (c .before .before .before .before .before .byte-at .ensures) (c .before .if2 .taken) (λ z. omega arith) })
 
   plain-part-enum-told-4 : plain-part-lts.Need-enum-told-4 plain-part-calls plain-part-at plain-part.Post
   plain-part-enum-told-4 c = search needs
@@ -522,7 +522,7 @@ module _ (t : ℕ) where
   second-add-inner c = search needs
 
   second-joined-requires : second-lts.Need-joined-requires second-calls second-at second.Post
-  second-joined-requires c κs = let i = byte-inside _ _ (byte ",") (c .before .before .byte-at .ensures) (c .before .if1 .left) (λ z. omega arith) in (omega (arith, i), on (c .before .before .before .before .before .before .pre .1 .0) _ _ _ (omega (arith, i)) (omega arith) (omega arith) (c .before .before .before .before .before .before .pre .1 .0 .arena) refl)
+  second-joined-requires c κs = let i = byte-inside _ _ (byte ",") (c .before .before .byte-at .ensures) (c .before .if1 .left) (λ z. omega arith) in (omega (arith, i), on (c .before .before .before .before .before .before .pre .1 .ready) _ _ _ (omega (arith, i)) (omega arith) (omega arith) (c .before .before .before .before .before .before .pre .1 .ready .arena) refl)
 
   second-enum-known-r : second-lts.Need-enum-known-r second-calls second-at second.Post
   second-enum-known-r c = search needs
@@ -549,19 +549,19 @@ module _ (t : ℕ) where
   second-sub-left c = search needs
 
   second-sub-right : second-lts.Need-sub-right second-calls second-at second.Post
-  second-sub-right c = let w = far (c .before .before .before .before .before .before .before .joined .ensures) (c .before .before .before .r .given .1) in omega (arith, w .ahead, w .inside, w .fresh, w .nodes, w .rows, w .hidden)
+  second-sub-right c = let w = far (c .before .before .before .before .before .before .before .joined .ensures) (c .before .before .before .r .given .1) in omega arith
 
   second-cast-put-keep : second-lts.Need-cast-put-keep second-calls second-at second.Post
-  second-cast-put-keep c = omega (arith, c .before .before .before .before .before .before .before .before .before .before .before .before .before .before .before .pre .1 .0 .rows)
+  second-cast-put-keep c = omega (arith, c .before .before .before .before .before .before .before .before .before .before .before .before .before .before .before .pre .1 .ready .rows)
 
   second-put-keep-requires : second-lts.Need-put-keep-requires second-calls second-at second.Post
-  second-put-keep-requires c κs = let w = far (c .before .before .before .before .before .before .before .before .joined .ensures) (c .before .before .before .before .r .given .1) in let i = byte-inside _ _ (byte ")") (c .before .before .byte-at2 .ensures) (c .before .if2 .left) (λ z. omega arith) in (room-for (c .before .before .before .before .before .before .before .before .before .before .before .before .before .before .before .pre .1 .0) _ 6 (omega (arith, w .ahead, w .inside, w .fresh, w .nodes, w .rows, w .hidden, i)) (search needs), (omega (arith, w .ahead, w .inside, w .fresh, w .nodes, w .rows, w .hidden), omega (arith, w .ahead, w .inside, w .fresh, w .nodes, w .rows, w .hidden)))
+  second-put-keep-requires c κs = let w = far (c .before .before .before .before .before .before .before .before .joined .ensures) (c .before .before .before .before .r .given .1) in let i = byte-inside _ _ (byte ")") (c .before .before .byte-at2 .ensures) (c .before .if2 .left) (λ z. omega arith) in (room-for (c .before .before .before .before .before .before .before .before .before .before .before .before .before .before .before .pre .1 .ready) _ 6 (omega (arith, i)) (search needs), (omega arith, omega arith))
 
   second-add-after : second-lts.Need-add-after second-calls second-at second.Post
-  second-add-after c = let w = far (c .before .before .before .before .before .before .before .before .before .before .before .joined .ensures) (c .before .before .before .before .before .before .before .r .given .1) in omega (arith, w .ahead, w .inside, w .fresh, w .nodes, w .rows, w .hidden)
+  second-add-after c = let w = far (c .before .before .before .before .before .before .before .before .before .before .before .joined .ensures) (c .before .before .before .before .before .before .before .r .given .1) in omega arith
 
   second-add-count : second-lts.Need-add-count second-calls second-at second.Post
-  second-add-count c = let w = far (c .before .before .before .before .before .before .before .before .before .before .before .joined .ensures) (c .before .before .before .before .before .before .before .r .given .1) in omega (arith, w .ahead, w .inside, w .fresh, w .nodes, w .rows, w .hidden, c .before .before .before .before .before .before .before .before .before .before .before .before .before .before .before .before .before .before .pre .1 .0 .room .few)
+  second-add-count c = let w = far (c .before .before .before .before .before .before .before .before .before .before .before .joined .ensures) (c .before .before .before .before .before .before .before .r .given .1) in omega (arith, c .before .before .before .before .before .before .before .before .before .before .before .before .before .before .before .before .before .before .pre .1 .ready .room .few)
 
   second-same-length-3 : second-lts.Need-same-length-3 second-calls second-at second.Post
   second-same-length-3 c = search needs
@@ -570,7 +570,7 @@ module _ (t : ℕ) where
   second-returns-4 c =
       let w = far (c .before .before .before .before .before .before .before .before .before .before .before .joined .ensures) (c .before .before .before .before .before .before .before .r .given .1) in let i = byte-inside _ _ (byte ")") (c .before .before .before .before .before .byte-at2 .ensures) (c .before .before .before .before .if2 .left) (λ z. omega arith) in
       λ f hf hs. by (second-some _ _ _ f _ (sym (c .before .before .before .before .before .before .before .before .before .before .before .before .before .before .byte-at .ensures) ∙ c .before .before .before .before .before .before .before .before .before .before .before .before .before .if1 .left))
-      (shut-keep _ _ f (was (c .before .before .before .before .before .before .before .before .before .before .before .joined .ensures) (c .before .before .before .before .before .before .before .r .given .1)) _ _ _ (c .before .before .before .before .before .before .before .before .before .before .before .before .before .before .before .before .before .before .pre .1 .1) (omega arith) (c .before .before .before .before .before .before .before .before .before .before .before .before .before .before .before .before .before .before .pre .1 .0 .arena) hf hs (room-for (c .before .before .before .before .before .before .before .before .before .before .before .before .before .before .before .before .before .before .pre .1 .0) _ 6 (omega (arith, w .ahead, w .inside, w .fresh, w .nodes, w .rows, w .hidden, i)) (search needs)) (c .before .before .put-keep .ensures) (sym (c .before .before .before .before .before .byte-at2 .ensures) ∙ c .before .before .before .before .if2 .left) i)
+      (shut-keep _ _ f (was (c .before .before .before .before .before .before .before .before .before .before .before .joined .ensures) (c .before .before .before .before .before .before .before .r .given .1)) _ _ _ (c .before .before .before .before .before .before .before .before .before .before .before .before .before .before .before .before .before .before .pre .1 .some) (omega arith) (c .before .before .before .before .before .before .before .before .before .before .before .before .before .before .before .before .before .before .pre .1 .ready .arena) hf hs (room-for (c .before .before .before .before .before .before .before .before .before .before .before .before .before .before .before .before .before .before .pre .1 .ready) _ 6 (omega (arith, i)) (search needs)) (c .before .before .put-keep .ensures) (sym (c .before .before .before .before .before .byte-at2 .ensures) ∙ c .before .before .before .before .if2 .left) i)
 
   timed-plain-part-requires : timed-lts.Need-plain-part-requires timed-calls timed-at timed.Post
   timed-plain-part-requires c κs = (omega arith, c .before .before .before .before .pre .1)
@@ -589,14 +589,14 @@ module _ (t : ℕ) where
   timed-returns c = hand-on _ (c .before .before .before .before .plain-part .ensures) (c .enum-told .given .1)
 
   timed-times-at-requires : timed-lts.Need-times-at-requires timed-calls timed-at timed.Post
-  timed-times-at-requires c κs = let w = far (c .before .before .before .before .before .before .plain-part .ensures) (c .before .before .r .given .1) in (bare (on (c .before .before .before .before .before .before .before .before .before .before .before .pre .1) _ _ _ (w .inside) (omega (arith, w .ahead, w .inside, w .fresh, w .nodes, w .rows, w .hidden)) (omega (arith, w .ahead, w .inside, w .fresh, w .nodes, w .rows, w .hidden)) (left (c .before .before .before .before .before .before .plain-part .ensures) (c .before .before .r .given .1)) (search needs)), omega (arith, w .ahead, w .inside, w .fresh, w .nodes, w .rows, w .hidden))
+  timed-times-at-requires c κs = let w = far (c .before .before .before .before .before .before .plain-part .ensures) (c .before .before .r .given .1) in record { ready = bare (on (c .before .before .before .before .before .before .before .before .before .before .before .pre .1) _ _ _ (w .inside) (omega arith) (omega arith) (left (c .before .before .before .before .before .before .plain-part .ensures) (c .before .before .r .given .1)) (search needs)); some = omega arith }
 
   timed-same-length-2 : timed-lts.Need-same-length-2 timed-calls timed-at timed.Post
   timed-same-length-2 c = search needs
 
   timed-returns-2 : timed-lts.Need-returns-2 timed-calls timed-at timed.Post
   unfolding timedPart
-  timed-returns-2 c = let w = far (c .before .before .before .before .before .before .before .before .before .plain-part .ensures) (c .before .before .before .before .before .r .given .1) in then _ _ _ (omega (arith, w .ahead, w .inside, w .fresh, w .nodes, w .rows, w .hidden)) (omega arith) (omega arith) (omega arith) (was (c .before .before .before .before .before .before .before .before .before .plain-part .ensures) (c .before .before .before .before .before .r .given .1)) (λ f hf hs. c .before .before .times-at .ensures _ _ f (omega arith) hf hs)
+  timed-returns-2 c = let w = far (c .before .before .before .before .before .before .before .before .before .plain-part .ensures) (c .before .before .before .before .before .r .given .1) in then _ _ _ (omega arith) (omega arith) (omega arith) (omega arith) (was (c .before .before .before .before .before .before .before .before .before .plain-part .ensures) (c .before .before .before .before .before .r .given .1)) (λ f hf hs. c .before .before .times-at .ensures _ _ f (omega arith) hf hs)
 
   word-is-since-requires : word-lts.Need-is-since-requires word-calls word-at word.Post
   word-is-since-requires c κs = search needs
@@ -605,7 +605,7 @@ module _ (t : ℕ) where
   word-add-next c = search needs
 
   word-keep-requires : word-lts.Need-keep-requires word-calls word-at word.Post
-  word-keep-requires c κs = let i = since-inside _ _ (c .before .before .before .before .before .before .pre .1 .0 .within) (c .before .before .is-since .ensures) (c .before .if1 .taken) in (omega arith, (on (c .before .before .before .before .before .before .pre .1 .0) _ _ _ (omega arith) (omega arith) (omega arith) (c .before .before .before .before .before .before .pre .1 .0 .arena) refl, omega arith, i))
+  word-keep-requires c κs = let i = since-inside _ _ (c .before .before .before .before .before .before .pre .1 .ready .within) (c .before .before .is-since .ensures) (c .before .if1 .taken) in (omega arith, record { ready = on (c .before .before .before .before .before .before .pre .1 .ready) _ _ _ (omega arith) (omega arith) (omega arith) (c .before .before .before .before .before .before .pre .1 .ready .arena) refl; keyword = omega arith; within = i })
 
   word-is-until-requires : word-lts.Need-is-until-requires word-calls word-at word.Post
   word-is-until-requires c κs = search needs
@@ -614,7 +614,7 @@ module _ (t : ℕ) where
   word-add-next-2 c = search needs
 
   word-keep-requires-2 : word-lts.Need-keep-requires-2 word-calls word-at word.Post
-  word-keep-requires-2 c κs = let i = until-inside _ _ (c .before .before .before .before .before .before .before .before .pre .1 .0 .within) (c .before .before .is-until .ensures) (c .before .if2 .taken) in (omega arith, (on (c .before .before .before .before .before .before .before .before .pre .1 .0) _ _ _ (omega arith) (omega arith) (omega arith) (c .before .before .before .before .before .before .before .before .pre .1 .0 .arena) refl, omega arith, i))
+  word-keep-requires-2 c κs = let i = until-inside _ _ (c .before .before .before .before .before .before .before .before .pre .1 .ready .within) (c .before .before .is-until .ensures) (c .before .if2 .taken) in (omega arith, record { ready = on (c .before .before .before .before .before .before .before .before .pre .1 .ready) _ _ _ (omega arith) (omega arith) (omega arith) (c .before .before .before .before .before .before .before .before .pre .1 .ready .arena) refl; keyword = omega arith; within = i })
 
   word-name-requires : word-lts.Need-name-requires word-calls word-at word.Post
   word-name-requires c κs = search needs

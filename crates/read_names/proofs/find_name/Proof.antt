@@ -18,7 +18,7 @@ sub-n c =
 find-quick-requires : tie.Need-find-quick-requires
 find-quick-requires c κs =
     let w = end-reach nameByte (now (c .before .before .before .before .before .before .args .r)) (c .before .before .before .before .before .before .args .at) (omega arith) in
-    (omega arith, c .before .before .word-end .ensures, omega (arith, w .inside, c .before .before .word-end .ensures), omega arith)
+    record { some = omega arith; ends = c .before .before .word-end .ensures; inside = omega (arith, w .inside, c .before .before .word-end .ensures); fits = omega arith }
 
 returns : tie.Need-returns
 returns c = search needs

@@ -61,12 +61,12 @@ shared-slice-read-if2 c = search needs
 word-stands-requires : tie.Need-word-stands-requires Inv-loop μ-loop
 word-stands-requires c κs =
     let a = c .before .before .before .before .before .before .before .before .before .before .before .before .args in
-    let n = cut-long (now (a .r)) (a .at) (a .e) (c .before .before .before .before .before .before .before .before .before .before .before .before .pre .1) in
+    let n = cut-long (now (a .r)) (a .at) (a .e) (c .before .before .before .before .before .before .before .before .before .before .before .before .pre .ends) in
     omega (arith, length-drop (length (cut (now (a .r)) (a .at) (a .e)) - 1) (now (a .s)))
 
 returns : tie.Need-returns Inv-loop μ-loop
 returns c =
-    sym (c .before .before .before .before .before .before .before .loop .inv ∙ search-here _ _ _ _ (omega arith) (sym (cut-same _ _ _ (c .before .before .before .before .before .before .before .before .before .before .before .before .before .before .pre .1) _ _) ∙ sym (c .before .word-stands .ensures) ∙ c .if3 .taken))
+    sym (c .before .before .before .before .before .before .before .loop .inv ∙ search-here _ _ _ _ (omega arith) (sym (cut-same _ _ _ (c .before .before .before .before .before .before .before .before .before .before .before .before .before .before .pre .ends) _ _) ∙ sym (c .before .word-stands .ensures) ∙ c .if3 .taken))
 
 add-i : tie.Need-add-i Inv-loop μ-loop
 add-i c = search needs
@@ -77,7 +77,7 @@ loop-less c = search needs
 loop-again : tie.Need-loop-again Inv-loop μ-loop
 loop-again c =
     let a = c .before .before .before .before .before .before .before .before .before .before .args in
-    let ends = c .before .before .before .before .before .before .before .before .before .before .pre .1 in
+    let ends = c .before .before .before .before .before .before .before .before .before .before .pre .ends in
     let k = length (cut (now (a .r)) (a .at) (a .e)) - 1 in
     let n = cut-long (now (a .r)) (a .at) (a .e) ends in
     c .before .before .before .loop .inv

@@ -18,7 +18,7 @@ enum-known-l c = search needs
 rule-to-requires : tie.Need-rule-to-requires
 rule-to-requires c κs =
     let a = answered says (c .before .before .before .before .line-at .ensures) (c .before .before .l .given .1) in
-    (line-ready _ _ a (c .before .before .before .before .before .before .before .before .before .pre), line-ended _ _ a)
+    record { ready = line-ready _ _ a (c .before .before .before .before .before .before .before .before .before .pre); ended = line-ended _ _ a }
 
 enum-known-l-2 : tie.Need-enum-known-l-2
 enum-known-l-2 c = search needs

@@ -23,7 +23,7 @@ slice-aggregate-rule : tie.Need-slice-aggregate-rule
 slice-aggregate-rule c = simp length-take (omega arith)
 
 rule-requires : tie.Need-rule-requires
-rule-requires c κs = rule-ready _ _ _ _ _ _ (c .before .before .before .before .before .before .before .pre .0) (c .before .before .before .before .before .before .before .pre .1) (omega arith)
+rule-requires c κs = rule-ready _ _ _ _ _ _ (c .before .before .before .before .before .before .before .pre .ready) (c .before .before .before .before .before .before .before .pre .ended) (omega arith)
 
 enum-known-r : tie.Need-enum-known-r
 enum-known-r c = search needs
@@ -38,7 +38,7 @@ returns-3 : tie.Need-returns-3
 returns-3 c =
     let e = c .enum-told .given .1 in
     subst (RuleRead _ _ _) (sym e)
-    (rule-refused _ _ _ _ _ _ (c .before .before .before .before .before .before .before .before .before .before .before .before .pre .0) (c .before .before .before .before .before .before .before .before .before .before .before .before .pre .1) (omega arith) _ (omega arith) (subst (Parses _ _ _ _ _ _ _ _ _) e (c .before .before .before .before .rule .ensures)))
+    (rule-refused _ _ _ _ _ _ (c .before .before .before .before .before .before .before .before .before .before .before .before .pre .ready) (c .before .before .before .before .before .before .before .before .before .before .before .before .pre .ended) (omega arith) _ (omega arith) (subst (Parses _ _ _ _ _ _ _ _ _) e (c .before .before .before .before .rule .ensures)))
 
 add-next : tie.Need-add-next
 add-next c = search needs
@@ -47,7 +47,7 @@ same-length-2 : tie.Need-same-length-2
 same-length-2 c = search needs
 
 returns-4 : tie.Need-returns-4
-returns-4 c = rule-read _ _ _ _ _ _ (c .before .before .before .before .before .before .before .before .before .before .before .before .before .pre .0) (c .before .before .before .before .before .before .before .before .before .before .before .before .before .pre .1) (omega arith) _ (omega arith) (subst (Parses _ _ _ _ _ _ _ _ _) (c .before .r .given .1) (c .before .before .before .before .before .rule .ensures))
+returns-4 c = rule-read _ _ _ _ _ _ (c .before .before .before .before .before .before .before .before .before .before .before .before .before .pre .ready) (c .before .before .before .before .before .before .before .before .before .before .before .before .before .pre .ended) (omega arith) _ (omega arith) (subst (Parses _ _ _ _ _ _ _ _ _) (c .before .r .given .1) (c .before .before .before .before .before .rule .ensures))
 
 pub rule-to-spec : {M : Type 1} → statement M
 rule-to-spec =

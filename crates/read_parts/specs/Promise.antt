@@ -1,0 +1,121 @@
+-- What a reader of a part asks, and what it promises of the text, the declared names in it and the arena that are lent to it.
+-- Assumes nothing. `s` is the text, `names` are the places of the declared names in it, `arena` has m nodes, h is the next hidden signal's
+-- row, and at most d of `(` and `!` may still be opened.
+use mathlib.Core.Path.{_≡_}
+use mathlib.Core.Bool.{Bool}
+use mathlib.Core.List.{List}
+use mathlib.Core.Option.{Option}
+use Prim.Native.Nat.{ℕ, suc, _+_, _-_, _≤_, _<_}
+use lib.ListN.{length}
+use Rattle.read_bytes.specs.declared.bytes.Class.the-variants.{Letter}
+use Rattle.read_bytes.specs.Read.{Read}
+use Rattle.read_bytes.specs.Bytes.{peek, classOf}
+use Rattle.read_names.specs.Slices.{Slice, before, after, namesOf}
+use Rattle.spec_tilco.specs.Formula.{Op, Written, hiddens}
+use Rattle.read_arena.specs.Readings.{Held}
+use Rattle.read_parts.specs.declared.parts.Parsed.{Parsed}
+use Rattle.read_parts.specs.Grammar.{Reader, declared, timedPart, times, more, level, below, formula, negated, inParens, second, kept, worded, inside, plain, rule}
+use Rattle.read_parts.specs.Parsed.{Ready, Parses}
+
+-- ---- what is asked
+
+-- Ready at a byte of the text.
+pub record AtByte (s a names : List ℕ) (p m h : ℕ) : Type 0 where
+  pub ready : Ready s a names p m h
+  pub inside : p < length s
+
+-- Ready at a letter.
+pub record AtLetter (s a names : List ℕ) (p m h : ℕ) : Type 0 where
+  pub ready : Ready s a names p m h
+  pub letter : classOf (peek s p) ≡ Letter
+
+-- Ready after a part, whose node is the last one.
+pub record AfterPart (s a names : List ℕ) (p m h : ℕ) : Type 0 where
+  pub ready : Ready s a names p m h
+  pub some : 0 < m
+
+-- Ready after since or until, whose five bytes count as what is left.
+pub record AfterKeyword (s a names : List ℕ) (p m h : ℕ) : Type 0 where
+  pub ready : Ready s a names (p - 5) m h
+  pub keyword : 5 ≤ p
+  pub within : p ≤ length s
+
+-- Ready after the first formula of since or until, whose node is the last one; four bytes before p count as what is left, and the hidden
+-- signal has its row before h.
+pub record AfterFirst (s a names : List ℕ) (p m h row : ℕ) : Type 0 where
+  pub ready : Ready s a names (p - 4) m h
+  pub some : 0 < m
+  pub numbered : row < h
+  pub four : 4 ≤ p
+  pub within : p ≤ length s
+
+-- ---- what the text says at p, by the definitions of Grammar
+
+abbrev pub declaredAt : Slice → Slice → ℕ → Read Written
+declaredAt s names p = declared (namesOf s names) (before s) p
+
+abbrev pub timesAt : Slice → ℕ → ℕ → Written → Read Written
+timesAt s p n f = times (before s) n f p
+
+abbrev pub ruleAt : Slice → Slice → ℕ → Read Written
+ruleAt s names p = rule (namesOf s names) (before s) p
+
+module _ (s names : Slice) (d : ℕ) where
+  abbrev text : List ℕ
+  text = before s
+
+  -- What reads a plain part, and what reads one inside what it opens.
+  abbrev outer : Reader
+  outer = plain d (namesOf s names) text
+
+  abbrev inner : Option Reader
+  inner = inside d (namesOf s names) text
+
+  abbrev pub plainAt : ℕ → Read Written
+  plainAt p = outer p
+
+  abbrev pub timedAt : ℕ → Read Written
+  timedAt p = timedPart outer text p
+
+  abbrev pub belowAt : Op → ℕ → Read Written
+  belowAt o p = below o outer text p
+
+  abbrev pub levelAt : Op → ℕ → Read Written
+  levelAt o p = level o (below o outer text) text p
+
+  abbrev pub moreAt : Op → ℕ → ℕ → Written → Read Written
+  moreAt o p n f = more o (below o outer text) text n f p
+
+  abbrev pub negatedAt : ℕ → Read Written
+  negatedAt p = negated inner p
+
+  abbrev pub parensAt : ℕ → Read Written
+  parensAt p = inParens inner text p
+
+  abbrev pub wordedAt : ℕ → Read Written
+  wordedAt p = worded inner (namesOf s names) text p
+
+  abbrev pub keptAt : Bool → ℕ → Read Written
+  keptAt since p = kept inner since text p
+
+  abbrev pub secondAt : Bool → ℕ → Written → Read Written
+  secondAt since p f = second since (formula outer text) text f p
+
+-- ---- what is promised, of a part R whose bytes and nodes are counted from p on
+
+-- The answer is what R says, and on a formula the arena holds it at its last node, its hidden signals numbered from h.
+abbrev pub Reads : Read Written → Slice → Slice → ℕ → ℕ → ℕ → Parsed → Type 0
+Reads R s arena p m h r = Parses (before arena) (after arena) (length (before s)) 1 p m h h R r
+
+-- The same of what follows a part: whatever formula f stands at the last node, its hidden signals numbered from x, the answer is what R says
+-- of f, with enough turns n.
+abbrev pub ReadsOn : (ℕ → Written → Read Written) → Slice → Slice → ℕ → ℕ → ℕ → Parsed → Type 0
+ReadsOn R s arena p m h r =
+    (n x : ℕ) (f : Written) → length (before s) ≤ p + n → Held (before arena) x (m - 1) f → h ≡ x + hiddens f
+    → Parses (before arena) (after arena) (length (before s)) 0 p m h x (R n f) r
+
+-- The same of what follows the first formula f of since or until, whose own hidden signal has the row before those of f.
+abbrev pub ReadsSecond : (Written → Read Written) → Slice → Slice → ℕ → ℕ → ℕ → ℕ → Parsed → Type 0
+ReadsSecond R s arena p m h row r =
+    (f : Written) → Held (before arena) (suc row) (m - 1) f → h ≡ suc row + hiddens f
+    → Parses (before arena) (after arena) (length (before s)) 0 p m h row (R f) r
