@@ -5,7 +5,7 @@ use mathlib.Core.List.{List, map}
 use Prim.Native.Nat.{ℕ, _+_, _*_, _/_, _%_, _<_, _≤_}
 use lib.Dec.{eqb}
 use lib.ListN.{length, take}
-use Rattle.spec_limits.specs.Limits.{mostClosed}
+use Rattle.spec_limits.specs.Limits.{mostClosed, mostReadings, mostSignals}
 use Rattle.read_lines.specs.declared.Step.{Step}
 use Rattle.read_lines.specs.declared.Step.the-variants.{Got, Refused}
 use Rattle.read_bytes.specs.Read.{Read}
@@ -19,6 +19,13 @@ markOf w = mark (w / (2 * mostClosed)) (w / 2 % mostClosed) (eqb (w % 2) 1)
 -- The marks that the first k numbers of an array are.
 unfoldable pub marksIn : List ℕ → ℕ → List Mark
 marksIn a k = map markOf (take k a)
+
+-- Readings can be noted in the array a: their window has ticks, its marks have numbers, and the array has room for every reading of a text.
+pub record Notable (places : List ℕ) (window : ℕ) (a : List ℕ) : Type 0 where
+  pub some : 1 ≤ window
+  pub ticks : window ≤ mostClosed
+  pub signals : length places ≤ mostSignals
+  pub room : mostReadings ≤ length a
 
 -- What each answer says of the text, R, and the array: its first k numbers are the text's marks, or the text is refused.
 pub data Notes (R : Read (List Mark)) (a : List ℕ) : Step → Type 0 where

@@ -7,17 +7,15 @@ use read_reading::reading_at;
 use spec_limits::BYTES;
 use spec_limits::READINGS;
 ghost use mathlib.Core.Path.{_≡_};
-ghost use Prim.Native.Nat.{ℕ, _*_, _≤_};
-ghost use lib.ListN.{length};
-ghost use Rattle.spec_limits.specs.Limits.{mostClosed, mostReadings, mostSignals};
+ghost use Prim.Native.Nat.{ℕ};
 ghost use Rattle.read_lines.specs.declared.Step.the-variants.{Refused};
 ghost use Rattle.read_bytes.specs.Read.{Refusal};
 ghost use Rattle.read_bytes.specs.Read.Read.{refused};
-ghost use Rattle.read_names.specs.Words.{namesAt};
+ghost use Rattle.read_names.specs.Slices.{before, after, namesOf};
 ghost use Rattle.read_reading.specs.OneReading.{readingOf};
 ghost use Rattle.read_readings.specs.Readings.{readings};
-ghost use Rattle.read_readings.specs.Noted.{Notes};
-ghost use Rattle.read_readings.specs.Taking.{Took};
+ghost use Rattle.read_readings.specs.Noted.{Notable, Notes};
+ghost use Rattle.read_readings.specs.Taking.{Takable, Took};
 
 // A whole text is accepted, or a refusal's number and place are given.
 pub enum Outcome {
@@ -43,8 +41,8 @@ fn refused_reading(a: Reading) -> Step
 
 // Notes the mark of each reading of the text: how many there are, and the text's end.
 fn note_readings(s: &[u8], places: &[u64], window: usize, r: &[u8], noted: &mut [u32]) -> Step
-    requires { ⌜ (1 ≤ window) × (window ≤ mostClosed) × (length (now places) ≤ mostSignals) × (mostReadings ≤ length (now noted)) ⌝ }
-    ensures { λ v. ⌜ Notes (readings (namesAt (now (s .entry)) (now (places .entry))) window (now (r .entry))) (now (noted .exit)) v ⌝ }
+    requires { ⌜ Notable (now places) window (now noted) ⌝ }
+    ensures { λ v. ⌜ Notes (readings (namesOf s places) window (before r)) (after noted) v ⌝ }
 {
     if BYTES < r.len() {
         return Step::Refused(10, 0);
@@ -80,8 +78,8 @@ pub fn take_readings(
     r: &[u8],
     table: &mut [u64],
 ) -> Outcome
-    requires { ⌜ (1 ≤ window) × (window ≤ mostClosed) × (window ≤ 64 * n) × (length (now places) ≤ mostSignals) × (2 * length (now places) * n ≤ length (now table)) ⌝ }
-    ensures { λ v. ⌜ Took (readings (namesAt (now (s .entry)) (now (places .entry))) window (now (r .entry))) n (now (table .entry)) (now (table .exit)) v ⌝ }
+    requires { ⌜ Takable (now places) window n (now table) ⌝ }
+    ensures { λ v. ⌜ Took (readings (namesOf s places) window (before r)) n (before table) (after table) v ⌝ }
 {
     let mut noted = [1u32; READINGS];
     let c = note_readings(s, places, window, r, &mut noted);

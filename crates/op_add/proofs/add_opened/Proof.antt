@@ -17,7 +17,7 @@ count-facts-requires c κs = (some-words (c .before .before .before .before .bef
 take-readings-requires : tie.Need-take-readings-requires
 take-readings-requires c κs =
     let w = some-window (c .before .before .before .before .before .before .before .before .before .before .pre) _ (c .before .before .before .words-of .ensures) in
-    (w .0, omega (arith, w .1), some-words (c .before .before .before .before .before .before .before .before .before .before .pre) _ (c .before .before .before .words-of .ensures) .1, signals-few (c .before .before .before .before .before .before .before .before .before .before .pre) _ (c .before .before .before .words-of .ensures) .0, signals-fit (c .before .before .before .before .before .before .before .before .before .before .pre) _ (c .before .before .before .words-of .ensures) .0)
+    record { some = w .0; ticks = omega (arith, w .1); covered = some-words (c .before .before .before .before .before .before .before .before .before .before .pre) _ (c .before .before .before .words-of .ensures) .1; signals = signals-few (c .before .before .before .before .before .before .before .before .before .before .pre) _ (c .before .before .before .words-of .ensures) .0; room = signals-fit (c .before .before .before .before .before .before .before .before .before .before .pre) _ (c .before .before .before .words-of .ensures) .0 }
 
 enum-told : tie.Need-enum-told
 enum-told c = search needs

@@ -69,7 +69,7 @@ slice-aggregate-take-readings-3 c = search needs
 take-readings-requires : tie.Need-take-readings-requires
 take-readings-requires c κs =
     let h = when-headed (c .before .before .before .before .before .before .before .head .ensures) (c .before .before .before .before .window .given .1) in
-    (h .1 .window-low, omega (arith, h .1 .window-high), omega (arith, h .1 .window-high), simp length-take (omega (arith, h .1 .signals-high)), simp length-take (omega (arith, h .1 .signals-high)))
+    record { some = h .1 .window-low; ticks = omega (arith, h .1 .window-high); covered = omega (arith, h .1 .window-high); signals = simp length-take (omega (arith, h .1 .signals-high)); room = simp length-take (omega (arith, h .1 .signals-high)) }
 
 enum-told-2 : tie.Need-enum-told-2
 enum-told-2 c = search needs

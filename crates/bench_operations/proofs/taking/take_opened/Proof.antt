@@ -13,7 +13,7 @@ count-facts-requires : tie.Need-count-facts-requires
 count-facts-requires c κs = let n = c .before .words-of .ensures ∙ one-word _ (c .before .before .before .before .before .before .pre .0) (c .before .before .before .before .before .before .pre .1) in rw n (omega arith, omega (arith, c .before .before .before .before .before .before .pre .3), omega (arith, c .before .before .before .before .before .before .pre .2))
 
 take-readings-requires : tie.Need-take-readings-requires
-take-readings-requires c κs = let n = c .before .before .before .words-of .ensures ∙ one-word _ (c .before .before .before .before .before .before .before .before .pre .0) (c .before .before .before .before .before .before .before .before .pre .1) in rw n (c .before .before .before .before .before .before .before .before .pre .0, omega (arith, c .before .before .before .before .before .before .before .before .pre .1), omega (arith, c .before .before .before .before .before .before .before .before .pre .1), c .before .before .before .before .before .before .before .before .pre .2, omega (arith, c .before .before .before .before .before .before .before .before .pre .3))
+take-readings-requires c κs = let n = c .before .before .before .words-of .ensures ∙ one-word _ (c .before .before .before .before .before .before .before .before .pre .0) (c .before .before .before .before .before .before .before .before .pre .1) in rw n (record { some = c .before .before .before .before .before .before .before .before .pre .0; ticks = omega (arith, c .before .before .before .before .before .before .before .before .pre .1); covered = omega (arith, c .before .before .before .before .before .before .before .before .pre .1); signals = c .before .before .before .before .before .before .before .before .pre .2; room = omega (arith, c .before .before .before .before .before .before .before .before .pre .3) })
 
 enum-told : tie.Need-enum-told
 enum-told c = search needs

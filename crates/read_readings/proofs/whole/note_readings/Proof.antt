@@ -37,7 +37,7 @@ unfolding marksIn
 loop-holds c = (refl, omega arith, passed-none _ _)
 
 reading-at-requires : tie.Need-reading-at-requires Inv-loop μ-loop
-reading-at-requires c κs = (c .before .before .before .before .before .before .before .pre .0, c .before .loop .inv .2 .inside)
+reading-at-requires c κs = (c .before .before .before .before .before .before .before .pre .some, c .before .loop .inv .2 .inside)
 
 enum-known-a : tie.Need-enum-known-a Inv-loop μ-loop
 enum-known-a c = search needs
@@ -71,7 +71,7 @@ slice-write-noted : tie.Need-slice-write-noted Inv-loop μ-loop
 slice-write-noted c =
     let a = answered readingOf (c .before .before .before .before .reading-at .ensures) (c .before .before .a .given .1) in
     let w = reading-past _ _ _ _ (omega arith) _ a in
-    omega (arith, c .before .before .before .before .before .before .loop .inv .0, c .before .before .before .before .before .before .loop .inv .1, reading-long _ _ _ _ a, w .past .inside, c .before .before .before .before .before .before .before .if1 .left, c .before .before .before .before .before .before .before .before .before .before .before .before .pre)
+    omega (arith, c .before .before .before .before .before .before .loop .inv .0, c .before .before .before .before .before .before .loop .inv .1, reading-long _ _ _ _ a, w .past .inside, c .before .before .before .before .before .before .before .if1 .left, c .before .before .before .before .before .before .before .before .before .before .before .before .pre .room)
 
 add-count : tie.Need-add-count Inv-loop μ-loop
 add-count c = omega arith
@@ -88,7 +88,7 @@ loop-again c =
     let w = reading-past _ _ _ _ (omega arith) _ a in
     let z = c .before .before .before .before .before .before .loop .inv in
     let u = reading-long _ _ _ _ a in
-    let l : c .before .before .before .before .before .before .loop .count < length (c .before .before .before .before .before .before .loop .noted) = omega (arith, z .0, z .1, u, w .past .inside, c .before .before .before .before .before .before .before .if1 .left, c .before .before .before .before .before .before .before .before .before .before .before .before .pre) in
+    let l : c .before .before .before .before .before .before .loop .count < length (c .before .before .before .before .before .before .loop .noted) = omega (arith, z .0, z .1, u, w .past .inside, c .before .before .before .before .before .before .before .if1 .left, c .before .before .before .before .before .before .before .before .before .before .before .before .pre .room) in
     (simp length-set (z .0), omega (arith, z .1, u), rw (marks-more _ _ l _ (c .number-of .ensures)) (passed-one _ _ (z .2) (c .before .before .before .before .before .loop-test .taken) a (w .past)))
 
 same-length-2 : tie.Need-same-length-2 Inv-loop μ-loop
@@ -96,7 +96,7 @@ same-length-2 c = c .before .loop .inv .0
 
 returns-3 : tie.Need-returns-3 Inv-loop μ-loop
 returns-3 c =
-    all-noted (c .before .loop .count) _ (omega (arith, c .before .loop .inv .0, c .before .loop .inv .1, c .before .loop .inv .2 .inside, c .before .before .if1 .left, c .before .before .before .before .before .before .before .pre)) (readings-short _ _ _ (c .before .before .if1 .left) ∙ passed-all _ _ (c .before .loop .inv .2) (omega arith))
+    all-noted (c .before .loop .count) _ (omega (arith, c .before .loop .inv .0, c .before .loop .inv .1, c .before .loop .inv .2 .inside, c .before .before .if1 .left, c .before .before .before .before .before .before .before .pre .room)) (readings-short _ _ _ (c .before .before .if1 .left) ∙ passed-all _ _ (c .before .loop .inv .2) (omega arith))
 
 pub note-readings-spec : {M : Type 1} → statement M
 note-readings-spec =

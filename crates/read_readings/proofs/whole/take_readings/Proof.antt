@@ -21,7 +21,7 @@ slice-aggregate-put-noted c = search needs
 put-noted-requires : tie.Need-put-noted-requires
 put-noted-requires c κs =
     let w = when-noted (c .before .before .before .before .before .before .note-readings .ensures) (c .before .before .before .c .given .1) in
-    (w .few, readings-room _ _ _ _ _ _ (c .before .before .before .before .before .before .before .before .before .before .before .before .pre .0) (c .before .before .before .before .before .before .before .before .before .before .before .before .pre .2) (c .before .before .before .before .before .before .before .before .before .before .before .before .pre .4) (w .all))
+    (w .few, readings-room _ _ _ _ _ _ (c .before .before .before .before .before .before .before .before .before .before .before .before .pre .some) (c .before .before .before .before .before .before .before .before .before .before .before .before .pre .covered) (c .before .before .before .before .before .before .before .before .before .before .before .before .pre .room) (w .all))
 
 enum-known-c-2 : tie.Need-enum-known-c-2
 enum-known-c-2 c = search needs
