@@ -1,13 +1,13 @@
 -- What the grammar's definitions say, case by case.
 -- Assumes nothing.
 use mathlib.Core.Path.{_≡_, refl, sym, ap, _∙_}
-use mathlib.Core.Bool.{Bool, true, false, and-eq-true-iff}
+use mathlib.Core.Bool.{Bool, true, false, not, and-eq-true-iff}
 use mathlib.Core.List.{List, [], _∷_}
 use mathlib.Core.Logic.{_⊎_, inl, inr, ⊎-elim}
 use mathlib.Core.Option.{Option, some}
 use Prim.Native.Nat.{ℕ, zero, suc, _+_, _-_, _*_, _<_, _≤_}
 use native.Mathlib.Omega.{arith}
-use borrow.Author.Tests.{eq-eqb, ne-eqb, eqb-true, lt-ltb, le-ltb}
+use borrow.Author.Tests.{not-false, eq-eqb, ne-eqb, eqb-true, lt-ltb, le-ltb}
 use lib.Dec.{eqb, ltb}
 use lib.ListN.{length}
 use Rattle.spec_limits.specs.Limits.{mostOffset}
@@ -57,6 +57,18 @@ sign-some And = omega arith
 sign-some Or = omega arith
 sign-some Implies = omega arith
 sign-some Iff = omega arith
+
+-- A sign of n bytes stands at p: it has a byte at least, and ends inside the text.
+pub record Signed (s : List ℕ) (p : ℕ) (o : Op) (n : ℕ) : Type 0 where
+  pub stands : starts s p (signText o) ≡ true
+  pub long : n ≡ length (signText o)
+  pub some : 1 ≤ n
+  pub inside : p + n ≤ length s
+
+pub signed : (s : List ℕ) (p : ℕ) (o : Op) {t : Bool} {n : ℕ} → p ≤ length s → t ≡ starts s p (signText o) → not t ≡ false → n ≡ length (signText o) → Signed s p o n
+signed s p o {t} within told met long =
+    let stands = sym told ∙ not-false t met in
+    record { stands = stands; long = long; some = omega (arith, sign-some o); inside = omega (arith, sign-inside o s p within stands) }
 
 -- Whether a sign stands there, by the code's name for it.
 pub sign-told : (s : List ℕ) (p : ℕ) {r : Bool} {sign k : Sign} → sign ≡ k → r ≡ starts s p (signText (opOf k)) → r ≡ starts s p (signText (opOf sign))

@@ -1,4 +1,5 @@
 -- The levels of the parser meet their contracts. A level's measure is what is left of the text, and its height. Assumes nothing.
+-- In an answer `start` is where the function was called, `asked` what it requires, and `at-x` the place after x; `w` is how far a part came.
 use Prim.Native.Nat.{ℕ, _+_, _-_, _*_, _<_}
 use Rattle.read_arena.proofs.Puts.{arena-put}
 use Rattle.read_arena.specs.Nodes.{opOf}
@@ -6,13 +7,13 @@ use Rattle.read_arena.specs.Readings.{Arena}
 use Rattle.read_arena.specs.declared.Node.the-variants.{Pair}
 use Rattle.read_parts.proofs.Levels.{was, by, from, far, left, hand-on, then, stop, join, wrap, shut, unshut, shut-keep, unshut-keep, hand-on-keep, held-next}
 use Rattle.read_parts.proofs.Rooms.{on, room-for, bare}
-use Rattle.read_parts.proofs.Steps.{sign-inside, sign-some, below-told, more-none, more-one, onward, onward-more, onward-stop, deny-full, deny-on, paren-full, paren-on, keep-full, keep-on, kept-none, second-none, second-some, class-told, byte-inside, plain-letter, plain-digit, plain-other, plain-deny, plain-sign, plain-paren, plain-bracket, since-inside, until-inside, word-since, word-until, word-name, remaining, rank, rank-most}
+use Rattle.read_parts.proofs.Steps.{Signed, signed, below-told, more-none, more-one, onward, onward-more, onward-stop, deny-full, deny-on, paren-full, paren-on, keep-full, keep-on, kept-none, second-none, second-some, class-told, byte-inside, plain-letter, plain-digit, plain-other, plain-deny, plain-sign, plain-paren, plain-bracket, since-inside, until-inside, word-since, word-until, word-name, remaining, rank, rank-most}
 use Rattle.read_parts.specs.Grammar.{timedPart, level, below, plain}
 use Rattle.read_parts.specs.Parsed.Parses.{refuses}
 use Rattle.read_bytes.specs.Bytes.{byte}
 use Rattle.read_names.specs.Words.{namesAt}
 use borrow.Author.Needs.{needs}
-use borrow.Author.Tests.{not-true, not-false}
+use borrow.Author.Tests.{not-true}
 use denote.Ref.{now}
 use mathlib.Core.Path.{refl, sym, ap, subst, _∙_}
 use native.Mathlib.Omega.{arith}
@@ -187,49 +188,69 @@ module _ (t : ℕ) where
   below-part-enum-told c = search needs
 
   below-part-timed-requires : below-part-lts.Need-timed-requires below-part-calls below-part-at below-part.Post
-  below-part-timed-requires c κs = (omega arith, c .before .before .before .before .before .before .pre .1)
+  below-part-timed-requires c κs =
+      let asked = c .before .before .before .before .before .before .pre .1 in
+      (omega arith, asked)
 
   below-part-enum-told-2 : below-part-lts.Need-enum-told-2 below-part-calls below-part-at below-part.Post
   below-part-enum-told-2 c = search needs
 
   below-part-joined-requires : below-part-lts.Need-joined-requires below-part-calls below-part-at below-part.Post
-  below-part-joined-requires c κs = (omega (arith, ap rank (c .before .enum-told2 .given .1)), c .before .before .before .before .before .before .pre .1)
+  below-part-joined-requires c κs =
+      let asked = c .before .before .before .before .before .before .pre .1 in
+      (omega (arith, ap rank (c .before .enum-told2 .given .1)), asked)
 
   below-part-enum-told-3 : below-part-lts.Need-enum-told-3 below-part-calls below-part-at below-part.Post
   below-part-enum-told-3 c = search needs
 
   below-part-joined-requires-2 : below-part-lts.Need-joined-requires-2 below-part-calls below-part-at below-part.Post
-  below-part-joined-requires-2 c κs = (omega (arith, ap rank (c .before .enum-told3 .given .1)), c .before .before .before .before .before .before .pre .1)
+  below-part-joined-requires-2 c κs =
+      let asked = c .before .before .before .before .before .before .pre .1 in
+      (omega (arith, ap rank (c .before .enum-told3 .given .1)), asked)
 
   below-part-enum-told-4 : below-part-lts.Need-enum-told-4 below-part-calls below-part-at below-part.Post
   below-part-enum-told-4 c = search needs
 
   below-part-joined-requires-3 : below-part-lts.Need-joined-requires-3 below-part-calls below-part-at below-part.Post
-  below-part-joined-requires-3 c κs = (omega (arith, ap rank (c .before .enum-told4 .given .1)), c .before .before .before .before .before .before .pre .1)
+  below-part-joined-requires-3 c κs =
+      let asked = c .before .before .before .before .before .before .pre .1 in
+      (omega (arith, ap rank (c .before .enum-told4 .given .1)), asked)
 
   below-part-same-length : below-part-lts.Need-same-length below-part-calls below-part-at below-part.Post
   below-part-same-length c = search needs
 
   below-part-returns : below-part-lts.Need-returns below-part-calls below-part-at below-part.Post
-  below-part-returns c = by (below-told _ _ _ (c .before .before .before .before .enum-told .given .1)) (c .before .before .timed .ensures)
+  below-part-returns c =
+      let at-timed = c .before .before in
+      let at-enum-told = at-timed .before .before in
+      by (below-told _ _ _ (at-enum-told .enum-told .given .1)) (at-timed .timed .ensures)
 
   below-part-same-length-2 : below-part-lts.Need-same-length-2 below-part-calls below-part-at below-part.Post
   below-part-same-length-2 c = search needs
 
   below-part-returns-2 : below-part-lts.Need-returns-2 below-part-calls below-part-at below-part.Post
-  below-part-returns-2 c = by (below-told _ _ _ (c .before .before .before .before .enum-told2 .given .1)) (c .before .before .joined .ensures)
+  below-part-returns-2 c =
+      let at-joined = c .before .before in
+      let at-enum-told2 = at-joined .before .before in
+      by (below-told _ _ _ (at-enum-told2 .enum-told2 .given .1)) (at-joined .joined .ensures)
 
   below-part-same-length-3 : below-part-lts.Need-same-length-3 below-part-calls below-part-at below-part.Post
   below-part-same-length-3 c = search needs
 
   below-part-returns-3 : below-part-lts.Need-returns-3 below-part-calls below-part-at below-part.Post
-  below-part-returns-3 c = by (below-told _ _ _ (c .before .before .before .before .enum-told3 .given .1)) (c .before .before .joined2 .ensures)
+  below-part-returns-3 c =
+      let at-joined2 = c .before .before in
+      let at-enum-told3 = at-joined2 .before .before in
+      by (below-told _ _ _ (at-enum-told3 .enum-told3 .given .1)) (at-joined2 .joined2 .ensures)
 
   below-part-same-length-4 : below-part-lts.Need-same-length-4 below-part-calls below-part-at below-part.Post
   below-part-same-length-4 c = search needs
 
   below-part-returns-4 : below-part-lts.Need-returns-4 below-part-calls below-part-at below-part.Post
-  below-part-returns-4 c = by (below-told _ _ _ (c .before .before .before .before .enum-told4 .given .1)) (c .before .before .joined3 .ensures)
+  below-part-returns-4 c =
+      let at-joined3 = c .before .before in
+      let at-enum-told4 = at-joined3 .before .before in
+      by (below-told _ _ _ (at-enum-told4 .enum-told4 .given .1)) (at-joined3 .joined3 .ensures)
 
   deny-returns : deny-lts.Need-returns deny-calls deny-at deny.Post
   deny-returns c = refuses (deny-full _ _ _ _ (c .if1 .taken))
@@ -241,7 +262,9 @@ module _ (t : ℕ) where
   deny-sub-plain-part c = search needs
 
   deny-plain-part-requires : deny-lts.Need-plain-part-requires deny-calls deny-at deny.Post
-  deny-plain-part-requires c κs = (omega (arith, c .before .before .before .before .before .pre .1 .inside), on (c .before .before .before .before .before .pre .1 .ready) _ _ _ (omega (arith, c .before .before .before .before .before .pre .1 .inside)) (omega arith) (omega arith) (c .before .before .before .before .before .pre .1 .ready .arena) refl)
+  deny-plain-part-requires c κs =
+      let asked = c .before .before .before .before .before .pre .1 in
+      (omega (arith, asked .inside), on (asked .ready) _ _ _ (omega (arith, asked .inside)) (omega arith) (omega arith) (asked .ready .arena) refl)
 
   deny-enum-known-r : deny-lts.Need-enum-known-r deny-calls deny-at deny.Post
   deny-enum-known-r c = search needs
@@ -253,25 +276,50 @@ module _ (t : ℕ) where
   deny-same-length c = search needs
 
   deny-returns-2 : deny-lts.Need-returns-2 deny-calls deny-at deny.Post
-  deny-returns-2 c = by (deny-on _ _ _ _ (c .before .before .before .before .before .before .if1 .left)) (hand-on _ (c .before .before .before .before .plain-part .ensures) (c .enum-told .given .1))
+  deny-returns-2 c =
+      let at-plain-part = c .before .before .before .before in
+      let at-if1 = at-plain-part .before .before in
+      by (deny-on _ _ _ _ (at-if1 .if1 .left)) (hand-on _ (at-plain-part .plain-part .ensures) (c .enum-told .given .1))
 
   deny-sub-child : deny-lts.Need-sub-child deny-calls deny-at deny.Post
-  deny-sub-child c = let w = far (c .before .before .before .before .before .plain-part .ensures) (c .before .r .given .1) in omega arith
+  deny-sub-child c =
+      let at-plain-part = c .before .before .before .before .before in
+      let w = far (at-plain-part .plain-part .ensures) (c .before .r .given .1) in
+      omega arith
 
   deny-put-node-requires : deny-lts.Need-put-node-requires deny-calls deny-at deny.Post
-  deny-put-node-requires c κs = let w = far (c .before .before .before .before .before .before .plain-part .ensures) (c .before .before .r .given .1) in (room-for (c .before .before .before .before .before .before .before .before .before .before .before .before .pre .1 .ready) _ 1 (omega arith) (search needs), omega arith)
+  deny-put-node-requires c κs =
+      let at-r = c .before .before in
+      let at-plain-part = at-r .before .before .before .before in
+      let asked = at-plain-part .before .before .before .before .before .before .pre .1 in
+      let w = far (at-plain-part .plain-part .ensures) (at-r .r .given .1) in
+      (room-for (asked .ready) _ 1 (omega arith) (search needs), omega arith)
 
   deny-add-count : deny-lts.Need-add-count deny-calls deny-at deny.Post
-  deny-add-count c = let w = far (c .before .before .before .before .before .before .before .before .before .plain-part .ensures) (c .before .before .before .before .before .r .given .1) in omega (arith, w .nodes, w .inside, c .before .before .before .before .before .before .before .before .before .before .before .before .before .before .before .pre .1 .ready .room .few)
+  deny-add-count c =
+      let at-r = c .before .before .before .before .before in
+      let at-plain-part = at-r .before .before .before .before in
+      let asked = at-plain-part .before .before .before .before .before .before .pre .1 in
+      let w = far (at-plain-part .plain-part .ensures) (at-r .r .given .1) in
+      omega (arith, w .nodes, w .inside, asked .ready .room .few)
 
   deny-same-length-2 : deny-lts.Need-same-length-2 deny-calls deny-at deny.Post
   deny-same-length-2 c = search needs
 
   deny-returns-3 : deny-lts.Need-returns-3 deny-calls deny-at deny.Post
-  deny-returns-3 c = let w = far (c .before .before .before .before .before .before .before .before .before .plain-part .ensures) (c .before .before .before .before .before .r .given .1) in by (deny-on _ _ _ _ (c .before .before .before .before .before .before .before .before .before .before .before .if1 .left)) (wrap _ _ (omega arith) (was (c .before .before .before .before .before .before .before .before .before .plain-part .ensures) (c .before .before .before .before .before .r .given .1)) (room-for (c .before .before .before .before .before .before .before .before .before .before .before .before .before .before .before .pre .1 .ready) _ 1 (omega arith) (search needs)) (c .before .before .put-node .ensures))
+  deny-returns-3 c =
+      let at-put-node = c .before .before in
+      let at-r = at-put-node .before .before .before in
+      let at-plain-part = at-r .before .before .before .before in
+      let at-if1 = at-plain-part .before .before in
+      let asked = at-if1 .before .before .before .before .pre .1 in
+      let w = far (at-plain-part .plain-part .ensures) (at-r .r .given .1) in
+      by (deny-on _ _ _ _ (at-if1 .if1 .left)) (wrap _ _ (omega arith) (was (at-plain-part .plain-part .ensures) (at-r .r .given .1)) (room-for (asked .ready) _ 1 (omega arith) (search needs)) (at-put-node .put-node .ensures))
 
   joined-below-part-requires : joined-lts.Need-below-part-requires joined-calls joined-at joined.Post
-  joined-below-part-requires c κs = (omega arith, c .before .before .before .before .pre .1)
+  joined-below-part-requires c κs =
+      let asked = c .before .before .before .before .pre .1 in
+      (omega arith, asked)
 
   joined-enum-known-r : joined-lts.Need-enum-known-r joined-calls joined-at joined.Post
   joined-enum-known-r c = search needs
@@ -284,17 +332,29 @@ module _ (t : ℕ) where
 
   joined-returns : joined-lts.Need-returns joined-calls joined-at joined.Post
   unfolding level
-  joined-returns c = hand-on _ (c .before .before .before .before .below-part .ensures) (c .enum-told .given .1)
+  joined-returns c =
+      let at-below-part = c .before .before .before .before in
+      hand-on _ (at-below-part .below-part .ensures) (c .enum-told .given .1)
 
   joined-more-requires : joined-lts.Need-more-requires joined-calls joined-at joined.Post
-  joined-more-requires c κs = let w = far (c .before .before .before .before .before .before .below-part .ensures) (c .before .before .r .given .1) in (omega arith, record { ready = on (c .before .before .before .before .before .before .before .before .before .before .before .pre .1) _ _ _ (w .inside) (omega arith) (omega arith) (left (c .before .before .before .before .before .before .below-part .ensures) (c .before .before .r .given .1)) (search needs); some = omega arith })
+  joined-more-requires c κs =
+      let at-r = c .before .before in
+      let at-below-part = at-r .before .before .before .before in
+      let asked = at-below-part .before .before .before .before .before .pre .1 in
+      let w = far (at-below-part .below-part .ensures) (at-r .r .given .1) in
+      (omega arith, record { ready = on asked _ _ _ (w .inside) (omega arith) (omega arith) (left (at-below-part .below-part .ensures) (at-r .r .given .1)) (search needs); some = omega arith })
 
   joined-same-length-2 : joined-lts.Need-same-length-2 joined-calls joined-at joined.Post
   joined-same-length-2 c = search needs
 
   joined-returns-2 : joined-lts.Need-returns-2 joined-calls joined-at joined.Post
   unfolding level
-  joined-returns-2 c = let w = far (c .before .before .before .before .before .before .before .before .before .below-part .ensures) (c .before .before .before .before .before .r .given .1) in then _ _ _ (omega arith) (omega arith) (omega arith) (omega arith) (was (c .before .before .before .before .before .before .before .before .before .below-part .ensures) (c .before .before .before .before .before .r .given .1)) (λ f hf hs. c .before .before .more .ensures _ _ f (omega arith) hf hs)
+  joined-returns-2 c =
+      let at-more = c .before .before in
+      let at-r = at-more .before .before .before in
+      let at-below-part = at-r .before .before .before .before in
+      let w = far (at-below-part .below-part .ensures) (at-r .r .given .1) in
+      then _ _ _ (omega arith) (omega arith) (omega arith) (omega arith) (was (at-below-part .below-part .ensures) (at-r .r .given .1)) (λ f hf hs. at-more .more .ensures _ _ f (omega arith) hf hs)
 
   keep-byte-at-requires : keep-lts.Need-byte-at-requires keep-calls keep-at keep.Post
   keep-byte-at-requires c κs = search needs
@@ -303,7 +363,9 @@ module _ (t : ℕ) where
   keep-returns c = refuses (kept-none _ _ _ _ (λ e. c .if1 .taken (c .before .byte-at .ensures ∙ e)))
 
   keep-returns-2 : keep-lts.Need-returns-2 keep-calls keep-at keep.Post
-  keep-returns-2 c = refuses (keep-full _ _ _ _ _ (sym (c .before .before .byte-at .ensures) ∙ c .before .if1 .left) (c .if2 .taken))
+  keep-returns-2 c =
+      let at-byte-at = c .before .before in
+      refuses (keep-full _ _ _ _ _ (sym (at-byte-at .byte-at .ensures) ∙ c .before .if1 .left) (c .if2 .taken))
 
   keep-add-inner : keep-lts.Need-add-inner keep-calls keep-at keep.Post
   keep-add-inner c = search needs
@@ -315,7 +377,12 @@ module _ (t : ℕ) where
   keep-sub-joined c = search needs
 
   keep-joined-requires : keep-lts.Need-joined-requires keep-calls keep-at keep.Post
-  keep-joined-requires c κs = let i = byte-inside _ _ (byte "(") (c .before .before .before .byte-at .ensures) (c .before .before .if1 .left) (λ z. omega arith) in (omega (arith, i), on (c .before .before .before .before .before .before .before .pre .1 .ready) _ _ _ (omega (arith, i)) (omega arith) (omega arith) (c .before .before .before .before .before .before .before .pre .1 .ready .arena) refl)
+  keep-joined-requires c κs =
+      let at-if1 = c .before .before in
+      let at-byte-at = at-if1 .before in
+      let asked = at-byte-at .before .before .before .before .pre .1 in
+      let i = byte-inside _ _ (byte "(") (at-byte-at .byte-at .ensures) (at-if1 .if1 .left) (λ z. omega arith) in
+      (omega (arith, i), on (asked .ready) _ _ _ (omega (arith, i)) (omega arith) (omega arith) (asked .ready .arena) refl)
 
   keep-enum-known-r : keep-lts.Need-enum-known-r keep-calls keep-at keep.Post
   keep-enum-known-r c = search needs
@@ -327,38 +394,70 @@ module _ (t : ℕ) where
   keep-same-length c = search needs
 
   keep-returns-3 : keep-lts.Need-returns-3 keep-calls keep-at keep.Post
-  keep-returns-3 c = by (keep-on _ _ _ _ _ (sym (c .before .before .before .before .before .before .before .before .byte-at .ensures) ∙ c .before .before .before .before .before .before .before .if1 .left) (c .before .before .before .before .before .before .if2 .left)) (hand-on _ (c .before .before .before .before .joined .ensures) (c .enum-told .given .1))
+  keep-returns-3 c =
+      let at-joined = c .before .before .before .before in
+      let at-if2 = at-joined .before .before in
+      let at-if1 = at-if2 .before in
+      let at-byte-at = at-if1 .before in
+      by (keep-on _ _ _ _ _ (sym (at-byte-at .byte-at .ensures) ∙ at-if1 .if1 .left) (at-if2 .if2 .left)) (hand-on _ (at-joined .joined .ensures) (c .enum-told .given .1))
 
   keep-sub-second : keep-lts.Need-sub-second keep-calls keep-at keep.Post
   keep-sub-second c = search needs
 
   keep-second-requires : keep-lts.Need-second-requires keep-calls keep-at keep.Post
-  keep-second-requires c κs = let w = far (c .before .before .before .before .before .before .joined .ensures) (c .before .before .r .given .1) in (omega arith, record { ready = on (c .before .before .before .before .before .before .before .before .before .before .before .before .before .before .pre .1 .ready) _ _ _ (omega arith) (omega arith) (omega arith) (left (c .before .before .before .before .before .before .joined .ensures) (c .before .before .r .given .1)) (search needs); some = omega arith; numbered = omega arith; four = omega arith; within = w .inside })
+  keep-second-requires c κs =
+      let at-r = c .before .before in
+      let at-joined = at-r .before .before .before .before in
+      let asked = at-joined .before .before .before .before .before .before .before .before .pre .1 in
+      let w = far (at-joined .joined .ensures) (at-r .r .given .1) in
+      (omega arith, record { ready = on (asked .ready) _ _ _ (omega arith) (omega arith) (omega arith) (left (at-joined .joined .ensures) (at-r .r .given .1)) (search needs); some = omega arith; numbered = omega arith; four = omega arith; within = w .inside })
 
   keep-same-length-2 : keep-lts.Need-same-length-2 keep-calls keep-at keep.Post
   keep-same-length-2 c = search needs
 
   keep-returns-4 : keep-lts.Need-returns-4 keep-calls keep-at keep.Post
   keep-returns-4 c =
-      let w = far (c .before .before .before .before .before .before .before .before .before .joined .ensures) (c .before .before .before .before .before .r .given .1) in
-      by (keep-on _ _ _ _ _ (sym (c .before .before .before .before .before .before .before .before .before .before .before .before .before .byte-at .ensures) ∙ c .before .before .before .before .before .before .before .before .before .before .before .before .if1 .left) (c .before .before .before .before .before .before .before .before .before .before .before .if2 .left))
-      (then _ _ _ (omega arith) (omega arith) (omega arith) (omega arith) (was (c .before .before .before .before .before .before .before .before .before .joined .ensures) (c .before .before .before .before .before .r .given .1))
-      (λ f hf hs. c .before .before .second .ensures f (held-next _ hf) (omega arith)))
+      let asked = c .before .before .before .before .before .before .before .before .before .before .before .before .before .before .before .before .before .pre .1 in
+      let the-byte-at = c .before .before .before .before .before .before .before .before .before .before .before .before .before .byte-at in
+      let the-if1 = c .before .before .before .before .before .before .before .before .before .before .before .before .if1 in
+      let the-if2 = c .before .before .before .before .before .before .before .before .before .before .before .if2 in
+      let the-joined = c .before .before .before .before .before .before .before .before .before .joined in
+      let the-r = c .before .before .before .before .before .r in
+      let the-second = c .before .before .second in
+      let w = far (the-joined .ensures) (the-r .given .1) in
+      by (keep-on _ _ _ _ _ (sym (the-byte-at .ensures) ∙ the-if1 .left) (the-if2 .left))
+      (then _ _ _ (omega (arith, asked .keyword)) (omega (arith, asked .keyword)) (omega arith) (omega (arith, asked .keyword)) (was (the-joined .ensures) (the-r .given .1))
+      (λ f hf hs. the-second .ensures f (held-next _ hf) (omega arith)))
 
   more-sign-at-requires : more-lts.Need-sign-at-requires more-calls more-at more.Post
   more-sign-at-requires c κs = search needs
 
   more-returns : more-lts.Need-returns more-calls more-at more.Post
-  more-returns c = λ n x f l he hs. by (more-none _ _ _ n f _ (sym (c .before .sign-at .ensures) ∙ not-true _ (c .if1 .taken))) (stop (c .before .before .before .before .before .pre .1 .ready .within) (c .before .before .before .before .before .pre .1 .ready .arena) he hs)
+  more-returns c =
+      let asked = c .before .before .before .before .before .pre .1 in
+      λ n x f l he hs. by (more-none _ _ _ n f _ (sym (c .before .sign-at .ensures) ∙ not-true _ (c .if1 .taken))) (stop (asked .ready .within) (asked .ready .arena) he hs)
 
   more-sign-len-requires : more-lts.Need-sign-len-requires more-calls more-at more.Post
   more-sign-len-requires c κs = search needs
 
+  -- Where `more` has the sign's length: what it was called with, and the sign at its place.
+  abbrev more-start : more-lts.After-sign-len more-calls more-at more.Post → more-lts.Start more-calls more-at more.Post
+  more-start c = c .before .before .before .before .before .before
+
+  more-sign : (c : more-lts.After-sign-len more-calls more-at more.Post) → Signed (now (more-start c .args .s)) (more-start c .args .at) (opOf (more-start c .args .sign)) (c .sign-len .result)
+  more-sign c = signed (now (more-start c .args .s)) (more-start c .args .at) (opOf (more-start c .args .sign)) (more-start c .pre .1 .ready .within) (c .before .before .sign-at .ensures) (c .before .if1 .left) (c .sign-len .ensures)
+
   more-add-part : more-lts.Need-add-part more-calls more-at more.Post
-  more-add-part c = let st = sym (c .before .before .sign-at .ensures) ∙ not-false _ (c .before .if1 .left) in let g = sign-inside (opOf (c .before .before .before .before .before .before .args .sign)) (now (c .before .before .before .before .before .before .args .s)) (c .before .before .before .before .before .before .args .at) (c .before .before .before .before .before .before .pre .1 .ready .within) st in let k = sign-some (opOf (c .before .before .before .before .before .before .args .sign)) in let y = c .sign-len .ensures in omega (arith, g, k, y)
+  more-add-part c =
+      let sign = more-sign c in
+      omega arith
 
   more-below-part-requires : more-lts.Need-below-part-requires more-calls more-at more.Post
-  more-below-part-requires c κs = let st = sym (c .before .before .before .sign-at .ensures) ∙ not-false _ (c .before .before .if1 .left) in let g = sign-inside (opOf (c .before .before .before .before .before .before .before .args .sign)) (now (c .before .before .before .before .before .before .before .args .s)) (c .before .before .before .before .before .before .before .args .at) (c .before .before .before .before .before .before .before .pre .1 .ready .within) st in let k = sign-some (opOf (c .before .before .before .before .before .before .before .args .sign)) in let y = c .before .sign-len .ensures in (omega (arith, g, k, y, rank-most (c .before .before .before .before .before .before .before .args .sign)), on (c .before .before .before .before .before .before .before .pre .1 .ready) _ _ _ (omega (arith, g, k, y)) (omega (arith, g, k, y)) (omega (arith, g, k, y)) (c .before .before .before .before .before .before .before .pre .1 .ready .arena) refl)
+  more-below-part-requires c κs =
+      let start = more-start (c .before) in
+      let asked = start .pre .1 in
+      let sign = more-sign (c .before) in
+      (omega (arith, rank-most (start .args .sign)), on (asked .ready) _ _ _ (omega arith) (omega arith) (omega arith) (asked .ready .arena) refl)
 
   more-enum-known-r : more-lts.Need-enum-known-r more-calls more-at more.Post
   more-enum-known-r c = search needs
@@ -370,45 +469,98 @@ module _ (t : ℕ) where
   more-same-length c = search needs
 
   more-returns-2 : more-lts.Need-returns-2 more-calls more-at more.Post
-  more-returns-2 c = let st = sym (c .before .before .before .before .before .before .before .before .sign-at .ensures) ∙ not-false _ (c .before .before .before .before .before .before .before .if1 .left) in let g = sign-inside (opOf (c .before .before .before .before .before .before .before .before .before .before .before .before .args .sign)) (now (c .before .before .before .before .before .before .before .before .before .before .before .before .args .s)) (c .before .before .before .before .before .before .before .before .before .before .before .before .args .at) (c .before .before .before .before .before .before .before .before .before .before .before .before .pre .1 .ready .within) st in let k = sign-some (opOf (c .before .before .before .before .before .before .before .before .before .before .before .before .args .sign)) in let y = c .before .before .before .before .before .before .sign-len .ensures in λ n x f l he hs. by (more-one _ _ _ n f _ st (omega (arith, g, k, y)) l) (hand-on _ (by (ap (below (opOf (c .before .before .before .before .before .before .before .before .before .before .before .before .args .sign)) _ _) (omega (arith, y))) (c .before .before .before .before .below-part .ensures)) (c .enum-told .given .1))
+  more-returns-2 c =
+      let at-below-part = c .before .before .before .before in
+      let at-sign-len = at-below-part .before .before in
+      let start = more-start at-sign-len in
+      let asked = start .pre .1 in
+      let args = start .args in
+      let sign = more-sign at-sign-len in
+      λ n x f l he hs. by (more-one _ _ _ n f _ (sign .stands) (omega arith) l) (hand-on _ (by (ap (below (opOf (args .sign)) _ _) (omega (arith, sign .long))) (at-below-part .below-part .ensures)) (c .enum-told .given .1))
 
   more-sub-left : more-lts.Need-sub-left more-calls more-at more.Post
   more-sub-left c = search needs
 
   more-sub-right : more-lts.Need-sub-right more-calls more-at more.Post
-  more-sub-right c = let w = far (c .before .before .before .before .before .below-part .ensures) (c .before .r .given .1) in omega arith
+  more-sub-right c =
+      let at-below-part = c .before .before .before .before .before in
+      let w = far (at-below-part .below-part .ensures) (c .before .r .given .1) in
+      omega arith
 
   more-put-node-requires : more-lts.Need-put-node-requires more-calls more-at more.Post
-  more-put-node-requires c κs = let st = sym (c .before .before .before .before .before .before .before .before .before .before .sign-at .ensures) ∙ not-false _ (c .before .before .before .before .before .before .before .before .before .if1 .left) in let g = sign-inside (opOf (c .before .before .before .before .before .before .before .before .before .before .before .before .before .before .args .sign)) (now (c .before .before .before .before .before .before .before .before .before .before .before .before .before .before .args .s)) (c .before .before .before .before .before .before .before .before .before .before .before .before .before .before .args .at) (c .before .before .before .before .before .before .before .before .before .before .before .before .before .before .pre .1 .ready .within) st in let k = sign-some (opOf (c .before .before .before .before .before .before .before .before .before .before .before .before .before .before .args .sign)) in let y = c .before .before .before .before .before .before .before .before .sign-len .ensures in let w = far (c .before .before .before .before .before .before .below-part .ensures) (c .before .before .r .given .1) in (room-for (c .before .before .before .before .before .before .before .before .before .before .before .before .before .before .pre .1 .ready) _ 1 (omega (arith, g, k, y)) (search needs), (omega arith, omega arith))
+  more-put-node-requires c κs =
+      let at-r = c .before .before in
+      let at-below-part = at-r .before .before .before .before in
+      let at-sign-len = at-below-part .before .before in
+      let asked = more-start at-sign-len .pre .1 in
+      let sign = more-sign at-sign-len in
+      let w = far (at-below-part .below-part .ensures) (at-r .r .given .1) in
+      (room-for (asked .ready) _ 1 (omega arith) (search needs), (omega arith, omega arith))
 
   more-add-count : more-lts.Need-add-count more-calls more-at more.Post
-  more-add-count c = let st = sym (c .before .before .before .before .before .before .before .before .before .before .before .before .before .sign-at .ensures) ∙ not-false _ (c .before .before .before .before .before .before .before .before .before .before .before .before .if1 .left) in let g = sign-inside (opOf (c .before .before .before .before .before .before .before .before .before .before .before .before .before .before .before .before .before .args .sign)) (now (c .before .before .before .before .before .before .before .before .before .before .before .before .before .before .before .before .before .args .s)) (c .before .before .before .before .before .before .before .before .before .before .before .before .before .before .before .before .before .args .at) (c .before .before .before .before .before .before .before .before .before .before .before .before .before .before .before .before .before .pre .1 .ready .within) st in let k = sign-some (opOf (c .before .before .before .before .before .before .before .before .before .before .before .before .before .before .before .before .before .args .sign)) in let y = c .before .before .before .before .before .before .before .before .before .before .before .sign-len .ensures in let w = far (c .before .before .before .before .before .before .before .before .before .below-part .ensures) (c .before .before .before .before .before .r .given .1) in omega (arith, g, k, y, c .before .before .before .before .before .before .before .before .before .before .before .before .before .before .before .before .before .pre .1 .ready .room .few)
+  more-add-count c =
+      let at-r = c .before .before .before .before .before in
+      let at-below-part = at-r .before .before .before .before in
+      let at-sign-len = at-below-part .before .before in
+      let asked = more-start at-sign-len .pre .1 in
+      let sign = more-sign at-sign-len in
+      let w = far (at-below-part .below-part .ensures) (at-r .r .given .1) in
+      omega (arith, asked .ready .room .few)
 
   more-repeats-requires : more-lts.Need-repeats-requires more-calls more-at more.Post
   more-repeats-requires c κs = search needs
 
   more-more-requires : more-lts.Need-more-requires more-calls more-at more.Post
-  more-more-requires c κs = let st = sym (c .before .before .before .before .before .before .before .before .before .before .before .before .before .before .before .before .sign-at .ensures) ∙ not-false _ (c .before .before .before .before .before .before .before .before .before .before .before .before .before .before .before .if1 .left) in let g = sign-inside (opOf (c .before .before .before .before .before .before .before .before .before .before .before .before .before .before .before .before .before .before .before .before .args .sign)) (now (c .before .before .before .before .before .before .before .before .before .before .before .before .before .before .before .before .before .before .before .before .args .s)) (c .before .before .before .before .before .before .before .before .before .before .before .before .before .before .before .before .before .before .before .before .args .at) (c .before .before .before .before .before .before .before .before .before .before .before .before .before .before .before .before .before .before .before .before .pre .1 .ready .within) st in let k = sign-some (opOf (c .before .before .before .before .before .before .before .before .before .before .before .before .before .before .before .before .before .before .before .before .args .sign)) in let y = c .before .before .before .before .before .before .before .before .before .before .before .before .before .before .sign-len .ensures in let w = far (c .before .before .before .before .before .before .before .before .before .before .before .before .below-part .ensures) (c .before .before .before .before .before .before .before .before .r .given .1) in (omega (arith, g, k, y), record { ready = on (c .before .before .before .before .before .before .before .before .before .before .before .before .before .before .before .before .before .before .before .before .pre .1 .ready) _ _ _ (w .inside) (omega (arith, g, k, y)) (omega (arith, g, k, y)) (subst (Arena _) (sym (c .before .before .before .before .before .put-node .ensures)) (arena-put (Pair _ _ _) (left (c .before .before .before .before .before .before .before .before .before .before .before .before .below-part .ensures) (c .before .before .before .before .before .before .before .before .r .given .1)) (room-for (c .before .before .before .before .before .before .before .before .before .before .before .before .before .before .before .before .before .before .before .before .pre .1 .ready) _ 1 (omega (arith, g, k, y)) (search needs)) (omega arith, omega arith))) (search needs); some = omega arith })
+  more-more-requires c κs =
+      let at-put-node = c .before .before .before .before .before in
+      let at-r = at-put-node .before .before .before in
+      let at-below-part = at-r .before .before .before .before in
+      let at-sign-len = at-below-part .before .before in
+      let start = more-start at-sign-len in
+      let asked = start .pre .1 in
+      let sign = more-sign at-sign-len in
+      let w = far (at-below-part .below-part .ensures) (at-r .r .given .1) in
+      (omega arith, record { ready = on (asked .ready) _ _ _ (w .inside) (omega arith) (omega arith) (subst (Arena _) (sym (at-put-node .put-node .ensures)) (arena-put (Pair _ _ _) (left (at-below-part .below-part .ensures) (at-r .r .given .1)) (room-for (asked .ready) _ 1 (omega arith) (search needs)) (omega arith, omega arith))) (search needs); some = omega arith })
 
   more-same-length-2 : more-lts.Need-same-length-2 more-calls more-at more.Post
   more-same-length-2 c = search needs
 
   more-returns-3 : more-lts.Need-returns-3 more-calls more-at more.Post
   more-returns-3 c =
-      let st = sym (c .before .before .before .before .before .before .before .before .before .before .before .before .before .before .before .before .before .before .before .sign-at .ensures) ∙ not-false _ (c .before .before .before .before .before .before .before .before .before .before .before .before .before .before .before .before .before .before .if1 .left) in let g = sign-inside (opOf (c .before .before .before .before .before .before .before .before .before .before .before .before .before .before .before .before .before .before .before .before .before .before .before .args .sign)) (now (c .before .before .before .before .before .before .before .before .before .before .before .before .before .before .before .before .before .before .before .before .before .before .before .args .s)) (c .before .before .before .before .before .before .before .before .before .before .before .before .before .before .before .before .before .before .before .before .before .before .before .args .at) (c .before .before .before .before .before .before .before .before .before .before .before .before .before .before .before .before .before .before .before .before .before .before .before .pre .1 .ready .within) st in let k = sign-some (opOf (c .before .before .before .before .before .before .before .before .before .before .before .before .before .before .before .before .before .before .before .before .before .before .before .args .sign)) in let y = c .before .before .before .before .before .before .before .before .before .before .before .before .before .before .before .before .before .sign-len .ensures in let w = far (c .before .before .before .before .before .before .before .before .before .before .before .before .before .before .before .below-part .ensures) (c .before .before .before .before .before .before .before .before .before .before .before .r .given .1) in
-      λ n x f l he hs. by (more-one _ _ _ n f _ st (omega (arith, g, k, y)) l)
-      (join _ _ (c .before .before .before .before .before .before .before .before .before .before .before .before .before .before .before .before .before .before .before .before .before .before .before .args .sign) f (onward (opOf (c .before .before .before .before .before .before .before .before .before .before .before .before .before .before .before .before .before .before .before .before .before .before .before .args .sign)) _ _ (n - 1)) (c .before .before .before .before .before .before .before .before .before .before .before .before .before .before .before .before .before .before .before .before .before .before .before .pre .1 .some) (omega (arith, g, k, y)) (c .before .before .before .before .before .before .before .before .before .before .before .before .before .before .before .before .before .before .before .before .before .before .before .pre .1 .ready .arena) he hs (was (by (ap (below (opOf (c .before .before .before .before .before .before .before .before .before .before .before .before .before .before .before .before .before .before .before .before .before .before .before .args .sign)) _ _) (omega (arith, y))) (c .before .before .before .before .before .before .before .before .before .before .before .before .before .before .before .below-part .ensures)) (c .before .before .before .before .before .before .before .before .before .before .before .r .given .1)) (room-for (c .before .before .before .before .before .before .before .before .before .before .before .before .before .before .before .before .before .before .before .before .before .before .before .pre .1 .ready) _ 1 (omega (arith, g, k, y)) (search needs)) (c .before .before .before .before .before .before .before .before .put-node .ensures)
-      (λ z hz hs′ ar. by (onward-more _ _ _ _ z _ (c .before .before .before .before .before .repeats .ensures) (c .before .before .before .before .if2 .taken)) (c .before .before .more .ensures (n - 1) x z (omega (arith, g, k, y)) hz hs′)))
+      let args = c .before .before .before .before .before .before .before .before .before .before .before .before .before .before .before .before .before .before .before .before .before .before .before .args in
+      let asked = c .before .before .before .before .before .before .before .before .before .before .before .before .before .before .before .before .before .before .before .before .before .before .before .pre .1 in
+      let the-sign-at = c .before .before .before .before .before .before .before .before .before .before .before .before .before .before .before .before .before .before .before .sign-at in
+      let the-if1 = c .before .before .before .before .before .before .before .before .before .before .before .before .before .before .before .before .before .before .if1 in
+      let the-sign-len = c .before .before .before .before .before .before .before .before .before .before .before .before .before .before .before .before .before .sign-len in
+      let the-below-part = c .before .before .before .before .before .before .before .before .before .before .before .before .before .before .before .below-part in
+      let the-r = c .before .before .before .before .before .before .before .before .before .before .before .r in
+      let the-put-node = c .before .before .before .before .before .before .before .before .put-node in
+      let the-repeats = c .before .before .before .before .before .repeats in
+      let the-if2 = c .before .before .before .before .if2 in
+      let the-more = c .before .before .more in
+      let sign = signed (now (args .s)) (args .at) (opOf (args .sign)) (asked .ready .within) (the-sign-at .ensures) (the-if1 .left) (the-sign-len .ensures) in
+      let w = far (the-below-part .ensures) (the-r .given .1) in
+      λ n x f l he hs. by (more-one _ _ _ n f _ (sign .stands) (omega arith) l)
+      (join _ _ (args .sign) f (onward (opOf (args .sign)) _ _ (n - 1)) (asked .some) (omega arith) (asked .ready .arena) he hs (was (by (ap (below (opOf (args .sign)) _ _) (omega (arith, sign .long))) (the-below-part .ensures)) (the-r .given .1)) (room-for (asked .ready) _ 1 (omega arith) (search needs)) (the-put-node .ensures)
+      (λ z hz hs′ ar. by (onward-more _ _ _ _ z _ (the-repeats .ensures) (the-if2 .taken)) (the-more .ensures (n - 1) x z (omega arith) hz hs′)))
 
   more-same-length-3 : more-lts.Need-same-length-3 more-calls more-at more.Post
   more-same-length-3 c = search needs
 
   more-returns-4 : more-lts.Need-returns-4 more-calls more-at more.Post
   more-returns-4 c =
-      let st = sym (c .before .before .before .before .before .before .before .before .before .before .before .before .before .before .before .sign-at .ensures) ∙ not-false _ (c .before .before .before .before .before .before .before .before .before .before .before .before .before .before .if1 .left) in let g = sign-inside (opOf (c .before .before .before .before .before .before .before .before .before .before .before .before .before .before .before .before .before .before .before .args .sign)) (now (c .before .before .before .before .before .before .before .before .before .before .before .before .before .before .before .before .before .before .before .args .s)) (c .before .before .before .before .before .before .before .before .before .before .before .before .before .before .before .before .before .before .before .args .at) (c .before .before .before .before .before .before .before .before .before .before .before .before .before .before .before .before .before .before .before .pre .1 .ready .within) st in let k = sign-some (opOf (c .before .before .before .before .before .before .before .before .before .before .before .before .before .before .before .before .before .before .before .args .sign)) in let y = c .before .before .before .before .before .before .before .before .before .before .before .before .before .sign-len .ensures in let w = far (c .before .before .before .before .before .before .before .before .before .before .before .below-part .ensures) (c .before .before .before .before .before .before .before .r .given .1) in
-      λ n x f l he hs. by (more-one _ _ _ n f _ st (omega (arith, g, k, y)) l)
-      (join _ _ (c .before .before .before .before .before .before .before .before .before .before .before .before .before .before .before .before .before .before .before .args .sign) f (onward (opOf (c .before .before .before .before .before .before .before .before .before .before .before .before .before .before .before .before .before .before .before .args .sign)) _ _ (n - 1)) (c .before .before .before .before .before .before .before .before .before .before .before .before .before .before .before .before .before .before .before .pre .1 .some) (omega (arith, g, k, y)) (c .before .before .before .before .before .before .before .before .before .before .before .before .before .before .before .before .before .before .before .pre .1 .ready .arena) he hs (was (by (ap (below (opOf (c .before .before .before .before .before .before .before .before .before .before .before .before .before .before .before .before .before .before .before .args .sign)) _ _) (omega (arith, y))) (c .before .before .before .before .before .before .before .before .before .before .before .below-part .ensures)) (c .before .before .before .before .before .before .before .r .given .1)) (room-for (c .before .before .before .before .before .before .before .before .before .before .before .before .before .before .before .before .before .before .before .pre .1 .ready) _ 1 (omega (arith, g, k, y)) (search needs)) (c .before .before .before .before .put-node .ensures)
-      (λ z hz hs′ ar. by (onward-stop (opOf (c .before .before .before .before .before .before .before .before .before .before .before .before .before .before .before .before .before .before .before .args .sign)) (below (opOf (c .before .before .before .before .before .before .before .before .before .before .before .before .before .before .before .before .before .before .before .args .sign)) (plain (c .before .before .before .before .before .before .before .before .before .before .before .before .before .before .before .before .before .before .before .args .depth) (namesAt (now (c .before .before .before .before .before .before .before .before .before .before .before .before .before .before .before .before .before .before .before .args .s)) (now (c .before .before .before .before .before .before .before .before .before .before .before .before .before .before .before .before .before .before .before .args .names))) (now (c .before .before .before .before .before .before .before .before .before .before .before .before .before .before .before .before .before .before .before .args .s))) (now (c .before .before .before .before .before .before .before .before .before .before .before .before .before .before .before .before .before .before .before .args .s))) (now (c .before .before .before .before .before .before .before .before .before .before .before .before .before .before .before .before .before .before .before .args .s)) (n - 1) z _ (c .before .repeats .ensures) (c .if2 .left)) (stop (w .inside) ar hz hs′)))
+      let at-put-node = c .before .before .before .before in
+      let at-r = at-put-node .before .before .before in
+      let at-below-part = at-r .before .before .before .before in
+      let at-sign-len = at-below-part .before .before in
+      let start = more-start at-sign-len in
+      let asked = start .pre .1 in
+      let args = start .args in
+      let sign = more-sign at-sign-len in
+      let w = far (at-below-part .below-part .ensures) (at-r .r .given .1) in
+      λ n x f l he hs. by (more-one _ _ _ n f _ (sign .stands) (omega arith) l)
+      (join _ _ (args .sign) f (onward (opOf (args .sign)) _ _ (n - 1)) (asked .some) (omega arith) (asked .ready .arena) he hs (was (by (ap (below (opOf (args .sign)) _ _) (omega (arith, sign .long))) (at-below-part .below-part .ensures)) (at-r .r .given .1)) (room-for (asked .ready) _ 1 (omega arith) (search needs)) (at-put-node .put-node .ensures)
+      (λ z hz hs′ ar. by (onward-stop (opOf (args .sign)) (below (opOf (args .sign)) (plain (args .depth) (namesAt (now (args .s)) (now (args .names))) (now (args .s))) (now (args .s))) (now (args .s)) (n - 1) z _ (c .before .repeats .ensures) (c .if2 .left)) (stop (w .inside) ar hz hs′)))
 
   paren-returns : paren-lts.Need-returns paren-calls paren-at paren.Post
   paren-returns c = refuses (paren-full _ _ _ _ (c .if1 .taken))
@@ -420,7 +572,9 @@ module _ (t : ℕ) where
   paren-sub-joined c = search needs
 
   paren-joined-requires : paren-lts.Need-joined-requires paren-calls paren-at paren.Post
-  paren-joined-requires c κs = (omega (arith, c .before .before .before .before .before .pre .1 .inside), on (c .before .before .before .before .before .pre .1 .ready) _ _ _ (omega (arith, c .before .before .before .before .before .pre .1 .inside)) (omega arith) (omega arith) (c .before .before .before .before .before .pre .1 .ready .arena) refl)
+  paren-joined-requires c κs =
+      let asked = c .before .before .before .before .before .pre .1 in
+      (omega (arith, asked .inside), on (asked .ready) _ _ _ (omega (arith, asked .inside)) (omega arith) (omega arith) (asked .ready .arena) refl)
 
   paren-enum-known-r : paren-lts.Need-enum-known-r paren-calls paren-at paren.Post
   paren-enum-known-r c = search needs
@@ -432,7 +586,10 @@ module _ (t : ℕ) where
   paren-same-length c = search needs
 
   paren-returns-2 : paren-lts.Need-returns-2 paren-calls paren-at paren.Post
-  paren-returns-2 c = by (paren-on _ _ _ _ (c .before .before .before .before .before .before .if1 .left)) (hand-on _ (c .before .before .before .before .joined .ensures) (c .enum-told .given .1))
+  paren-returns-2 c =
+      let at-joined = c .before .before .before .before in
+      let at-if1 = at-joined .before .before in
+      by (paren-on _ _ _ _ (at-if1 .if1 .left)) (hand-on _ (at-joined .joined .ensures) (c .enum-told .given .1))
 
   paren-byte-at-requires : paren-lts.Need-byte-at-requires paren-calls paren-at paren.Post
   paren-byte-at-requires c κs = search needs
@@ -441,16 +598,30 @@ module _ (t : ℕ) where
   paren-same-length-2 c = search needs
 
   paren-returns-3 : paren-lts.Need-returns-3 paren-calls paren-at paren.Post
-  paren-returns-3 c = by (paren-on _ _ _ _ (c .before .before .before .before .before .before .before .before .before .if1 .left)) (unshut _ _ (was (c .before .before .before .before .before .before .before .joined .ensures) (c .before .before .before .r .given .1)) (λ e. c .if2 .taken (c .before .byte-at .ensures ∙ e)) (λ f. refl))
+  paren-returns-3 c =
+      let at-r = c .before .before .before in
+      let at-joined = at-r .before .before .before .before in
+      let at-if1 = at-joined .before .before in
+      by (paren-on _ _ _ _ (at-if1 .if1 .left)) (unshut _ _ (was (at-joined .joined .ensures) (at-r .r .given .1)) (λ e. c .if2 .taken (c .before .byte-at .ensures ∙ e)) (λ f. refl))
 
   paren-add-after : paren-lts.Need-add-after paren-calls paren-at paren.Post
-  paren-add-after c = let w = far (c .before .before .before .before .before .before .before .joined .ensures) (c .before .before .before .r .given .1) in omega arith
+  paren-add-after c =
+      let at-r = c .before .before .before in
+      let at-joined = at-r .before .before .before .before in
+      let w = far (at-joined .joined .ensures) (at-r .r .given .1) in
+      omega arith
 
   paren-same-length-3 : paren-lts.Need-same-length-3 paren-calls paren-at paren.Post
   paren-same-length-3 c = search needs
 
   paren-returns-4 : paren-lts.Need-returns-4 paren-calls paren-at paren.Post
-  paren-returns-4 c = let w = far (c .before .before .before .before .before .before .before .joined .ensures) (c .before .before .before .r .given .1) in let i = byte-inside _ _ (byte ")") (c .before .byte-at .ensures) (c .if2 .left) (λ z. omega arith) in by (paren-on _ _ _ _ (c .before .before .before .before .before .before .before .before .before .if1 .left)) (shut _ _ (omega arith) (was (c .before .before .before .before .before .before .before .joined .ensures) (c .before .before .before .r .given .1)) (sym (c .before .byte-at .ensures) ∙ c .if2 .left) i)
+  paren-returns-4 c =
+      let at-r = c .before .before .before in
+      let at-joined = at-r .before .before .before .before in
+      let at-if1 = at-joined .before .before in
+      let w = far (at-joined .joined .ensures) (at-r .r .given .1) in
+      let i = byte-inside _ _ (byte ")") (c .before .byte-at .ensures) (c .if2 .left) (λ z. omega arith) in
+      by (paren-on _ _ _ _ (at-if1 .if1 .left)) (shut _ _ (omega arith) (was (at-joined .joined .ensures) (at-r .r .given .1)) (sym (c .before .byte-at .ensures) ∙ c .if2 .left) i)
 
   plain-part-byte-at-requires : plain-part-lts.Need-byte-at-requires plain-part-calls plain-part-at plain-part.Post
   plain-part-byte-at-requires c κs = search needs
@@ -462,19 +633,29 @@ module _ (t : ℕ) where
   plain-part-enum-told c = search needs
 
   plain-part-word-requires : plain-part-lts.Need-word-requires plain-part-calls plain-part-at plain-part.Post
-  plain-part-word-requires c κs = (omega arith, record { ready = c .before .before .before .before .before .before .before .before .pre .1; letter = class-told _ _ (c .before .before .before .before .byte-at .ensures) (c .before .before .before .class-of .ensures) (c .before .enum-told .given .1) })
+  plain-part-word-requires c κs =
+      let at-class-of = c .before .before .before in
+      let at-byte-at = at-class-of .before in
+      let asked = at-byte-at .before .before .before .before .pre .1 in
+      (omega arith, record { ready = asked; letter = class-told _ _ (at-byte-at .byte-at .ensures) (at-class-of .class-of .ensures) (c .before .enum-told .given .1) })
 
   plain-part-enum-told-2 : plain-part-lts.Need-enum-told-2 plain-part-calls plain-part-at plain-part.Post
   plain-part-enum-told-2 c = search needs
 
   plain-part-deny-requires : plain-part-lts.Need-deny-requires plain-part-calls plain-part-at plain-part.Post
-  plain-part-deny-requires c κs = (omega arith, record { ready = c .before .before .before .before .before .before .before .before .before .pre .1; inside = byte-inside _ _ (byte "!") (c .before .before .before .before .before .byte-at .ensures) (c .before .if1 .taken) (λ z. omega arith) })
+  plain-part-deny-requires c κs =
+      let at-byte-at = c .before .before .before .before .before in
+      let asked = at-byte-at .before .before .before .before .pre .1 in
+      (omega arith, record { ready = asked; inside = byte-inside _ _ (byte "!") (at-byte-at .byte-at .ensures) (c .before .if1 .taken) (λ z. omega arith) })
 
   plain-part-enum-told-3 : plain-part-lts.Need-enum-told-3 plain-part-calls plain-part-at plain-part.Post
   plain-part-enum-told-3 c = search needs
 
   plain-part-paren-requires : plain-part-lts.Need-paren-requires plain-part-calls plain-part-at plain-part.Post
-  plain-part-paren-requires c κs = (omega arith, record { ready = c .before .before .before .before .before .before .before .before .before .pre .1; inside = byte-inside _ _ (byte "(") (c .before .before .before .before .before .byte-at .ensures) (c .before .if2 .taken) (λ z. omega arith) })
+  plain-part-paren-requires c κs =
+      let at-byte-at = c .before .before .before .before .before in
+      let asked = at-byte-at .before .before .before .before .pre .1 in
+      (omega arith, record { ready = asked; inside = byte-inside _ _ (byte "(") (at-byte-at .byte-at .ensures) (c .before .if2 .taken) (λ z. omega arith) })
 
   plain-part-enum-told-4 : plain-part-lts.Need-enum-told-4 plain-part-calls plain-part-at plain-part.Post
   plain-part-enum-told-4 c = search needs
@@ -486,31 +667,60 @@ module _ (t : ℕ) where
   plain-part-same-length c = search needs
 
   plain-part-returns : plain-part-lts.Need-returns plain-part-calls plain-part-at plain-part.Post
-  plain-part-returns c = by (plain-letter _ _ _ _ (class-told _ _ (c .before .before .before .before .before .before .before .byte-at .ensures) (c .before .before .before .before .before .before .class-of .ensures) (c .before .before .before .before .enum-told .given .1))) (c .before .before .word .ensures)
+  plain-part-returns c =
+      let at-word = c .before .before in
+      let at-enum-told = at-word .before .before in
+      let at-class-of = at-enum-told .before .before in
+      let at-byte-at = at-class-of .before in
+      by (plain-letter _ _ _ _ (class-told _ _ (at-byte-at .byte-at .ensures) (at-class-of .class-of .ensures) (at-enum-told .enum-told .given .1))) (at-word .word .ensures)
 
   plain-part-same-length-2 : plain-part-lts.Need-same-length-2 plain-part-calls plain-part-at plain-part.Post
   plain-part-same-length-2 c = search needs
 
   plain-part-returns-2 : plain-part-lts.Need-returns-2 plain-part-calls plain-part-at plain-part.Post
-  plain-part-returns-2 c = by (plain-deny _ _ _ _ (class-told _ _ (c .before .before .before .before .before .before .before .before .byte-at .ensures) (c .before .before .before .before .before .before .before .class-of .ensures) (c .before .before .before .before .before .enum-told2 .given .1)) (sym (c .before .before .before .before .before .before .before .before .byte-at .ensures) ∙ c .before .before .before .before .if1 .taken)) (c .before .before .deny .ensures)
+  plain-part-returns-2 c =
+      let at-deny = c .before .before in
+      let at-if1 = at-deny .before .before in
+      let at-enum-told2 = at-if1 .before in
+      let at-class-of = at-enum-told2 .before .before in
+      let at-byte-at = at-class-of .before in
+      by (plain-deny _ _ _ _ (class-told _ _ (at-byte-at .byte-at .ensures) (at-class-of .class-of .ensures) (at-enum-told2 .enum-told2 .given .1)) (sym (at-byte-at .byte-at .ensures) ∙ at-if1 .if1 .taken)) (at-deny .deny .ensures)
 
   plain-part-returns-3 : plain-part-lts.Need-returns-3 plain-part-calls plain-part-at plain-part.Post
-  plain-part-returns-3 c = refuses (plain-sign _ _ _ _ (class-told _ _ (c .before .before .before .before .byte-at .ensures) (c .before .before .before .class-of .ensures) (c .before .enum-told2 .given .1)) (λ e. c .if1 .left (c .before .before .before .before .byte-at .ensures ∙ e)))
+  plain-part-returns-3 c =
+      let at-class-of = c .before .before .before in
+      let at-byte-at = at-class-of .before in
+      refuses (plain-sign _ _ _ _ (class-told _ _ (at-byte-at .byte-at .ensures) (at-class-of .class-of .ensures) (c .before .enum-told2 .given .1)) (λ e. c .if1 .left (at-byte-at .byte-at .ensures ∙ e)))
 
   plain-part-same-length-3 : plain-part-lts.Need-same-length-3 plain-part-calls plain-part-at plain-part.Post
   plain-part-same-length-3 c = search needs
 
   plain-part-returns-4 : plain-part-lts.Need-returns-4 plain-part-calls plain-part-at plain-part.Post
-  plain-part-returns-4 c = by (plain-paren _ _ _ _ (class-told _ _ (c .before .before .before .before .before .before .before .before .byte-at .ensures) (c .before .before .before .before .before .before .before .class-of .ensures) (c .before .before .before .before .before .enum-told3 .given .1)) (sym (c .before .before .before .before .before .before .before .before .byte-at .ensures) ∙ c .before .before .before .before .if2 .taken)) (c .before .before .paren .ensures)
+  plain-part-returns-4 c =
+      let at-paren = c .before .before in
+      let at-if2 = at-paren .before .before in
+      let at-enum-told3 = at-if2 .before in
+      let at-class-of = at-enum-told3 .before .before in
+      let at-byte-at = at-class-of .before in
+      by (plain-paren _ _ _ _ (class-told _ _ (at-byte-at .byte-at .ensures) (at-class-of .class-of .ensures) (at-enum-told3 .enum-told3 .given .1)) (sym (at-byte-at .byte-at .ensures) ∙ at-if2 .if2 .taken)) (at-paren .paren .ensures)
 
   plain-part-returns-5 : plain-part-lts.Need-returns-5 plain-part-calls plain-part-at plain-part.Post
-  plain-part-returns-5 c = refuses (plain-bracket _ _ _ _ (class-told _ _ (c .before .before .before .before .byte-at .ensures) (c .before .before .before .class-of .ensures) (c .before .enum-told3 .given .1)) (λ e. c .if2 .left (c .before .before .before .before .byte-at .ensures ∙ e)))
+  plain-part-returns-5 c =
+      let at-class-of = c .before .before .before in
+      let at-byte-at = at-class-of .before in
+      refuses (plain-bracket _ _ _ _ (class-told _ _ (at-byte-at .byte-at .ensures) (at-class-of .class-of .ensures) (c .before .enum-told3 .given .1)) (λ e. c .if2 .left (at-byte-at .byte-at .ensures ∙ e)))
 
   plain-part-returns-6 : plain-part-lts.Need-returns-6 plain-part-calls plain-part-at plain-part.Post
-  plain-part-returns-6 c = refuses (plain-digit _ _ _ _ (class-told _ _ (c .before .before .before .byte-at .ensures) (c .before .before .class-of .ensures) (c .enum-told4 .given .1)))
+  plain-part-returns-6 c =
+      let at-class-of = c .before .before in
+      let at-byte-at = at-class-of .before in
+      refuses (plain-digit _ _ _ _ (class-told _ _ (at-byte-at .byte-at .ensures) (at-class-of .class-of .ensures) (c .enum-told4 .given .1)))
 
   plain-part-returns-7 : plain-part-lts.Need-returns-7 plain-part-calls plain-part-at plain-part.Post
-  plain-part-returns-7 c = refuses (plain-other _ _ _ _ (class-told _ _ (c .before .before .before .byte-at .ensures) (c .before .before .class-of .ensures) (c .enum-told5 .given .1)))
+  plain-part-returns-7 c =
+      let at-class-of = c .before .before in
+      let at-byte-at = at-class-of .before in
+      refuses (plain-other _ _ _ _ (class-told _ _ (at-byte-at .byte-at .ensures) (at-class-of .class-of .ensures) (c .enum-told5 .given .1)))
 
   second-byte-at-requires : second-lts.Need-byte-at-requires second-calls second-at second.Post
   second-byte-at-requires c κs = search needs
@@ -522,7 +732,11 @@ module _ (t : ℕ) where
   second-add-inner c = search needs
 
   second-joined-requires : second-lts.Need-joined-requires second-calls second-at second.Post
-  second-joined-requires c κs = let i = byte-inside _ _ (byte ",") (c .before .before .byte-at .ensures) (c .before .if1 .left) (λ z. omega arith) in (omega (arith, i), on (c .before .before .before .before .before .before .pre .1 .ready) _ _ _ (omega (arith, i)) (omega arith) (omega arith) (c .before .before .before .before .before .before .pre .1 .ready .arena) refl)
+  second-joined-requires c κs =
+      let at-byte-at = c .before .before in
+      let asked = at-byte-at .before .before .before .before .pre .1 in
+      let i = byte-inside _ _ (byte ",") (at-byte-at .byte-at .ensures) (c .before .if1 .left) (λ z. omega arith) in
+      (omega (arith, i), on (asked .ready) _ _ _ (omega (arith, i)) (omega arith) (omega arith) (asked .ready .arena) refl)
 
   second-enum-known-r : second-lts.Need-enum-known-r second-calls second-at second.Post
   second-enum-known-r c = search needs
@@ -534,7 +748,11 @@ module _ (t : ℕ) where
   second-same-length c = search needs
 
   second-returns-2 : second-lts.Need-returns-2 second-calls second-at second.Post
-  second-returns-2 c = λ f hf hs. by (second-some _ _ _ f _ (sym (c .before .before .before .before .before .before .before .byte-at .ensures) ∙ c .before .before .before .before .before .before .if1 .left)) (hand-on-keep _ _ f (c .before .before .before .before .joined .ensures) (c .enum-told .given .1))
+  second-returns-2 c =
+      let at-joined = c .before .before .before .before in
+      let at-if1 = at-joined .before .before in
+      let at-byte-at = at-if1 .before in
+      λ f hf hs. by (second-some _ _ _ f _ (sym (at-byte-at .byte-at .ensures) ∙ at-if1 .if1 .left)) (hand-on-keep _ _ f (at-joined .joined .ensures) (c .enum-told .given .1))
 
   second-byte-at-requires-2 : second-lts.Need-byte-at-requires-2 second-calls second-at second.Post
   second-byte-at-requires-2 c κs = search needs
@@ -543,37 +761,75 @@ module _ (t : ℕ) where
   second-same-length-2 c = search needs
 
   second-returns-3 : second-lts.Need-returns-3 second-calls second-at second.Post
-  second-returns-3 c = λ f hf hs. by (second-some _ _ _ f _ (sym (c .before .before .before .before .before .before .before .before .before .before .byte-at .ensures) ∙ c .before .before .before .before .before .before .before .before .before .if1 .left)) (unshut-keep _ _ f (was (c .before .before .before .before .before .before .before .joined .ensures) (c .before .before .before .r .given .1)) (λ e. c .if2 .taken (c .before .byte-at2 .ensures ∙ e)))
+  second-returns-3 c =
+      let at-r = c .before .before .before in
+      let at-joined = at-r .before .before .before .before in
+      let at-if1 = at-joined .before .before in
+      let at-byte-at = at-if1 .before in
+      λ f hf hs. by (second-some _ _ _ f _ (sym (at-byte-at .byte-at .ensures) ∙ at-if1 .if1 .left)) (unshut-keep _ _ f (was (at-joined .joined .ensures) (at-r .r .given .1)) (λ e. c .if2 .taken (c .before .byte-at2 .ensures ∙ e)))
 
   second-sub-left : second-lts.Need-sub-left second-calls second-at second.Post
   second-sub-left c = search needs
 
   second-sub-right : second-lts.Need-sub-right second-calls second-at second.Post
-  second-sub-right c = let w = far (c .before .before .before .before .before .before .before .joined .ensures) (c .before .before .before .r .given .1) in omega arith
+  second-sub-right c =
+      let at-r = c .before .before .before in
+      let at-joined = at-r .before .before .before .before in
+      let w = far (at-joined .joined .ensures) (at-r .r .given .1) in
+      omega arith
 
   second-cast-put-keep : second-lts.Need-cast-put-keep second-calls second-at second.Post
-  second-cast-put-keep c = omega (arith, c .before .before .before .before .before .before .before .before .before .before .before .before .before .before .before .pre .1 .ready .rows)
+  second-cast-put-keep c =
+      let asked = c .before .before .before .before .before .before .before .before .before .before .before .before .before .before .before .pre .1 in
+      omega (arith, asked .ready .rows)
 
   second-put-keep-requires : second-lts.Need-put-keep-requires second-calls second-at second.Post
-  second-put-keep-requires c κs = let w = far (c .before .before .before .before .before .before .before .before .joined .ensures) (c .before .before .before .before .r .given .1) in let i = byte-inside _ _ (byte ")") (c .before .before .byte-at2 .ensures) (c .before .if2 .left) (λ z. omega arith) in (room-for (c .before .before .before .before .before .before .before .before .before .before .before .before .before .before .before .pre .1 .ready) _ 6 (omega (arith, i)) (search needs), (omega arith, omega arith))
+  second-put-keep-requires c κs =
+      let at-byte-at2 = c .before .before in
+      let at-r = at-byte-at2 .before .before in
+      let at-joined = at-r .before .before .before .before in
+      let asked = at-joined .before .before .before .before .before .before .before .pre .1 in
+      let w = far (at-joined .joined .ensures) (at-r .r .given .1) in
+      let i = byte-inside _ _ (byte ")") (at-byte-at2 .byte-at2 .ensures) (c .before .if2 .left) (λ z. omega arith) in
+      (room-for (asked .ready) _ 6 (omega (arith, i)) (search needs), (omega arith, omega arith))
 
   second-add-after : second-lts.Need-add-after second-calls second-at second.Post
-  second-add-after c = let w = far (c .before .before .before .before .before .before .before .before .before .before .before .joined .ensures) (c .before .before .before .before .before .before .before .r .given .1) in omega arith
+  second-add-after c =
+      let at-r = c .before .before .before .before .before .before .before in
+      let at-joined = at-r .before .before .before .before in
+      let w = far (at-joined .joined .ensures) (at-r .r .given .1) in
+      omega arith
 
   second-add-count : second-lts.Need-add-count second-calls second-at second.Post
-  second-add-count c = let w = far (c .before .before .before .before .before .before .before .before .before .before .before .joined .ensures) (c .before .before .before .before .before .before .before .r .given .1) in omega (arith, c .before .before .before .before .before .before .before .before .before .before .before .before .before .before .before .before .before .before .pre .1 .ready .room .few)
+  second-add-count c =
+      let at-r = c .before .before .before .before .before .before .before in
+      let at-joined = at-r .before .before .before .before in
+      let asked = at-joined .before .before .before .before .before .before .before .pre .1 in
+      let w = far (at-joined .joined .ensures) (at-r .r .given .1) in
+      omega (arith, asked .ready .room .few)
 
   second-same-length-3 : second-lts.Need-same-length-3 second-calls second-at second.Post
   second-same-length-3 c = search needs
 
   second-returns-4 : second-lts.Need-returns-4 second-calls second-at second.Post
   second-returns-4 c =
-      let w = far (c .before .before .before .before .before .before .before .before .before .before .before .joined .ensures) (c .before .before .before .before .before .before .before .r .given .1) in let i = byte-inside _ _ (byte ")") (c .before .before .before .before .before .byte-at2 .ensures) (c .before .before .before .before .if2 .left) (λ z. omega arith) in
-      λ f hf hs. by (second-some _ _ _ f _ (sym (c .before .before .before .before .before .before .before .before .before .before .before .before .before .before .byte-at .ensures) ∙ c .before .before .before .before .before .before .before .before .before .before .before .before .before .if1 .left))
-      (shut-keep _ _ f (was (c .before .before .before .before .before .before .before .before .before .before .before .joined .ensures) (c .before .before .before .before .before .before .before .r .given .1)) _ _ _ (c .before .before .before .before .before .before .before .before .before .before .before .before .before .before .before .before .before .before .pre .1 .some) (omega arith) (c .before .before .before .before .before .before .before .before .before .before .before .before .before .before .before .before .before .before .pre .1 .ready .arena) hf hs (room-for (c .before .before .before .before .before .before .before .before .before .before .before .before .before .before .before .before .before .before .pre .1 .ready) _ 6 (omega (arith, i)) (search needs)) (c .before .before .put-keep .ensures) (sym (c .before .before .before .before .before .byte-at2 .ensures) ∙ c .before .before .before .before .if2 .left) i)
+      let asked = c .before .before .before .before .before .before .before .before .before .before .before .before .before .before .before .before .before .before .pre .1 in
+      let the-byte-at = c .before .before .before .before .before .before .before .before .before .before .before .before .before .before .byte-at in
+      let the-if1 = c .before .before .before .before .before .before .before .before .before .before .before .before .before .if1 in
+      let the-joined = c .before .before .before .before .before .before .before .before .before .before .before .joined in
+      let the-r = c .before .before .before .before .before .before .before .r in
+      let the-byte-at2 = c .before .before .before .before .before .byte-at2 in
+      let the-if2 = c .before .before .before .before .if2 in
+      let the-put-keep = c .before .before .put-keep in
+      let w = far (the-joined .ensures) (the-r .given .1) in
+      let i = byte-inside _ _ (byte ")") (the-byte-at2 .ensures) (the-if2 .left) (λ z. omega arith) in
+      λ f hf hs. by (second-some _ _ _ f _ (sym (the-byte-at .ensures) ∙ the-if1 .left))
+      (shut-keep _ _ f (was (the-joined .ensures) (the-r .given .1)) _ _ _ (asked .some) (omega arith) (asked .ready .arena) hf hs (room-for (asked .ready) _ 6 (omega (arith, i)) (search needs)) (the-put-keep .ensures) (sym (the-byte-at2 .ensures) ∙ the-if2 .left) i)
 
   timed-plain-part-requires : timed-lts.Need-plain-part-requires timed-calls timed-at timed.Post
-  timed-plain-part-requires c κs = (omega arith, c .before .before .before .before .pre .1)
+  timed-plain-part-requires c κs =
+      let asked = c .before .before .before .before .pre .1 in
+      (omega arith, asked)
 
   timed-enum-known-r : timed-lts.Need-enum-known-r timed-calls timed-at timed.Post
   timed-enum-known-r c = search needs
@@ -586,17 +842,29 @@ module _ (t : ℕ) where
 
   timed-returns : timed-lts.Need-returns timed-calls timed-at timed.Post
   unfolding timedPart
-  timed-returns c = hand-on _ (c .before .before .before .before .plain-part .ensures) (c .enum-told .given .1)
+  timed-returns c =
+      let at-plain-part = c .before .before .before .before in
+      hand-on _ (at-plain-part .plain-part .ensures) (c .enum-told .given .1)
 
   timed-times-at-requires : timed-lts.Need-times-at-requires timed-calls timed-at timed.Post
-  timed-times-at-requires c κs = let w = far (c .before .before .before .before .before .before .plain-part .ensures) (c .before .before .r .given .1) in record { ready = bare (on (c .before .before .before .before .before .before .before .before .before .before .before .pre .1) _ _ _ (w .inside) (omega arith) (omega arith) (left (c .before .before .before .before .before .before .plain-part .ensures) (c .before .before .r .given .1)) (search needs)); some = omega arith }
+  timed-times-at-requires c κs =
+      let at-r = c .before .before in
+      let at-plain-part = at-r .before .before .before .before in
+      let asked = at-plain-part .before .before .before .before .before .pre .1 in
+      let w = far (at-plain-part .plain-part .ensures) (at-r .r .given .1) in
+      record { ready = bare (on asked _ _ _ (w .inside) (omega arith) (omega arith) (left (at-plain-part .plain-part .ensures) (at-r .r .given .1)) (search needs)); some = omega arith }
 
   timed-same-length-2 : timed-lts.Need-same-length-2 timed-calls timed-at timed.Post
   timed-same-length-2 c = search needs
 
   timed-returns-2 : timed-lts.Need-returns-2 timed-calls timed-at timed.Post
   unfolding timedPart
-  timed-returns-2 c = let w = far (c .before .before .before .before .before .before .before .before .before .plain-part .ensures) (c .before .before .before .before .before .r .given .1) in then _ _ _ (omega arith) (omega arith) (omega arith) (omega arith) (was (c .before .before .before .before .before .before .before .before .before .plain-part .ensures) (c .before .before .before .before .before .r .given .1)) (λ f hf hs. c .before .before .times-at .ensures _ _ f (omega arith) hf hs)
+  timed-returns-2 c =
+      let at-times-at = c .before .before in
+      let at-r = at-times-at .before .before .before in
+      let at-plain-part = at-r .before .before .before .before in
+      let w = far (at-plain-part .plain-part .ensures) (at-r .r .given .1) in
+      then _ _ _ (omega arith) (omega arith) (omega arith) (omega arith) (was (at-plain-part .plain-part .ensures) (at-r .r .given .1)) (λ f hf hs. at-times-at .times-at .ensures _ _ f (omega arith) hf hs)
 
   word-is-since-requires : word-lts.Need-is-since-requires word-calls word-at word.Post
   word-is-since-requires c κs = search needs
@@ -605,7 +873,11 @@ module _ (t : ℕ) where
   word-add-next c = search needs
 
   word-keep-requires : word-lts.Need-keep-requires word-calls word-at word.Post
-  word-keep-requires c κs = let i = since-inside _ _ (c .before .before .before .before .before .before .pre .1 .ready .within) (c .before .before .is-since .ensures) (c .before .if1 .taken) in (omega arith, record { ready = on (c .before .before .before .before .before .before .pre .1 .ready) _ _ _ (omega arith) (omega arith) (omega arith) (c .before .before .before .before .before .before .pre .1 .ready .arena) refl; keyword = omega arith; within = i })
+  word-keep-requires c κs =
+      let at-is-since = c .before .before in
+      let asked = at-is-since .before .before .before .before .pre .1 in
+      let i = since-inside _ _ (asked .ready .within) (at-is-since .is-since .ensures) (c .before .if1 .taken) in
+      (omega arith, record { ready = on (asked .ready) _ _ _ (omega arith) (omega arith) (omega arith) (asked .ready .arena) refl; keyword = omega arith; within = i })
 
   word-is-until-requires : word-lts.Need-is-until-requires word-calls word-at word.Post
   word-is-until-requires c κs = search needs
@@ -614,7 +886,11 @@ module _ (t : ℕ) where
   word-add-next-2 c = search needs
 
   word-keep-requires-2 : word-lts.Need-keep-requires-2 word-calls word-at word.Post
-  word-keep-requires-2 c κs = let i = until-inside _ _ (c .before .before .before .before .before .before .before .before .pre .1 .ready .within) (c .before .before .is-until .ensures) (c .before .if2 .taken) in (omega arith, record { ready = on (c .before .before .before .before .before .before .before .before .pre .1 .ready) _ _ _ (omega arith) (omega arith) (omega arith) (c .before .before .before .before .before .before .before .before .pre .1 .ready .arena) refl; keyword = omega arith; within = i })
+  word-keep-requires-2 c κs =
+      let at-is-until = c .before .before in
+      let asked = at-is-until .before .before .before .before .before .before .pre .1 in
+      let i = until-inside _ _ (asked .ready .within) (at-is-until .is-until .ensures) (c .before .if2 .taken) in
+      (omega arith, record { ready = on (asked .ready) _ _ _ (omega arith) (omega arith) (omega arith) (asked .ready .arena) refl; keyword = omega arith; within = i })
 
   word-name-requires : word-lts.Need-name-requires word-calls word-at word.Post
   word-name-requires c κs = search needs
@@ -623,19 +899,35 @@ module _ (t : ℕ) where
   word-same-length c = search needs
 
   word-returns : word-lts.Need-returns word-calls word-at word.Post
-  word-returns c = by (word-since _ _ _ _ (sym (c .before .before .before .before .before .is-since .ensures) ∙ c .before .before .before .before .if1 .taken)) (from (omega arith) (c .before .before .keep .ensures))
+  word-returns c =
+      let at-keep = c .before .before in
+      let at-if1 = at-keep .before .before in
+      let at-is-since = at-if1 .before in
+      by (word-since _ _ _ _ (sym (at-is-since .is-since .ensures) ∙ at-if1 .if1 .taken)) (from (omega arith) (at-keep .keep .ensures))
 
   word-same-length-2 : word-lts.Need-same-length-2 word-calls word-at word.Post
   word-same-length-2 c = search needs
 
   word-returns-2 : word-lts.Need-returns-2 word-calls word-at word.Post
-  word-returns-2 c = by (word-until _ _ _ _ (sym (c .before .before .before .before .before .before .before .is-since .ensures) ∙ c .before .before .before .before .before .before .if1 .left) (sym (c .before .before .before .before .before .is-until .ensures) ∙ c .before .before .before .before .if2 .taken)) (from (omega arith) (c .before .before .keep2 .ensures))
+  word-returns-2 c =
+      let at-keep2 = c .before .before in
+      let at-if2 = at-keep2 .before .before in
+      let at-is-until = at-if2 .before in
+      let at-if1 = at-is-until .before in
+      let at-is-since = at-if1 .before in
+      by (word-until _ _ _ _ (sym (at-is-since .is-since .ensures) ∙ at-if1 .if1 .left) (sym (at-is-until .is-until .ensures) ∙ at-if2 .if2 .taken)) (from (omega arith) (at-keep2 .keep2 .ensures))
 
   word-same-length-3 : word-lts.Need-same-length-3 word-calls word-at word.Post
   word-same-length-3 c = search needs
 
   word-returns-3 : word-lts.Need-returns-3 word-calls word-at word.Post
-  word-returns-3 c = by (word-name _ _ _ _ (sym (c .before .before .before .before .before .before .before .is-since .ensures) ∙ c .before .before .before .before .before .before .if1 .left) (sym (c .before .before .before .before .before .is-until .ensures) ∙ c .before .before .before .before .if2 .left)) (c .before .before .name .ensures)
+  word-returns-3 c =
+      let at-name = c .before .before in
+      let at-if2 = at-name .before .before in
+      let at-is-until = at-if2 .before in
+      let at-if1 = at-is-until .before in
+      let at-is-since = at-if1 .before in
+      by (word-name _ _ _ _ (sym (at-is-since .is-since .ensures) ∙ at-if1 .if1 .left) (sym (at-is-until .is-until .ensures) ∙ at-if2 .if2 .left)) (at-name .name .ensures)
 
 pub +below-part+deny+joined+keep+more+paren+plain-part+second+timed+word-spec : {M : Type 1} → statement M
 +below-part+deny+joined+keep+more+paren+plain-part+second+timed+word-spec =
