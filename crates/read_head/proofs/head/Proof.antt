@@ -37,7 +37,9 @@ slice-aggregate-ranged-line-2 c = search needs
 
 ranged-line-requires-2 : tie.Need-ranged-line-requires-2
 ranged-line-requires-2 c κs =
-    let a = answered says (c .before .before .before .before .ranged-line .ensures) (c .before .before .a .given .1) in
+    let at-a = c .before .before in
+    let at-ranged-line = at-a .before .before in
+    let a = answered says (at-ranged-line .ranged-line .ensures) (at-a .a .given .1) in
     ranged-past _ _ _ _ _ _ _ a .0 .inside
 
 enum-known-b : tie.Need-enum-known-b
@@ -51,9 +53,12 @@ refused-line-requires-2 c κs = is-refusal says (c .enum-told2 .given .1) tt
 
 returns-2 : tie.Need-returns-2
 returns-2 c =
-    let a = answered says (c .before .before .before .before .before .before .before .before .ranged-line .ensures) (c .before .before .before .before .before .before .a .given .1) in
+    let at-ranged-line2 = c .before .before .before in
+    let at-a = at-ranged-line2 .before .before .before in
+    let at-ranged-line = at-a .before .before in
+    let a = answered says (at-ranged-line .ranged-line .ensures) (at-a .a .given .1) in
     let x = c .before .enum-told2 .given .1 in
-    subst (Headed _ _) (sym (c .refused-line2 .ensures _ _ (ap says x))) (refused-at (refused-signals _ a (answered says (c .before .before .before .ranged-line2 .ensures) x)))
+    subst (Headed _ _) (sym (c .refused-line2 .ensures _ _ (ap says x))) (refused-at (refused-signals _ a (answered says (at-ranged-line2 .ranged-line2 .ensures) x)))
 
 signals-at-requires : tie.Need-signals-at-requires
 signals-at-requires c κs =
@@ -75,18 +80,27 @@ same-length c = search needs
 
 returns-3 : tie.Need-returns-3
 returns-3 c =
-    let a = answered says (c .before .before .before .before .before .before .before .before .before .before .before .before .before .before .before .ranged-line .ensures) (c .before .before .before .before .before .before .before .before .before .before .before .before .before .a .given .1) in
-    let b = answered says (c .before .before .before .before .before .before .before .before .before .before .ranged-line2 .ensures) (c .before .before .before .before .before .before .before .before .b .given .1) in
+    let at-signals-at = c .before .before .before .before .before in
+    let at-b = at-signals-at .before .before .before in
+    let at-ranged-line2 = at-b .before .before in
+    let at-a = at-ranged-line2 .before .before .before in
+    let at-ranged-line = at-a .before .before in
+    let a = answered says (at-ranged-line .ranged-line .ensures) (at-a .a .given .1) in
+    let b = answered says (at-ranged-line2 .ranged-line2 .ensures) (at-b .b .given .1) in
     let x = c .before .enum-told3 .given .1 in
-    subst (Headed _ _) (sym (c .refused-line3 .ensures _ _ (ap says x))) (refused-at (refused-signal _ a b (answered (placesOf _ _) (c .before .before .before .before .before .signals-at .ensures) x)))
+    subst (Headed _ _) (sym (c .refused-line3 .ensures _ _ (ap says x))) (refused-at (refused-signal _ a b (answered (placesOf _ _) (at-signals-at .signals-at .ensures) x)))
 
 slice-aggregate-ranged-line-3 : tie.Need-slice-aggregate-ranged-line-3
 slice-aggregate-ranged-line-3 c = search needs
 
 ranged-line-requires-3 : tie.Need-ranged-line-requires-3
 ranged-line-requires-3 c κs =
-    let b = answered says (c .before .before .before .before .before .before .before .before .before .before .before .ranged-line2 .ensures) (c .before .before .before .before .before .before .before .before .before .b .given .1) in
-    let d = answered (placesOf _ _) (c .before .before .before .before .before .before .signals-at .ensures) (c .before .before .d .given .1) in
+    let at-d = c .before .before in
+    let at-signals-at = at-d .before .before .before .before in
+    let at-b = at-signals-at .before .before .before in
+    let at-ranged-line2 = at-b .before .before in
+    let b = answered says (at-ranged-line2 .ranged-line2 .ensures) (at-b .b .given .1) in
+    let d = answered (placesOf _ _) (at-signals-at .signals-at .ensures) (at-d .d .given .1) in
     signal-lines _ _ _ _ (ranged-past _ _ _ _ _ _ _ b .0 .inside) tt d .past .inside
 
 enum-known-e : tie.Need-enum-known-e
@@ -103,21 +117,35 @@ same-length-2 c = search needs
 
 returns-4 : tie.Need-returns-4
 returns-4 c =
-    let a = answered says (c .before .before .before .before .before .before .before .before .before .before .before .before .before .before .before .before .before .before .before .before .ranged-line .ensures) (c .before .before .before .before .before .before .before .before .before .before .before .before .before .before .before .before .before .before .a .given .1) in
-    let b = answered says (c .before .before .before .before .before .before .before .before .before .before .before .before .before .before .before .ranged-line2 .ensures) (c .before .before .before .before .before .before .before .before .before .before .before .before .before .b .given .1) in
-    let d = answered (placesOf _ _) (c .before .before .before .before .before .before .before .before .before .before .signals-at .ensures) (c .before .before .before .before .before .before .d .given .1) in
+    let at-ranged-line3 = c .before .before .before in
+    let at-d = at-ranged-line3 .before .before .before in
+    let at-signals-at = at-d .before .before .before .before in
+    let at-b = at-signals-at .before .before .before in
+    let at-ranged-line2 = at-b .before .before in
+    let at-a = at-ranged-line2 .before .before .before in
+    let at-ranged-line = at-a .before .before in
+    let a = answered says (at-ranged-line .ranged-line .ensures) (at-a .a .given .1) in
+    let b = answered says (at-ranged-line2 .ranged-line2 .ensures) (at-b .b .given .1) in
+    let d = answered (placesOf _ _) (at-signals-at .signals-at .ensures) (at-d .d .given .1) in
     let x = c .before .enum-told4 .given .1 in
-    subst (Headed _ _) (sym (c .refused-line4 .ensures _ _ (ap says x))) (refused-at (refused-rules _ a b d (answered says (c .before .before .before .ranged-line3 .ensures) x)))
+    subst (Headed _ _) (sym (c .refused-line4 .ensures _ _ (ap says x))) (refused-at (refused-rules _ a b d (answered says (at-ranged-line3 .ranged-line3 .ensures) x)))
 
 same-length-3 : tie.Need-same-length-3
 same-length-3 c = search needs
 
 returns-5 : tie.Need-returns-5
 returns-5 c =
-    let a = answered says (c .before .before .before .before .before .before .before .before .before .before .before .before .before .before .before .before .before .before .before .before .ranged-line .ensures) (c .before .before .before .before .before .before .before .before .before .before .before .before .before .before .before .before .before .before .a .given .1) in
-    let b = answered says (c .before .before .before .before .before .before .before .before .before .before .before .before .before .before .before .ranged-line2 .ensures) (c .before .before .before .before .before .before .before .before .before .before .before .before .before .b .given .1) in
-    let d = answered (placesOf _ _) (c .before .before .before .before .before .before .before .before .before .before .signals-at .ensures) (c .before .before .before .before .before .before .d .given .1) in
-    let e = answered says (c .before .before .before .ranged-line3 .ensures) (c .before .e .given .1) in
+    let at-ranged-line3 = c .before .before .before in
+    let at-d = at-ranged-line3 .before .before .before in
+    let at-signals-at = at-d .before .before .before .before in
+    let at-b = at-signals-at .before .before .before in
+    let at-ranged-line2 = at-b .before .before in
+    let at-a = at-ranged-line2 .before .before .before in
+    let at-ranged-line = at-a .before .before in
+    let a = answered says (at-ranged-line .ranged-line .ensures) (at-a .a .given .1) in
+    let b = answered says (at-ranged-line2 .ranged-line2 .ensures) (at-b .b .given .1) in
+    let d = answered (placesOf _ _) (at-signals-at .signals-at .ensures) (at-d .d .given .1) in
+    let e = answered says (at-ranged-line3 .ranged-line3 .ensures) (c .before .e .given .1) in
     let w = ranged-past _ _ _ _ _ _ _ a in
     let n = ranged-past _ _ _ _ _ _ _ b in
     let m = ranged-past _ _ _ _ _ _ _ e in

@@ -48,16 +48,21 @@ refused-line-requires-2 c κs = is-refusal says (c .enum-told2 .given .1) tt
 
 returns-2 : tie.Need-returns-2
 returns-2 c =
-    let a = answered says (c .before .before .before .before .before .before .before .ranged-line .ensures) (c .before .before .before .before .before .a .given .1) in
+    let at-known-line = c .before .before .before in
+    let at-a = at-known-line .before .before in
+    let at-ranged-line = at-a .before .before in
+    let a = answered says (at-ranged-line .ranged-line .ensures) (at-a .a .given .1) in
     let e = c .before .enum-told2 .given .1 in
-    ap readingOf (c .refused-line2 .ensures _ _ (ap says e)) ∙ refused-second _ _ _ _ a (answered says (c .before .before .before .known-line .ensures) e)
+    ap readingOf (c .refused-line2 .ensures _ _ (ap says e)) ∙ refused-second _ _ _ _ a (answered says (at-known-line .known-line .ensures) e)
 
 slice-aggregate-ranged-line-2 : tie.Need-slice-aggregate-ranged-line-2
 slice-aggregate-ranged-line-2 c = search needs
 
 ranged-line-requires-2 : tie.Need-ranged-line-requires-2
 ranged-line-requires-2 c κs =
-    let b = answered says (c .before .before .before .before .known-line .ensures) (c .before .before .b .given .1) in
+    let at-b = c .before .before in
+    let at-known-line = at-b .before .before in
+    let b = answered says (at-known-line .known-line .ensures) (at-b .b .given .1) in
     known-past _ _ _ b .0 .inside
 
 enum-known-d : tie.Need-enum-known-d
@@ -71,16 +76,26 @@ refused-line-requires-3 c κs = is-refusal says (c .enum-told3 .given .1) tt
 
 returns-3 : tie.Need-returns-3
 returns-3 c =
-    let a = answered says (c .before .before .before .before .before .before .before .before .before .before .before .before .ranged-line .ensures) (c .before .before .before .before .before .before .before .before .before .before .a .given .1) in
-    let b = answered says (c .before .before .before .before .before .before .before .before .known-line .ensures) (c .before .before .before .before .before .before .b .given .1) in
+    let at-ranged-line2 = c .before .before .before in
+    let at-b = at-ranged-line2 .before .before .before in
+    let at-known-line = at-b .before .before in
+    let at-a = at-known-line .before .before in
+    let at-ranged-line = at-a .before .before in
+    let a = answered says (at-ranged-line .ranged-line .ensures) (at-a .a .given .1) in
+    let b = answered says (at-known-line .known-line .ensures) (at-b .b .given .1) in
     let e = c .before .enum-told3 .given .1 in
-    ap readingOf (c .refused-line3 .ensures _ _ (ap says e)) ∙ refused-third _ _ _ _ a b (answered says (c .before .before .before .ranged-line2 .ensures) e)
+    ap readingOf (c .refused-line3 .ensures _ _ (ap says e)) ∙ refused-third _ _ _ _ a b (answered says (at-ranged-line2 .ranged-line2 .ensures) e)
 
 returns-4 : tie.Need-returns-4
 returns-4 c =
-    let a = answered says (c .before .before .before .before .before .before .before .before .before .before .before .before .ranged-line .ensures) (c .before .before .before .before .before .before .before .before .before .before .a .given .1) in
-    let b = answered says (c .before .before .before .before .before .before .before .before .known-line .ensures) (c .before .before .before .before .before .before .b .given .1) in
-    let d = answered says (c .before .before .before .ranged-line2 .ensures) (c .before .d .given .1) in
+    let at-ranged-line2 = c .before .before .before in
+    let at-b = at-ranged-line2 .before .before .before in
+    let at-known-line = at-b .before .before in
+    let at-a = at-known-line .before .before in
+    let at-ranged-line = at-a .before .before in
+    let a = answered says (at-ranged-line .ranged-line .ensures) (at-a .a .given .1) in
+    let b = answered says (at-known-line .known-line .ensures) (at-b .b .given .1) in
+    let d = answered says (at-ranged-line2 .ranged-line2 .ensures) (c .before .d .given .1) in
     reading-is _ _ _ _ a b d
 
 pub reading-at-spec : {M : Type 1} → statement M

@@ -49,19 +49,44 @@ module _ (t : ℕ) where
   times-at-sub-child c = search needs
 
   times-at-cast-t23 : times-at-lts.Need-cast-t23 times-at-calls times-at-at times-at.Post
-  times-at-cast-t23 c = let w = timed-span _ _ (c .before .before .before .before .interval-at .ensures) (c .before .before .i .given .1) in record { fits = omega (arith, w .4) }
+  times-at-cast-t23 c =
+      let at-i = c .before .before in
+      let at-interval-at = at-i .before .before in
+      let w = timed-span _ _ (at-interval-at .interval-at .ensures) (at-i .i .given .1) in
+      record { fits = omega (arith, w .4) }
 
   times-at-cast-t24 : times-at-lts.Need-cast-t24 times-at-calls times-at-at times-at.Post
-  times-at-cast-t24 c = let w = timed-span _ _ (c .before .before .before .before .interval-at .ensures) (c .before .before .i .given .1) in record { fits = omega (arith, w .4) }
+  times-at-cast-t24 c =
+      let at-i = c .before .before in
+      let at-interval-at = at-i .before .before in
+      let w = timed-span _ _ (at-interval-at .interval-at .ensures) (at-i .i .given .1) in
+      record { fits = omega (arith, w .4) }
 
   times-at-put-node-requires : times-at-lts.Need-put-node-requires times-at-calls times-at-at times-at.Post
-  times-at-put-node-requires c κs = let g = timed-sign _ _ _ (c .before .before .before .before .before .before .before .byte-at .ensures) (c .before .before .before .before .before .before .if1 .left) (omega arith) in let w = timed-span _ _ (c .before .before .before .before .interval-at .ensures) (c .before .before .i .given .1) in (room-for (c .before .before .before .before .before .before .before .before .before .before .pre .1 .ready) _ 1 (omega (arith, g .1)) refl, (omega arith, w .3, w .4))
+  times-at-put-node-requires c κs =
+      let at-i = c .before .before in
+      let at-interval-at = at-i .before .before in
+      let at-if1 = at-interval-at .before .before in
+      let at-byte-at = at-if1 .before in
+      let asked = at-byte-at .before .before .before .pre .1 in
+      let g = timed-sign _ _ _ (at-byte-at .byte-at .ensures) (at-if1 .if1 .left) (omega arith) in
+      let w = timed-span _ _ (at-interval-at .interval-at .ensures) (at-i .i .given .1) in
+      (room-for (asked .ready) _ 1 (omega (arith, g .1)) refl, (omega arith, w .3, w .4))
 
   times-at-add-count : times-at-lts.Need-add-count times-at-calls times-at-at times-at.Post
   times-at-add-count c = search needs
 
   times-at-times-at-requires : times-at-lts.Need-times-at-requires times-at-calls times-at-at times-at.Post
-  times-at-times-at-requires c κs = let g = timed-sign _ _ _ (c .before .before .before .before .before .before .before .before .before .before .before .byte-at .ensures) (c .before .before .before .before .before .before .before .before .before .before .if1 .left) (omega arith) in let w = timed-span _ _ (c .before .before .before .before .before .before .before .before .interval-at .ensures) (c .before .before .before .before .before .before .i .given .1) in (omega (arith, g .1, w .1), record { ready = after-node (c .before .before .before .before .before .before .before .before .before .before .before .before .before .before .pre .1 .ready) _ _ (omega (arith, w .1)) (w .2) (omega arith, w .3, w .4) (c .before .before .before .put-node .ensures); some = omega arith })
+  times-at-times-at-requires c κs =
+      let at-put-node = c .before .before .before in
+      let at-i = at-put-node .before .before .before in
+      let at-interval-at = at-i .before .before in
+      let at-if1 = at-interval-at .before .before in
+      let at-byte-at = at-if1 .before in
+      let asked = at-byte-at .before .before .before .pre .1 in
+      let g = timed-sign _ _ _ (at-byte-at .byte-at .ensures) (at-if1 .if1 .left) (omega arith) in
+      let w = timed-span _ _ (at-interval-at .interval-at .ensures) (at-i .i .given .1) in
+      (omega (arith, g .1, w .1), record { ready = after-node (asked .ready) _ _ (omega (arith, w .1)) (w .2) (omega arith, w .3, w .4) (at-put-node .put-node .ensures); some = omega arith })
 
   times-at-enum-known-i-2 : times-at-lts.Need-enum-known-i-2 times-at-calls times-at-at times-at.Post
   times-at-enum-known-i-2 c = search needs
@@ -71,18 +96,36 @@ module _ (t : ℕ) where
 
   times-at-returns : times-at-lts.Need-returns times-at-calls times-at-at times-at.Post
   times-at-returns c =
-      let g = timed-sign _ _ _ (c .before .before .before .before .before .before .before .before .before .before .before .before .before .before .byte-at .ensures) (c .before .before .before .before .before .before .before .before .before .before .before .before .before .if1 .left) (omega arith) in let w = timed-span _ _ (c .before .before .before .before .before .before .before .before .before .before .before .interval-at .ensures) (c .before .before .before .before .before .before .before .before .before .i .given .1) in
-      λ n x f l he hs. times-on _ n f _ (g .0) (g .1) l (c .before .before .before .before .before .before .before .before .before .before .before .before .before .before .byte-at .ensures) (w .0) (omega (arith, w .1)) (w .3) (w .4) (c .before .before .before .before .before .before .before .before .before .before .before .before .before .before .before .before .before .pre .1 .some) (c .before .before .before .before .before .before .before .before .before .before .before .before .before .before .before .before .before .pre .1 .ready .arena) (room-for (c .before .before .before .before .before .before .before .before .before .before .before .before .before .before .before .before .before .pre .1 .ready) _ 1 (omega (arith, g .1)) refl) he hs (c .before .before .before .before .before .before .put-node .ensures)
-      (λ k hk hk′. c .before .before .times-at .ensures (n - 1) x k (omega (arith, w .1)) hk hk′)
+      let at-times-at = c .before .before in
+      let at-put-node = at-times-at .before .before .before .before in
+      let at-i = at-put-node .before .before .before in
+      let at-interval-at = at-i .before .before in
+      let at-if1 = at-interval-at .before .before in
+      let at-byte-at = at-if1 .before in
+      let asked = at-byte-at .before .before .before .pre .1 in
+      let g = timed-sign _ _ _ (at-byte-at .byte-at .ensures) (at-if1 .if1 .left) (omega arith) in
+      let w = timed-span _ _ (at-interval-at .interval-at .ensures) (at-i .i .given .1) in
+      λ n x f l he hs. times-on _ n f _ (g .0) (g .1) l (at-byte-at .byte-at .ensures) (w .0) (omega (arith, w .1)) (w .3) (w .4) (asked .some) (asked .ready .arena) (room-for (asked .ready) _ 1 (omega (arith, g .1)) refl) he hs (at-put-node .put-node .ensures)
+      (λ k hk hk′. at-times-at .times-at .ensures (n - 1) x k (omega (arith, w .1)) hk hk′)
 
   times-at-returns-2 : times-at-lts.Need-returns-2 times-at-calls times-at-at times-at.Post
-  times-at-returns-2 c = let g = timed-sign _ _ _ (c .before .before .before .before .before .before .byte-at .ensures) (c .before .before .before .before .before .if1 .left) (omega arith) in λ n x f l he hs. times-cut _ n f _ (g .0) (g .1) l (sym (c .before .before .before .interval-at .ensures) ∙ c .before .i2 .given .1)
+  times-at-returns-2 c =
+      let at-interval-at = c .before .before .before in
+      let at-if1 = at-interval-at .before .before in
+      let at-byte-at = at-if1 .before in
+      let g = timed-sign _ _ _ (at-byte-at .byte-at .ensures) (at-if1 .if1 .left) (omega arith) in
+      λ n x f l he hs. times-cut _ n f _ (g .0) (g .1) l (sym (at-interval-at .interval-at .ensures) ∙ c .before .i2 .given .1)
 
   times-at-returns-3 : times-at-lts.Need-returns-3 times-at-calls times-at-at times-at.Post
-  times-at-returns-3 c = λ n x f l he hs. by (times-none _ n f _ (timed-unsigned _ _ _ (c .before .byte-at .ensures) (inl (c .if1 .taken)))) (stop (c .before .before .before .before .pre .1 .ready .within) (c .before .before .before .before .pre .1 .ready .arena) he hs)
+  times-at-returns-3 c =
+      let asked = c .before .before .before .before .pre .1 in
+      λ n x f l he hs. by (times-none _ n f _ (timed-unsigned _ _ _ (c .before .byte-at .ensures) (inl (c .if1 .taken)))) (stop (asked .ready .within) (asked .ready .arena) he hs)
 
   times-at-returns-4 : times-at-lts.Need-returns-4 times-at-calls times-at-at times-at.Post
-  times-at-returns-4 c = λ n x f l he hs. by (times-none _ n f _ (timed-unsigned _ _ _ (c .before .before .byte-at .ensures) (inr (c .if2 .left)))) (stop (c .before .before .before .before .before .pre .1 .ready .within) (c .before .before .before .before .before .pre .1 .ready .arena) he hs)
+  times-at-returns-4 c =
+      let at-byte-at = c .before .before in
+      let asked = at-byte-at .before .before .before .pre .1 in
+      λ n x f l he hs. by (times-none _ n f _ (timed-unsigned _ _ _ (at-byte-at .byte-at .ensures) (inr (c .if2 .left)))) (stop (asked .ready .within) (asked .ready .arena) he hs)
 
 pub +times-at-spec : {M : Type 1} → statement M
 +times-at-spec =

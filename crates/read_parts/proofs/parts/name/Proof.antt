@@ -15,7 +15,10 @@ cast-t16 : tie.Need-cast-t16
 cast-t16 c = search needs
 
 put-node-requires : tie.Need-put-node-requires
-put-node-requires c κs = let w = letter-ahead (now (c .before .before .before .before .before .before .args .s)) (c .before .before .before .before .before .before .args .at) (c .before .before .before .before .before .before .pre .letter) in (record { fits = omega (arith, w .ahead, w .inside); few = omega (arith, w .ahead, w .inside) }, tt)
+put-node-requires c κs =
+    let start = c .before .before .before .before .before .before in
+    let w = letter-ahead (now (start .args .s)) (start .args .at) (start .pre .letter) in
+    (record { fits = omega (arith, w .ahead, w .inside); few = omega (arith, w .ahead, w .inside) }, tt)
 
 word-end-requires : tie.Need-word-end-requires
 word-end-requires c κs = search needs
@@ -28,8 +31,12 @@ same-length c = search needs
 
 returns : tie.Need-returns
 returns c =
-    let w = letter-ahead (now (c .before .before .before .before .before .before .before .before .before .before .args .s)) (c .before .before .before .before .before .before .before .before .before .before .args .at) (c .before .before .before .before .before .before .before .before .before .before .pre .letter) in
-    leaf _ _ _ _ (name-found _ _ _ _ (c .before .before .before .before .before .before .find-name .ensures) (c .before .before .before .before .before .if1 .taken) (c .word-end .ensures)) (omega (arith, w .ahead, c .word-end .ensures)) (omega (arith, w .inside, c .word-end .ensures)) (c .before .before .before .before .before .before .before .before .before .before .pre .ready .arena) (record { fits = omega (arith, w .ahead, w .inside); few = omega (arith, w .ahead, w .inside) }) (c .before .before .before .put-node .ensures)
+    let at-put-node = c .before .before .before in
+    let at-if1 = at-put-node .before .before in
+    let at-find-name = at-if1 .before in
+    let start = at-find-name .before .before .before .before in
+    let w = letter-ahead (now (start .args .s)) (start .args .at) (start .pre .letter) in
+    leaf _ _ _ _ (name-found _ _ _ _ (at-find-name .find-name .ensures) (at-if1 .if1 .taken) (c .word-end .ensures)) (omega (arith, w .ahead, c .word-end .ensures)) (omega (arith, w .inside, c .word-end .ensures)) (start .pre .ready .arena) (record { fits = omega (arith, w .ahead, w .inside); few = omega (arith, w .ahead, w .inside) }) (at-put-node .put-node .ensures)
 
 returns-2 : tie.Need-returns-2
 returns-2 c = refuses (name-unknown _ _ _ _ (c .before .find-name .ensures) (c .if1 .left))

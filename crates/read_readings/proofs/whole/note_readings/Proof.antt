@@ -37,7 +37,9 @@ unfolding marksIn
 loop-holds c = (refl, omega arith, passed-none _ _)
 
 reading-at-requires : tie.Need-reading-at-requires Inv-loop μ-loop
-reading-at-requires c κs = (c .before .before .before .before .before .before .before .pre .some, c .before .loop .inv .2 .inside)
+reading-at-requires c κs =
+    let asked = c .before .before .before .before .before .before .before .pre in
+    (asked .some, c .before .loop .inv .2 .inside)
 
 enum-known-a : tie.Need-enum-known-a Inv-loop μ-loop
 enum-known-a c = search needs
@@ -49,14 +51,20 @@ refused-reading-requires : tie.Need-refused-reading-requires Inv-loop μ-loop
 refused-reading-requires c κs = is-refusal readingOf (c .enum-told .given .1) tt
 
 same-length : tie.Need-same-length Inv-loop μ-loop
-same-length c = c .before .before .before .before .before .loop .inv .0
+same-length c =
+    let at-loop = c .before .before .before .before .before in
+    at-loop .loop .inv .0
 
 returns-2 : tie.Need-returns-2 Inv-loop μ-loop
 returns-2 c =
-    let a = answered readingOf (c .before .before .before .reading-at .ensures) (c .before .enum-told .given .1) in
-    let e = passed-off _ _ (c .before .before .before .before .before .loop .inv .2) (c .before .before .before .before .loop-test .taken) a in
+    let at-reading-at = c .before .before .before in
+    let at-loop-test = at-reading-at .before in
+    let at-loop = at-loop-test .before in
+    let at-if1 = at-loop .before in
+    let a = answered readingOf (at-reading-at .reading-at .ensures) (c .before .enum-told .given .1) in
+    let e = passed-off _ _ (at-loop .loop .inv .2) (at-loop-test .loop-test .taken) a in
     subst (Notes _ _) (sym (c .refused-reading .ensures _ _ (ap readingOf (c .before .enum-told .given .1))))
-    (refused-at _ _ (readings-short _ _ _ (c .before .before .before .before .before .before .if1 .left) ∙ e))
+    (refused-at _ _ (readings-short _ _ _ (at-if1 .if1 .left) ∙ e))
 
 number-of-requires : tie.Need-number-of-requires Inv-loop μ-loop
 number-of-requires c κs =
@@ -69,34 +77,49 @@ mul-noted c = search needs
 
 slice-write-noted : tie.Need-slice-write-noted Inv-loop μ-loop
 slice-write-noted c =
-    let a = answered readingOf (c .before .before .before .before .reading-at .ensures) (c .before .before .a .given .1) in
+    let at-a = c .before .before in
+    let at-reading-at = at-a .before .before in
+    let at-loop = at-reading-at .before .before in
+    let at-if1 = at-loop .before in
+    let asked = at-if1 .before .before .before .before .before .pre in
+    let a = answered readingOf (at-reading-at .reading-at .ensures) (at-a .a .given .1) in
     let w = reading-past _ _ _ _ (omega arith) _ a in
-    omega (arith, c .before .before .before .before .before .before .loop .inv .0, c .before .before .before .before .before .before .loop .inv .1, reading-long _ _ _ _ a, w .past .inside, c .before .before .before .before .before .before .before .if1 .left, c .before .before .before .before .before .before .before .before .before .before .before .before .pre .room)
+    omega (arith, at-loop .loop .inv .0, at-loop .loop .inv .1, reading-long _ _ _ _ a, w .past .inside, at-if1 .if1 .left, asked .room)
 
 add-count : tie.Need-add-count Inv-loop μ-loop
 add-count c = omega arith
 
 loop-less : tie.Need-loop-less Inv-loop μ-loop
 loop-less c =
-    let a = answered readingOf (c .before .before .before .before .reading-at .ensures) (c .before .before .a .given .1) in
+    let at-a = c .before .before in
+    let at-reading-at = at-a .before .before in
+    let a = answered readingOf (at-reading-at .reading-at .ensures) (at-a .a .given .1) in
     let w = reading-past _ _ _ _ (omega arith) _ a in
     omega (arith, w .past .ahead, w .past .inside)
 
 loop-again : tie.Need-loop-again Inv-loop μ-loop
 loop-again c =
-    let a = answered readingOf (c .before .before .before .before .reading-at .ensures) (c .before .before .a .given .1) in
+    let at-a = c .before .before in
+    let at-reading-at = at-a .before .before in
+    let at-loop-test = at-reading-at .before in
+    let at-loop = at-loop-test .before in
+    let at-if1 = at-loop .before in
+    let asked = at-if1 .before .before .before .before .before .pre in
+    let a = answered readingOf (at-reading-at .reading-at .ensures) (at-a .a .given .1) in
     let w = reading-past _ _ _ _ (omega arith) _ a in
-    let z = c .before .before .before .before .before .before .loop .inv in
+    let z = at-loop .loop .inv in
     let u = reading-long _ _ _ _ a in
-    let l : c .before .before .before .before .before .before .loop .count < length (c .before .before .before .before .before .before .loop .noted) = omega (arith, z .0, z .1, u, w .past .inside, c .before .before .before .before .before .before .before .if1 .left, c .before .before .before .before .before .before .before .before .before .before .before .before .pre .room) in
-    (simp length-set (z .0), omega (arith, z .1, u), rw (marks-more _ _ l _ (c .number-of .ensures)) (passed-one _ _ (z .2) (c .before .before .before .before .before .loop-test .taken) a (w .past)))
+    let l : at-loop .loop .count < length (at-loop .loop .noted) = omega (arith, z .0, z .1, u, w .past .inside, at-if1 .if1 .left, asked .room) in
+    (simp length-set (z .0), omega (arith, z .1, u), rw (marks-more _ _ l _ (c .number-of .ensures)) (passed-one _ _ (z .2) (at-loop-test .loop-test .taken) a (w .past)))
 
 same-length-2 : tie.Need-same-length-2 Inv-loop μ-loop
 same-length-2 c = c .before .loop .inv .0
 
 returns-3 : tie.Need-returns-3 Inv-loop μ-loop
 returns-3 c =
-    all-noted (c .before .loop .count) _ (omega (arith, c .before .loop .inv .0, c .before .loop .inv .1, c .before .loop .inv .2 .inside, c .before .before .if1 .left, c .before .before .before .before .before .before .before .pre .room)) (readings-short _ _ _ (c .before .before .if1 .left) ∙ passed-all _ _ (c .before .loop .inv .2) (omega arith))
+    let at-if1 = c .before .before in
+    let asked = at-if1 .before .before .before .before .before .pre in
+    all-noted (c .before .loop .count) _ (omega (arith, c .before .loop .inv .0, c .before .loop .inv .1, c .before .loop .inv .2 .inside, at-if1 .if1 .left, asked .room)) (readings-short _ _ _ (at-if1 .if1 .left) ∙ passed-all _ _ (c .before .loop .inv .2) (omega arith))
 
 pub note-readings-spec : {M : Type 1} → statement M
 note-readings-spec =

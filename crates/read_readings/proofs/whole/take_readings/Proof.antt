@@ -20,8 +20,11 @@ slice-aggregate-put-noted c = search needs
 
 put-noted-requires : tie.Need-put-noted-requires
 put-noted-requires c κs =
-    let w = when-noted (c .before .before .before .before .before .before .note-readings .ensures) (c .before .before .before .c .given .1) in
-    (w .few, readings-room _ _ _ _ _ _ (c .before .before .before .before .before .before .before .before .before .before .before .before .pre .some) (c .before .before .before .before .before .before .before .before .before .before .before .before .pre .covered) (c .before .before .before .before .before .before .before .before .before .before .before .before .pre .room) (w .all))
+    let at-c = c .before .before .before in
+    let at-note-readings = at-c .before .before .before in
+    let asked = at-note-readings .before .before .before .before .before .before .pre in
+    let w = when-noted (at-note-readings .note-readings .ensures) (at-c .c .given .1) in
+    (w .few, readings-room _ _ _ _ _ _ (asked .some) (asked .covered) (asked .room) (w .all))
 
 enum-known-c-2 : tie.Need-enum-known-c-2
 enum-known-c-2 c = search needs
@@ -31,11 +34,16 @@ same-length c = search needs
 
 returns : tie.Need-returns
 returns c =
-    let w = when-noted (c .before .before .before .before .before .before .before .before .before .note-readings .ensures) (c .before .before .before .before .before .before .c .given .1) in
-    taken _ _ (w .all) (c .before .before .put-noted .ensures)
+    let at-put-noted = c .before .before in
+    let at-c = at-put-noted .before .before .before .before in
+    let at-note-readings = at-c .before .before .before in
+    let w = when-noted (at-note-readings .note-readings .ensures) (at-c .c .given .1) in
+    taken _ _ (w .all) (at-put-noted .put-noted .ensures)
 
 returns-2 : tie.Need-returns-2
-returns-2 c = not-taken _ _ (c .before .before .before .before .note-readings .ensures) (c .before .c2 .given .1)
+returns-2 c =
+    let at-note-readings = c .before .before .before .before in
+    not-taken _ _ (at-note-readings .note-readings .ensures) (c .before .c2 .given .1)
 
 pub take-readings-spec : {M : Type 1} → statement M
 take-readings-spec =

@@ -17,8 +17,11 @@ enum-known-l c = search needs
 
 rule-to-requires : tie.Need-rule-to-requires
 rule-to-requires c κs =
-    let a = answered says (c .before .before .before .before .line-at .ensures) (c .before .before .l .given .1) in
-    record { ready = line-ready _ _ a (c .before .before .before .before .before .before .before .before .before .pre); ended = line-ended _ _ a }
+    let at-l = c .before .before in
+    let at-line-at = at-l .before .before in
+    let asked = at-line-at .before .before .before .before .before .pre in
+    let a = answered says (at-line-at .line-at .ensures) (at-l .l .given .1) in
+    record { ready = line-ready _ _ a asked; ended = line-ended _ _ a }
 
 enum-known-l-2 : tie.Need-enum-known-l-2
 enum-known-l-2 c = search needs
@@ -27,7 +30,11 @@ same-length : tie.Need-same-length
 same-length c = search needs
 
 returns : tie.Need-returns
-returns c = line-read _ _ _ (answered says (c .before .before .before .before .before .before .before .line-at .ensures) (c .before .before .before .before .before .l .given .1)) (c .before .before .rule-to .ensures)
+returns c =
+    let at-rule-to = c .before .before in
+    let at-l = at-rule-to .before .before .before in
+    let at-line-at = at-l .before .before in
+    line-read _ _ _ (answered says (at-line-at .line-at .ensures) (at-l .l .given .1)) (at-rule-to .rule-to .ensures)
 
 returns-2 : tie.Need-returns-2
 returns-2 c = line-refused _ _ _ (answered says (c .before .before .before .line-at .ensures) (c .before .l2 .given .1))

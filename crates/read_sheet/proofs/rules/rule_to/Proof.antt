@@ -14,16 +14,22 @@ sub-n : tie.Need-sub-n
 sub-n c = search needs
 
 returns : tie.Need-returns
-returns c = refused-at {k = 5} {p = c .before .before .before .before .args .v} (rule-short _ _ _ _ (omega arith))
+returns c =
+    let start = c .before .before .before .before in
+    refused-at {k = 5} {p = start .args .v} (rule-short _ _ _ _ (omega arith))
 
 returns-2 : tie.Need-returns-2
-returns-2 c = refused-at {k = 5} {p = c .before .before .before .before .before .args .v} (rule-long _ _ _ _ (omega arith))
+returns-2 c =
+    let start = c .before .before .before .before .before in
+    refused-at {k = 5} {p = start .args .v} (rule-long _ _ _ _ (omega arith))
 
 slice-aggregate-rule : tie.Need-slice-aggregate-rule
 slice-aggregate-rule c = simp length-take (omega arith)
 
 rule-requires : tie.Need-rule-requires
-rule-requires c κs = rule-ready _ _ _ _ _ _ (c .before .before .before .before .before .before .before .pre .ready) (c .before .before .before .before .before .before .before .pre .ended) (omega arith)
+rule-requires c κs =
+    let asked = c .before .before .before .before .before .before .before .pre in
+    rule-ready _ _ _ _ _ _ (asked .ready) (asked .ended) (omega arith)
 
 enum-known-r : tie.Need-enum-known-r
 enum-known-r c = search needs
@@ -36,9 +42,11 @@ same-length c = search needs
 
 returns-3 : tie.Need-returns-3
 returns-3 c =
+    let at-rule = c .before .before .before .before in
+    let asked = at-rule .before .before .before .before .before .before .before .before .pre in
     let e = c .enum-told .given .1 in
     subst (RuleRead _ _ _) (sym e)
-    (rule-refused _ _ _ _ _ _ (c .before .before .before .before .before .before .before .before .before .before .before .before .pre .ready) (c .before .before .before .before .before .before .before .before .before .before .before .before .pre .ended) (omega arith) _ (omega arith) (subst (Parses _ _ _ _ _ _ _ _ _) e (c .before .before .before .before .rule .ensures)))
+    (rule-refused _ _ _ _ _ _ (asked .ready) (asked .ended) (omega arith) _ (omega arith) (subst (Parses _ _ _ _ _ _ _ _ _) e (at-rule .rule .ensures)))
 
 add-next : tie.Need-add-next
 add-next c = search needs
@@ -47,7 +55,10 @@ same-length-2 : tie.Need-same-length-2
 same-length-2 c = search needs
 
 returns-4 : tie.Need-returns-4
-returns-4 c = rule-read _ _ _ _ _ _ (c .before .before .before .before .before .before .before .before .before .before .before .before .before .pre .ready) (c .before .before .before .before .before .before .before .before .before .before .before .before .before .pre .ended) (omega arith) _ (omega arith) (subst (Parses _ _ _ _ _ _ _ _ _) (c .before .r .given .1) (c .before .before .before .before .before .rule .ensures))
+returns-4 c =
+    let at-rule = c .before .before .before .before .before in
+    let asked = at-rule .before .before .before .before .before .before .before .before .pre in
+    rule-read _ _ _ _ _ _ (asked .ready) (asked .ended) (omega arith) _ (omega arith) (subst (Parses _ _ _ _ _ _ _ _ _) (c .before .r .given .1) (at-rule .rule .ensures))
 
 pub rule-to-spec : {M : Type 1} → statement M
 rule-to-spec =
