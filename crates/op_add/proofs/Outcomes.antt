@@ -4,9 +4,11 @@ use mathlib.Core.Path.{_≡_, refl, _∙_}
 use mathlib.Core.Bool.{Bool, true}
 use mathlib.Core.List.{List}
 use mathlib.Core.Logic.{_↔_}
-use Prim.Native.Nat.{ℕ, _-_, _≤_, _<_}
+use Prim.Native.Nat.{ℕ, _-_, _*_, _≤_, _<_}
+use native.Mathlib.Nat.{mul-le-mul, le-trans}
 use native.Mathlib.Omega.{arith}
 use lib.ListN.{length, getD}
+use Rattle.spec_limits.specs.Limits.{mostTicks, mostRows}
 use Rattle.read_bytes.specs.Read.Read.{got, refused as unread}
 use Rattle.read_names.specs.Words.{namesAt}
 use Rattle.spec_ticks.specs.Ticks.{Small}
@@ -24,7 +26,7 @@ use Rattle.read_readings.proofs.Outcomes.{Accepted-as}
 use Rattle.close_rules.specs.Codes.{Coded}
 use Rattle.close_rules.specs.Moves.{Sized}
 use Rattle.close_table.specs.Closes.{SettlesAll}
-use Rattle.close_list.specs.Items.{Roomy}
+use Rattle.close_list.specs.Items.{Roomy, per}
 use Rattle.close_table.proofs.Outcomes.{settles-added}
 use Rattle.open_sheet.specs.Results.{accepted, refused}
 use Rattle.spec_operations.specs.Results.{gain}
@@ -32,7 +34,7 @@ use Rattle.open_sheet.specs.Ready.{Ready}
 use Rattle.open_table.specs.Ready.{AtHand}
 use Rattle.spec_operations.specs.Operations.{Adds}
 use Rattle.spec_operations.specs.Operations.Adds.{not-read, added}
-use Rattle.spec_operations.proofs.Opened.{known, to-contents, is-one, table-inside, some-window, table-length, signals-few}
+use Rattle.spec_operations.proofs.Opened.{known, to-contents, some-words, table-inside, some-window, table-length, signals-few}
 
 module _ {s T places B tops : List ℕ} {w t count : ℕ} (h : AtHand s T places B tops w t count) (n : ℕ) (e : n ≡ words w) where
   abbrev k : Ready s places B tops w t count
@@ -44,12 +46,14 @@ module _ {s T places B tops : List ℕ} {w t count : ℕ} (h : AtHand s T places
   pub readings-refused : (r U : List ℕ) {a p : ℕ} → (readings (namesAt s places) w r ≡ unread a p) × (U ≡ T) → Adds s r T U (refused a p)
   readings-refused r U {a} {p} f = not-read (h .1) (to-contents h n e (λ l v m. readings (namesAt s l) v r ≡ unread a p) (f .0)) (f .1)
 
-  -- 16 words list every item of 1,024 rows with one word of ticks.
-  list-fits : (D : List ℕ) → 16 ≤ length D → Roomy count n D
-  list-fits D l = record { most = signals-few h n e .2; long = rw (is-one h n e) (omega (arith, signals-few h n e)) }
+  -- A list with a bit for each row, at each word of the widest window, lists every item.
+  list-fits : (D : List ℕ) → per mostRows * words mostTicks ≤ length D → Roomy count n D
+  list-fits D l =
+      let rows : per count ≤ per mostRows = omega (arith, signals-few h n e .2) in
+      record { most = signals-few h n e .2; long = le-trans (mul-le-mul rows (some-words h n e .widest)) l }
 
   module _ (r T₁ : List ℕ) (a : Accepted-as (readings (namesAt s places) w r) n T T₁) where
-    pub settle-asks : (D : List ℕ) → 16 ≤ length D
+    pub settle-asks : (D : List ℕ) → per mostRows * words mostTicks ≤ length D
         → Coded count B × (((t ≤ length tops) × ((i : ℕ) → i < t → getD tops i 0 < count)) × (Roomy count n D × (Sized n count w T₁ × Inside w (Stands n T₁))))
     settle-asks D l = (
       record { program = program (meant c); codes = k .codes },

@@ -28,7 +28,7 @@ module _ {s T places B tops : List ℕ} {w t count : ℕ} (h : AtHand s T places
     pub cell-in : (2 * (x + 1) * n ≤ length T) × (y < n * 64)
     cell-in =
         let b : 2 * (x + 1) * n ≤ 2 * length places * n = mul-le-mul-right n (omega arith) in
-        (omega (arith, signals-fit h n e .0), omega (arith, some-words h n e .1))
+        (omega (arith, signals-fit h n e .0), omega (arith, some-words h n e .cover))
 
     pub answers : {a : Answer} → Asked (Stands n T) x y a → Asks s T x y (accepted a)
     answers {a} q =

@@ -5,10 +5,12 @@ use mathlib.Core.Bool.{Bool, true, false, and-eq-true-iff}
 use mathlib.Core.List.{List}
 use mathlib.Core.Logic.{_↔_}
 use Prim.Native.Nat.{ℕ, _*_, _≤_}
+use native.Mathlib.Nat.{mul-le-mul}
 use native.Mathlib.Omega.{arith}
 use borrow.Author.Tests.{leb-true}
 use lib.Dec.{leb}
 use lib.ListN.{length, take}
+use Rattle.spec_limits.specs.Limits.{mostTicks, mostRows}
 use Rattle.read_bytes.specs.Read.{Read}
 use Rattle.read_bytes.specs.Read.Read.{got, refused as unread}
 use Rattle.read_bytes.specs.Bytes.{pick}
@@ -91,16 +93,28 @@ module _ {s places B tops : List ℕ} {w t count : ℕ} (k : Ready s places B to
   abbrev known : InSheet s (k .contents)
   known = in-sheet s (k .holds)
 
-  pub window-range : (1 ≤ w) × (w ≤ 64)
+  pub window-range : (1 ≤ w) × (w ≤ mostTicks)
   window-range = (omega (arith, k .window-is, known .sizes .window-low), omega (arith, k .window-is, known .sizes .window-high))
 
   pub row-range : count ≤ 1024
   row-range = omega (arith, k .rows, known .rows)
 
--- For a window up to 64 ticks a row has one word for each value.
-pub one-word : (w : ℕ) → 1 ≤ w → w ≤ 64 → words w ≡ 1
+-- ---- the words of a row, in a window that 01 allows
+
+-- n words for each value cover a window of w ticks: at least one, and no more than the widest window has.
+pub record RowWords (w n : ℕ) : Type 0 where
+  pub some : 1 ≤ n
+  pub widest : n ≤ words mostTicks
+  pub most : n ≤ 64
+  pub cover : w ≤ 64 * n
+
+pub row-words : {w n : ℕ} → 1 ≤ w → w ≤ mostTicks → n ≡ words w → RowWords w n
 unfolding words
-one-word w l h = omega arith
+row-words l h e = record { some = omega arith; widest = omega arith; most = omega arith; cover = omega arith }
+
+-- The words of a table with so many rows can be counted.
+pub table-most : {count n : ℕ} → count ≤ mostRows → n ≤ 64 → 2 * count * n ≤ 2 * mostRows * 64
+table-most {count} c h = let r : 2 * count ≤ 2 * mostRows = omega arith in mul-le-mul r h
 
 -- ---- the table beside it
 

@@ -1,6 +1,7 @@
 -- `add_opened` meets its contract. Assumes nothing.
 use native.Mathlib.Omega.{arith}
 use mathlib.Core.Path.{refl, _∙_}
+use Rattle.spec_tilco.specs.Table.{words}
 use Rattle.read_readings.proofs.Outcomes.{when-accepted, when-refused}
 use Rattle.spec_operations.proofs.Opened.{some-window, some-words, table-length, signals-few, signals-fit}
 use Rattle.op_add.proofs.Outcomes.{readings-refused, settle-asks, same-size, no-fewer, gains}
@@ -12,12 +13,12 @@ words-of-requires : tie.Need-words-of-requires
 words-of-requires c κs = omega (arith, some-window (c .before .before .before .before .before .before .pre) _ refl .1)
 
 count-facts-requires : tie.Need-count-facts-requires
-count-facts-requires c κs = (some-words (c .before .before .before .before .before .before .before .before .pre) _ (c .before .words-of .ensures) .0, signals-fit (c .before .before .before .before .before .before .before .before .pre) _ (c .before .words-of .ensures) .0, signals-fit (c .before .before .before .before .before .before .before .before .pre) _ (c .before .words-of .ensures) .1)
+count-facts-requires c κs = (some-words (c .before .before .before .before .before .before .before .before .pre) _ (c .before .words-of .ensures) .some, signals-fit (c .before .before .before .before .before .before .before .before .pre) _ (c .before .words-of .ensures) .0, signals-fit (c .before .before .before .before .before .before .before .before .pre) _ (c .before .words-of .ensures) .1)
 
 take-readings-requires : tie.Need-take-readings-requires
 take-readings-requires c κs =
     let w = some-window (c .before .before .before .before .before .before .before .before .before .before .pre) _ (c .before .before .before .words-of .ensures) in
-    (w .0, omega (arith, w .1), some-words (c .before .before .before .before .before .before .before .before .before .before .pre) _ (c .before .before .before .words-of .ensures) .1, signals-few (c .before .before .before .before .before .before .before .before .before .before .pre) _ (c .before .before .before .words-of .ensures) .0, signals-fit (c .before .before .before .before .before .before .before .before .before .before .pre) _ (c .before .before .before .words-of .ensures) .0)
+    (w .0, omega (arith, w .1), some-words (c .before .before .before .before .before .before .before .before .before .before .pre) _ (c .before .before .before .words-of .ensures) .cover, signals-few (c .before .before .before .before .before .before .before .before .before .before .pre) _ (c .before .before .before .words-of .ensures) .0, signals-fit (c .before .before .before .before .before .before .before .before .before .before .pre) _ (c .before .before .before .words-of .ensures) .0)
 
 enum-told : tie.Need-enum-told
 enum-told c = search needs
@@ -26,12 +27,13 @@ slice-aggregate-settle : tie.Need-slice-aggregate-settle
 slice-aggregate-settle c = search needs
 
 settle-requires : tie.Need-settle-requires
+unfolding words
 settle-requires c κs = settle-asks (c .before .before .before .before .before .before .before .before .before .before .before .before .before .before .before .before .before .pre) _ (c .before .before .before .before .before .before .before .before .before .before .words-of .ensures) _ _ (when-accepted (c .before .before .before .before .before .before .take-readings .ensures) (c .before .before .enum-told .given .1)) _ (omega arith)
 
 count-facts-requires-2 : tie.Need-count-facts-requires-2
 count-facts-requires-2 c κs =
     let z = same-size (c .before .before .before .before .before .before .before .before .before .before .before .before .before .before .before .before .before .before .before .before .before .before .pre) _ (c .before .before .before .before .before .before .before .before .before .before .before .before .before .before .before .words-of .ensures) _ _ (when-accepted (c .before .before .before .before .before .before .before .before .before .before .before .take-readings .ensures) (c .before .before .before .before .before .before .before .enum-told .given .1)) _ (c .before .before .before .before .settle .ensures) in
-    (some-words (c .before .before .before .before .before .before .before .before .before .before .before .before .before .before .before .before .before .before .before .before .before .before .pre) _ (c .before .before .before .before .before .before .before .before .before .before .before .before .before .before .before .words-of .ensures) .0, omega (arith, signals-fit (c .before .before .before .before .before .before .before .before .before .before .before .before .before .before .before .before .before .before .before .before .before .before .pre) _ (c .before .before .before .before .before .before .before .before .before .before .before .before .before .before .before .words-of .ensures) .0, z), signals-fit (c .before .before .before .before .before .before .before .before .before .before .before .before .before .before .before .before .before .before .before .before .before .before .pre) _ (c .before .before .before .before .before .before .before .before .before .before .before .before .before .before .before .words-of .ensures) .1)
+    (some-words (c .before .before .before .before .before .before .before .before .before .before .before .before .before .before .before .before .before .before .before .before .before .before .pre) _ (c .before .before .before .before .before .before .before .before .before .before .before .before .before .before .before .words-of .ensures) .some, omega (arith, signals-fit (c .before .before .before .before .before .before .before .before .before .before .before .before .before .before .before .before .before .before .before .before .before .before .pre) _ (c .before .before .before .before .before .before .before .before .before .before .before .before .before .before .before .words-of .ensures) .0, z), signals-fit (c .before .before .before .before .before .before .before .before .before .before .before .before .before .before .before .before .before .before .before .before .before .before .pre) _ (c .before .before .before .before .before .before .before .before .before .before .before .before .before .before .before .words-of .ensures) .1)
 
 clash-in-requires : tie.Need-clash-in-requires
 clash-in-requires c κs =

@@ -4,7 +4,7 @@ use mathlib.Core.Path.{sym, _∙_}
 use borrow.Author.Tests.{not-true, not-false}
 use Rattle.table_facts.proofs.Clashing.{never}
 use Rattle.open_table.specs.Ready.TableOpens.{ready, refused-at}
-use Rattle.open_table.proofs.Tables.{when-ready, window-range, row-range, one-word, wrong-length, outside, within, sheet-refused}
+use Rattle.open_table.proofs.Tables.{when-ready, window-range, row-range, row-words, table-most, wrong-length, outside, within, sheet-refused}
 use borrow.Author.Needs.{needs}
 use Rattle.open_table.proofs.open_table.Statement.{statement}
 use Rattle.open_table.proofs.open_table.Tie as tie
@@ -39,8 +39,8 @@ mul-if1 c = let k = when-ready (c .before .before .before .before .before .befor
 mul-if1-2 : tie.Need-mul-if1-2
 mul-if1-2 c =
     let k = when-ready (c .before .before .before .before .before .before .before .before .before .before .open-sheet .ensures) (c .before .before .o .given .1) .1 in
-    let n = c .words-of .ensures ∙ one-word _ (window-range k .0) (window-range k .1) in
-    rw n (omega (arith, row-range k))
+    let n = row-words (window-range k .0) (window-range k .1) (c .words-of .ensures) in
+    omega (arith, table-most (row-range k) (n .most))
 
 same-length-4 : tie.Need-same-length-4
 same-length-4 c = search needs
@@ -57,8 +57,8 @@ returns-2 c = let k = when-ready (c .before .before .before .before .before .bef
 inside-window-requires : tie.Need-inside-window-requires
 inside-window-requires c κs =
     let k = when-ready (c .before .before .before .before .before .before .before .before .before .before .before .open-sheet .ensures) (c .before .before .before .o .given .1) .1 in
-    let n = c .before .words-of .ensures ∙ one-word _ (window-range k .0) (window-range k .1) in
-    (c .if1 .left, window-range k .0, c .before .words-of .ensures, rw n (omega (arith, row-range k)))
+    let n = row-words (window-range k .0) (window-range k .1) (c .before .words-of .ensures) in
+    (c .if1 .left, window-range k .0, c .before .words-of .ensures, omega (arith, table-most (row-range k) (n .most)))
 
 same-length-7 : tie.Need-same-length-7
 same-length-7 c = search needs
