@@ -38,13 +38,13 @@ use Rattle.spec_operations.proofs.Opened.{known, to-contents, some-words, table
 
 module _ {s T places B tops : List ℕ} {w t count : ℕ} (h : AtHand s T places B tops w t count) (n : ℕ) (e : n ≡ words w) where
   abbrev k : Ready s places B tops w t count
-  k = h .0
+  k = h .sheet
 
   abbrev c : Contents
   c = k .contents
 
   pub readings-refused : (r U : List ℕ) {a p : ℕ} → (readings (namesAt s places) w r ≡ unread a p) × (U ≡ T) → Adds s r T U (refused a p)
-  readings-refused r U {a} {p} f = not-read (h .1) (to-contents h n e (λ l v m. readings (namesAt s l) v r ≡ unread a p) (f .0)) (f .1)
+  readings-refused r U {a} {p} f = not-read (h .table) (to-contents h n e (λ l v m. readings (namesAt s l) v r ≡ unread a p) (f .0)) (f .1)
 
   -- A list with a bit for each row, at each word of the widest window, lists every item.
   list-fits : (D : List ℕ) → per mostRows * words mostTicks ≤ length D → Roomy count n D
@@ -92,4 +92,4 @@ module _ {s T places B tops : List ℕ} {w t count : ℕ} (h : AtHand s T places
         pub gains : (clash : Bool) → (clash ≡ true) ↔ Clash (Stands n U) → Adds s r T U (accepted (gain (after - before) clash))
         gains clash q =
             let i : after - before ≡ factsOf (meant c) U - factsOf (meant c) T = omega (arith, before-is, after-is) in
-            added (h .1) (to-contents h n e (λ p v m. readings (namesAt s p) v r ≡ got (a .marks) (a .place)) (a .all)) made i (to-contents h n e (λ p v m. (clash ≡ true) ↔ Clash (Stands m U)) q)
+            added (h .table) (to-contents h n e (λ p v m. readings (namesAt s p) v r ≡ got (a .marks) (a .place)) (a .all)) made i (to-contents h n e (λ p v m. (clash ≡ true) ↔ Clash (Stands m U)) q)

@@ -5,7 +5,9 @@ use open_table::open_table;
 use read_readings::whole::Outcome;
 use read_readings::whole::take_readings;
 use spec_limits::ROWS;
+use spec_limits::SIGNALS;
 use spec_limits::TICKS;
+use spec_limits::TOPS;
 use table_facts::clash_in;
 use table_facts::count_facts;
 use table_marks::words_of;
@@ -58,9 +60,9 @@ fn add_opened(
 pub fn add(s: &[u8], readings: &[u8], table: &mut [u64]) -> Adding
     ensures { λ r. ⌜ Adds (now (s .entry)) (now (readings .entry)) (now (table .entry)) (now (table .exit)) (addingSays r) ⌝ }
 {
-    let mut places = [0u64; 64];
-    let mut rows = [8u64; 1024];
-    let mut tops = [0u16; 96];
+    let mut places = [0u64; SIGNALS];
+    let mut rows = [8u64; ROWS];
+    let mut tops = [0u16; TOPS];
     let o = open_table(s, &mut places, &mut rows, &mut tops, table);
     match o {
         Opening::Sheet {

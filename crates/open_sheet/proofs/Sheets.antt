@@ -10,6 +10,7 @@ use borrow.Author.Tests.{le-leb, lt-leb}
 use lib.Dec.{leb}
 use lib.ListN.{length, getD, take, drop, List·getD-append}
 use lib.Seq.{sets, sets-eq, length-take-le}
+use Rattle.spec_limits.specs.Limits.{mostBytes, mostSignals, mostHidden, mostRows}
 use Rattle.read_bytes.specs.Read.Read.{got, refused as unread}
 use Rattle.read_names.specs.Words.{namesAt}
 use Rattle.spec_tilco.specs.Lists.{total}
@@ -52,15 +53,15 @@ module _ (s : List ℕ) where
   in-refused e = ap sized e
 
   module _ {k : Contents} {q : ℕ} (e : sheetOf s ≡ got k q) where
-    pub in-fits : total hiddens (k .rules) ≤ 32 → rowCount (meant k) ≤ 1024 → sheetIn s ≡ accepted k
+    pub in-fits : total hiddens (k .rules) ≤ mostHidden → rowCount (meant k) ≤ mostRows → sheetIn s ≡ accepted k
     unfolding sheetIn fits
-    in-fits h r = ap sized e ∙ rw (le-leb (total hiddens (k .rules)) 32 h, le-leb (rowCount (meant k)) 1024 r)
+    in-fits h r = ap sized e ∙ rw (le-leb (total hiddens (k .rules)) mostHidden h, le-leb (rowCount (meant k)) mostRows r)
 
-    pub in-over : (32 < total hiddens (k .rules)) ⊎ (1024 < rowCount (meant k)) → sheetIn s ≡ refused 9 0
+    pub in-over : (mostHidden < total hiddens (k .rules)) ⊎ (mostRows < rowCount (meant k)) → sheetIn s ≡ refused 9 0
     unfolding sheetIn fits
     in-over o =
         ap sized e
-        ∙ ⊎-elim (λ h. rw (lt-leb (total hiddens (k .rules)) 32 h)) (λ h. rw (lt-leb (rowCount (meant k)) 1024 h, and-false (leb (total hiddens (k .rules)) 32))) o
+        ∙ ⊎-elim (λ h. rw (lt-leb (total hiddens (k .rules)) mostHidden h)) (λ h. rw (lt-leb (rowCount (meant k)) mostRows h, and-false (leb (total hiddens (k .rules)) mostHidden))) o
 
 -- ---- its rows
 
@@ -109,12 +110,12 @@ module _ (s : Sheet) (B B′ ts ts′ : List ℕ) (at used : ℕ) (w : LowersAll
 -- The text is not too long, and its head was read: the window w, n signals whose names' places are the table's first numbers, m rules, and
 -- the place p of the first one's line.
 pub record Begun (s T : List ℕ) (w n m p : ℕ) : Type 0 where
-  pub short : length s ≤ 32768
-  pub table : length T ≡ 64
+  pub short : length s ≤ mostBytes
+  pub table : length T ≡ mostSignals
   pub sizes : Sizes w n m
   pub head-is : head s ≡ got (headOf w (take n T) m) p
 
-pub begun : {s T : List ℕ} {r : Heading} {w n m p : ℕ} → Headed s T r → r ≡ heading.Lines w n m p → length s ≤ 32768 → length T ≡ 64 → Begun s T w n m p
+pub begun : {s T : List ℕ} {r : Heading} {w n m p : ℕ} → Headed s T r → r ≡ heading.Lines w n m p → length s ≤ mostBytes → length T ≡ mostSignals → Begun s T w n m p
 begun x e l k = let h = when-headed x e in record { short = l; table = k; sizes = h .1; head-is = h .0 }
 
 module _ {s T : List ℕ} {w n m p : ℕ} (o : Begun s T w n m p) where
@@ -158,7 +159,7 @@ module _ {s T : List ℕ} {w n m p : ℕ} (o : Begun s T w n m p) where
         readied : (t count : ℕ) → l ≡ Next t count → Ready s places B ts w t count
         readied t count f =
             let a : InPlace (held .rules) (length places) h t count B ts = when-placed (when-stand x e .1) (ap allLoweredSays f) in
-            let few : total hiddens (held .rules) ≤ 32 = omega (arith, a .few, found .hidden) in
+            let few : total hiddens (held .rules) ≤ mostHidden = omega (arith, a .few, found .hidden) in
             let d : LowersAll (lows (formulas (meant held))) (signalRows (meant held)) (a .rows) B 0 (a .tops) ts (Next t count)
             = subst (λ (i : ℕ). LowersAll (lows (formulas (meant held))) (length places + i) (a .rows) B 0 (a .tops) ts (Next t count)) (found .hidden) (a .done) in
             let g = went-all (lows (formulas (meant held))) (signalRows (meant held)) (a .rows) B 0 (a .tops) ts (Next t count) d t count refl in

@@ -10,7 +10,7 @@ use native.Mathlib.Omega.{arith}
 use borrow.Author.Tests.{leb-true}
 use lib.Dec.{leb}
 use lib.ListN.{length, take}
-use Rattle.spec_limits.specs.Limits.{mostTicks, mostRows}
+use Rattle.spec_limits.specs.Limits.{mostTicks, mostHidden, mostRows}
 use Rattle.read_bytes.specs.Read.{Read}
 use Rattle.read_bytes.specs.Read.Read.{got, refused as unread}
 use Rattle.read_bytes.specs.Bytes.{pick}
@@ -42,8 +42,8 @@ accepted-refused e = let z : _≡_ {A = ℕ} 0 1 = cc in omega arith
 pub record InSheet (s : List ℕ) (k : Contents) : Type 0 where
   pub place : ℕ
   pub reads : sheetOf s ≡ got k place
-  pub hidden : total hiddens (k .rules) ≤ 32
-  pub rows : rowCount (meant k) ≤ 1024
+  pub hidden : total hiddens (k .rules) ≤ mostHidden
+  pub rows : rowCount (meant k) ≤ mostRows
   pub count : ℕ
   pub sizes : Sizes (k .window) (length (k .places)) count
 
@@ -53,12 +53,12 @@ module _ (s : List ℕ) {k : Contents} where
   of-fitting x q f true g h =
       let y : x ≡ k = accepted-one h in
       let r : sheetOf s ≡ got k q = f ∙ ap (λ (z : Contents). got z q) y in
-      let t = and-eq-true-iff (leb (total hiddens (x .rules)) 32) (leb (rowCount (meant x)) 1024) .0 g in
+      let t = and-eq-true-iff (leb (total hiddens (x .rules)) mostHidden) (leb (rowCount (meant x)) mostRows) .0 g in
       record {
         place = q;
         reads = r;
-        hidden = subst (λ (z : Contents). total hiddens (z .rules) ≤ 32) y (leb-true (total hiddens (x .rules)) 32 (t .0));
-        rows = subst (λ (z : Contents). rowCount (meant z) ≤ 1024) y (leb-true (rowCount (meant x)) 1024 (t .1));
+        hidden = subst (λ (z : Contents). total hiddens (z .rules) ≤ mostHidden) y (leb-true (total hiddens (x .rules)) mostHidden (t .0));
+        rows = subst (λ (z : Contents). rowCount (meant z) ≤ mostRows) y (leb-true (rowCount (meant x)) mostRows (t .1));
         count = sheet-sizes s r .0;
         sizes = sheet-sizes s r .1;
       }
@@ -96,7 +96,7 @@ module _ {s places B tops : List ℕ} {w t count : ℕ} (k : Ready s places B to
   pub window-range : (1 ≤ w) × (w ≤ mostTicks)
   window-range = (omega (arith, k .window-is, known .sizes .window-low), omega (arith, k .window-is, known .sizes .window-high))
 
-  pub row-range : count ≤ 1024
+  pub row-range : count ≤ mostRows
   row-range = omega (arith, k .rows, known .rows)
 
 -- ---- the words of a row, in a window that 01 allows

@@ -1,16 +1,15 @@
 -- With the sheet and the table at hand: what adding and asking need of them.
 -- Assumes nothing.
-use mathlib.Core.Path.{_≡_, refl, sym, ap, _∙_, subst}
+use mathlib.Core.Path.{_≡_, sym, ap, _∙_, subst}
 use mathlib.Core.List.{List}
-use Prim.Native.Nat.{ℕ, zero, suc, _*_, _^_, _≤_, _<_}
+use Prim.Native.Nat.{ℕ, _*_, _^_, _≤_, _<_}
 use native.Mathlib.Nat.{mul-le-mul-right}
 use native.Mathlib.Omega.{arith}
-use lib.ListN.{length, replicate}
+use lib.ListN.{length}
 use Rattle.spec_limits.specs.Limits.{mostTicks, mostSignals, mostRows}
 use Rattle.spec_tilco.specs.Table.{words, Stands, tableWords, Inside}
 use Rattle.spec_tilco.proofs.Order.{row-count}
 use Rattle.read_sheet.specs.Sheet.{Contents, meant}
-use Rattle.lower_rows.specs.Words.{packed, word, Blank}
 use Rattle.open_sheet.specs.Results.{accepted}
 use Rattle.open_sheet.specs.SheetIn.{sheetIn}
 use Rattle.open_table.specs.Opening.{Opens}
@@ -18,13 +17,6 @@ use Rattle.open_sheet.specs.Ready.{Ready}
 use Rattle.open_table.specs.Ready.{AtHand}
 use Rattle.open_table.specs.Opening.Opens.{both}
 use Rattle.open_table.proofs.Tables.{InSheet, in-sheet, RowWords, row-words, table-most}
-
--- A buffer of signals' words has no rows.
-pub no-rows : (n : ℕ) → Blank (replicate n 8)
-unfolding word packed
-no-rows zero i = refl
-no-rows (suc n) zero = refl
-no-rows (suc n) (suc i) = no-rows n i
 
 -- What an opened table has.
 pub record Fitting (s T : List ℕ) (k : Contents) : Type 0 where
@@ -37,7 +29,7 @@ fitting (both e l i) = record { holds = e; long = l; inside = i }
 
 module _ {s T places B tops : List ℕ} {w t count : ℕ} (h : AtHand s T places B tops w t count) (n : ℕ) (e : n ≡ words w) where
   abbrev k : Ready s places B tops w t count
-  k = h .0
+  k = h .sheet
 
   abbrev c : Contents
   c = k .contents
@@ -46,7 +38,7 @@ module _ {s T places B tops : List ℕ} {w t count : ℕ} (h : AtHand s T places
   known = in-sheet s (k .holds)
 
   lent : Fitting s T c
-  lent = fitting (h .1)
+  lent = fitting (h .table)
 
   -- What is said of the numbers at hand is said of the contents, and the other way.
   pub to-contents : (F : List ℕ → ℕ → ℕ → Type 0) → F places w n → F (c .places) (c .window) (words (c .window))

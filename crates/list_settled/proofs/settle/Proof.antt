@@ -5,8 +5,8 @@ use Prim.Native.Nat.{_*_}
 use lib.ListN.{length-take}
 use Rattle.spec_limits.specs.Limits.{mostTicks, mostRows}
 use Rattle.spec_tilco.specs.Table.{words}
+use Rattle.open_sheet.proofs.Buffers.{fresh}
 use Rattle.open_table.proofs.Tables.{when-ready, when-refused}
-use Rattle.spec_operations.proofs.Opened.{no-rows}
 use Rattle.list_settled.proofs.Printing.{take-empty, take-empty-length, words-most, begun, prints-no-sheet}
 use borrow.Author.Needs.{needs}
 use Rattle.list_settled.proofs.settle.Statement.{statement}
@@ -22,7 +22,7 @@ slice-aggregate-open-sheet-3 : tie.Need-slice-aggregate-open-sheet-3
 slice-aggregate-open-sheet-3 c = search needs
 
 open-sheet-requires : tie.Need-open-sheet-requires
-open-sheet-requires c κs = (refl, refl, no-rows mostRows, refl)
+open-sheet-requires c κs = fresh
 
 enum-known-o : tie.Need-enum-known-o
 enum-known-o c = search needs

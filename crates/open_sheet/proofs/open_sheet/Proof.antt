@@ -42,7 +42,7 @@ slice-aggregate-lower-rules : tie.Need-slice-aggregate-lower-rules
 slice-aggregate-lower-rules c = let h = when-headed (c .before .before .before .before .before .before .head .ensures) (c .before .before .h .given .1) in simp length-take (omega (arith, h .1 .signals-high))
 
 lower-rules-requires : tie.Need-lower-rules-requires
-lower-rules-requires c κs = (legible (begun (c .before .before .before .before .before .before .before .before .head .ensures) (c .before .before .before .before .h .given .1) (c .before .before .before .before .before .before .before .before .before .before .if1 .left) (omega arith)), record { blank = c .before .before .before .before .before .before .before .before .before .before .before .before .before .before .before .pre .2; long = c .before .before .before .before .before .before .before .before .before .before .before .before .before .before .before .pre .1; wide = c .before .before .before .before .before .before .before .before .before .before .before .before .before .before .before .pre .3 })
+lower-rules-requires c κs = (legible (begun (c .before .before .before .before .before .before .before .before .head .ensures) (c .before .before .before .before .h .given .1) (c .before .before .before .before .before .before .before .before .before .before .if1 .left) (omega arith)), c .before .before .before .before .before .before .before .before .before .before .before .before .before .before .before .pre .room)
 
 enum-known-r : tie.Need-enum-known-r
 enum-known-r c = search needs

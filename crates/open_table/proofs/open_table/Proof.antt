@@ -86,7 +86,7 @@ same-length-12 c = search needs
 returns-4 : tie.Need-returns-4
 returns-4 c =
     let h = when-ready (c .before .before .before .before .before .before .before .before .before .before .before .before .before .open-sheet .ensures) (c .before .before .before .before .before .o .given .1) in
-    ready (h .0) (h .1, within (h .1) _ _ (c .before .before .before .words-of .ensures) (c .before .before .if1 .left) (c .before .inside-window .ensures .0 (not-false _ (c .if2 .left))))
+    ready (h .0) (record { sheet = h .1; table = within (h .1) _ _ (c .before .before .before .words-of .ensures) (c .before .before .if1 .left) (c .before .inside-window .ensures .0 (not-false _ (c .if2 .left))) })
 
 pub open-table-spec : {M : Type 1} → statement M
 open-table-spec =

@@ -2,9 +2,9 @@
 use native.Mathlib.Omega.{arith}
 use mathlib.Core.Path.{refl}
 use lib.ListN.{length-take}
-use Rattle.spec_limits.specs.Limits.{mostRows}
+use Rattle.open_sheet.proofs.Buffers.{fresh}
 use Rattle.open_table.proofs.Tables.{when-hand}
-use Rattle.spec_operations.proofs.Opened.{no-rows, some-window, signals-few, signals-fit}
+use Rattle.spec_operations.proofs.Opened.{some-window, signals-few, signals-fit}
 use borrow.Author.Needs.{needs}
 use Rattle.bench_operations.proofs.taking.take.Statement.{statement}
 use Rattle.bench_operations.proofs.taking.take.Tie as tie
@@ -19,7 +19,7 @@ slice-aggregate-open-table-3 : tie.Need-slice-aggregate-open-table-3
 slice-aggregate-open-table-3 c = search needs
 
 open-table-requires : tie.Need-open-table-requires
-open-table-requires c κs = (refl, refl, no-rows mostRows, refl)
+open-table-requires c κs = fresh
 
 enum-known-o : tie.Need-enum-known-o
 enum-known-o c = search needs
