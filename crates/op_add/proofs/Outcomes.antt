@@ -8,7 +8,7 @@ use Prim.Native.Nat.{ℕ, _-_, _*_, _≤_, _<_}
 use native.Mathlib.Nat.{mul-le-mul, le-trans}
 use native.Mathlib.Omega.{arith}
 use lib.ListN.{length, getD}
-use Rattle.spec_limits.specs.Limits.{mostTicks, mostRows}
+use Rattle.spec_limits.specs.Limits.{mostRows}
 use Rattle.read_bytes.specs.Read.Read.{got, refused as unread}
 use Rattle.read_names.specs.Words.{namesAt}
 use Rattle.spec_ticks.specs.Ticks.{Small}
@@ -18,6 +18,7 @@ use Rattle.spec_tilco.specs.Table.{words, Stands, Inside, facts, factsOf, Added
 use Rattle.spec_tilco.proofs.Order.{top-is-row}
 use Rattle.spec_tilco.proofs.Demand2.{added-from, added-facts}
 use Rattle.table_marks.specs.Puts.{Puts}
+use Rattle.table_marks.specs.Sizes.{mostWords}
 use Rattle.read_sheet.specs.Sheet.{Contents, meant}
 use Rattle.read_sheet.proofs.Accepted.{sheet-declared}
 use Rattle.read_readings.specs.Readings.{readings}
@@ -47,13 +48,13 @@ module _ {s T places B tops : List ℕ} {w t count : ℕ} (h : AtHand s T places
   readings-refused r U {a} {p} f = not-read (h .table) (to-contents h n e (λ l v m. readings (namesAt s l) v r ≡ unread a p) (f .0)) (f .1)
 
   -- A list with a bit for each row, at each word of the widest window, lists every item.
-  list-fits : (D : List ℕ) → per mostRows * words mostTicks ≤ length D → Roomy count n D
+  list-fits : (D : List ℕ) → per mostRows * mostWords ≤ length D → Roomy count n D
   list-fits D l =
       let rows : per count ≤ per mostRows = omega (arith, signals-few h n e .2) in
       record { most = signals-few h n e .2; long = le-trans (mul-le-mul rows (some-words h n e .widest)) l }
 
   module _ (r T₁ : List ℕ) (a : Accepted-as (readings (namesAt s places) w r) n T T₁) where
-    pub settle-asks : (D : List ℕ) → per mostRows * words mostTicks ≤ length D
+    pub settle-asks : (D : List ℕ) → per mostRows * mostWords ≤ length D
         → Coded count B × (((t ≤ length tops) × ((i : ℕ) → i < t → getD tops i 0 < count)) × (Roomy count n D × (Sized n count w T₁ × Inside w (Stands n T₁))))
     settle-asks D l = (
       record { program = program (meant c); codes = k .codes },

@@ -6,17 +6,17 @@ use read_readings::whole::Outcome;
 use read_readings::whole::take_readings;
 use spec_limits::ROWS;
 use spec_limits::SIGNALS;
-use spec_limits::TICKS;
 use spec_limits::TOPS;
 use table_facts::clash_in;
 use table_facts::count_facts;
+use table_marks::WORDS;
 use table_marks::words_of;
 ghost use Rattle.op_add.specs.Results.{addingSays};
 ghost use Rattle.open_table.specs.Ready.{AtHand};
 ghost use Rattle.spec_operations.specs.Operations.{Adds};
 
 // The words of a list with a bit for each row, at each word of the widest window.
-const ITEM_WORDS: usize = (ROWS + 63) / 64 * ((TICKS + 63) / 64);
+const ITEM_WORDS: usize = (ROWS + 63) / 64 * WORDS;
 
 // How many facts are new, and whether there is a clash; or a refusal's number and place.
 pub enum Adding {

@@ -18,6 +18,7 @@ use Rattle.spec_tilco.specs.Lists.{total}
 use Rattle.spec_tilco.specs.Formula.{hiddens}
 use Rattle.spec_tilco.specs.Lowering.{rowCount}
 use Rattle.spec_tilco.specs.Table.{words, Stands, tableWords, Inside}
+use Rattle.table_marks.specs.Sizes.{mostWords}
 use Rattle.read_sheet.specs.Sheet.{Contents, sheetOf, meant}
 use Rattle.read_head.specs.SheetHead.{Sizes}
 use Rattle.read_sheet.proofs.Wholes.{sheet-sizes}
@@ -104,7 +105,7 @@ module _ {s places B tops : List ℕ} {w t count : ℕ} (k : Ready s places B to
 -- n words for each value cover a window of w ticks: at least one, and no more than the widest window has.
 pub record RowWords (w n : ℕ) : Type 0 where
   pub some : 1 ≤ n
-  pub widest : n ≤ words mostTicks
+  pub widest : n ≤ mostWords
   pub most : n ≤ 64
   pub cover : w ≤ 64 * n
 

@@ -1,7 +1,6 @@
 -- `add_opened` meets its contract. Assumes nothing.
 use native.Mathlib.Omega.{arith}
 use mathlib.Core.Path.{refl, _∙_}
-use Rattle.spec_tilco.specs.Table.{words}
 use Rattle.read_readings.proofs.Outcomes.{when-accepted, when-refused}
 use Rattle.spec_operations.proofs.Opened.{some-window, some-words, table-length, signals-few, signals-fit}
 use Rattle.op_add.proofs.Outcomes.{readings-refused, settle-asks, same-size, no-fewer, gains}
@@ -27,7 +26,6 @@ slice-aggregate-settle : tie.Need-slice-aggregate-settle
 slice-aggregate-settle c = search needs
 
 settle-requires : tie.Need-settle-requires
-unfolding words
 settle-requires c κs = settle-asks (c .before .before .before .before .before .before .before .before .before .before .before .before .before .before .before .before .before .pre) _ (c .before .before .before .before .before .before .before .before .before .before .words-of .ensures) _ _ (when-accepted (c .before .before .before .before .before .before .take-readings .ensures) (c .before .before .enum-told .given .1)) _ (omega arith)
 
 count-facts-requires-2 : tie.Need-count-facts-requires-2
