@@ -8,7 +8,7 @@ use Prim.Native.Nat.{ℕ, zero, suc, _-_, _*_, _≤_}
 use native.Mathlib.Nat.{mul-le-mul, mul-le-mul-right, zero-add}
 use native.Mathlib.Omega.{arith}
 use lib.ListN.{length, take, replicate, length-replicate}
-use Rattle.spec_limits.specs.Limits.{mostTicks, mostRows, mostListed, mostClosed}
+use Rattle.spec_limits.specs.Limits.{mostRows, mostListed, mostClosed}
 use Rattle.read_names.specs.Words.{namesAt}
 use Rattle.read_names.proofs.Names.{names-many}
 use Rattle.spec_ticks.specs.Ticks.{empty}
@@ -20,6 +20,7 @@ use Rattle.spec_tilco.proofs.Order.{row-count}
 use Rattle.read_sheet.specs.Sheet.{Contents, meant}
 use Rattle.read_sheet.proofs.Wholes.{sheet-head}
 use Rattle.read_head.proofs.ShortNames.{head-names-short}
+use Rattle.table_marks.specs.Sizes.{mostTableWords}
 use Rattle.write_bytes.specs.Writes.{Wrote, Counted}
 use Rattle.op_add.specs.declared.Adding.{Adding}
 use Rattle.op_add.specs.declared.Adding.the-variants as adding
@@ -162,7 +163,7 @@ module _ {s places : List ℕ} {w count : ℕ} {T : List ℕ} (b : Begun s place
 -- The sheet is opened: its empty table can be begun with, or its refusal is printed.
 module _ {s places B tops : List ℕ} {w t count : ℕ} (y : Ready s places B tops w t count) (n : ℕ) (e : n ≡ words w) where
   -- The words of a table with the most rows and the widest window are enough.
-  pub words-most : (w ≤ mostClosed) × (2 * count ≤ 2 * mostRows) × (2 * count * n ≤ 2 * mostRows * words mostTicks)
+  pub words-most : (w ≤ mostClosed) × (2 * count ≤ 2 * mostRows) × (2 * count * n ≤ mostTableWords)
   words-most =
       let rows : 2 * count ≤ 2 * mostRows = omega (arith, row-range y) in
       let spread = row-words (window-range y .0) (window-range y .1) e in

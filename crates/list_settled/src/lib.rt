@@ -7,13 +7,10 @@ use open_sheet::Opening;
 use open_sheet::open_sheet;
 use spec_limits::ROWS;
 use spec_limits::SIGNALS;
-use spec_limits::TICKS;
 use spec_limits::TOPS;
+use table_marks::TABLE_WORDS;
 use table_marks::words_of;
 ghost use Rattle.list_settled.specs.Prints.{Begun, PrintedWhole};
-
-// The words of a table with the most rows and the widest window.
-const TABLE_WORDS: usize = 2 * ROWS * ((TICKS + 63) / 64);
 
 // Adds the readings to the sheet's empty table, and writes the listing.
 fn settle_table(

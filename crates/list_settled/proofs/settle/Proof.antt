@@ -1,10 +1,8 @@
 -- `settle` meets its contract. Assumes nothing.
 use native.Mathlib.Omega.{arith}
 use mathlib.Core.Path.{refl}
-use Prim.Native.Nat.{_*_}
 use lib.ListN.{length-take}
-use Rattle.spec_limits.specs.Limits.{mostTicks, mostRows}
-use Rattle.spec_tilco.specs.Table.{words}
+use Rattle.table_marks.specs.Sizes.{mostTableWords}
 use Rattle.open_sheet.proofs.Buffers.{fresh}
 use Rattle.open_table.proofs.Tables.{when-ready, when-refused}
 use Rattle.list_settled.proofs.Printing.{take-empty, take-empty-length, words-most, begun, prints-no-sheet}
@@ -34,7 +32,6 @@ words-of-requires : tie.Need-words-of-requires
 words-of-requires c κs = let y = when-ready (c .before .before .before .before .before .before .open-sheet .ensures) (c .before .o .given .1) .1 in words-most y _ refl .0
 
 mul-words-2 : tie.Need-mul-words-2
-unfolding words
 mul-words-2 c = let y = when-ready (c .before .before .before .before .before .before .before .open-sheet .ensures) (c .before .before .o .given .1) .1 in omega (arith, words-most y _ (c .words-of .ensures) .2)
 
 array-share-prefix-places : tie.Need-array-share-prefix-places
@@ -44,20 +41,17 @@ slice-aggregate-settle-table : tie.Need-slice-aggregate-settle-table
 slice-aggregate-settle-table c = let h = when-ready (c .before .before .before .before .before .before .before .before .open-sheet .ensures) (c .before .before .before .o .given .1) in simp length-take (omega (arith, h .0))
 
 array-borrow-prefix-table : tie.Need-array-borrow-prefix-table
-unfolding words
 array-borrow-prefix-table c = let y = when-ready (c .before .before .before .before .before .before .before .before .open-sheet .ensures) (c .before .before .before .o .given .1) .1 in words-most y _ (c .before .words-of .ensures) .2
 
 slice-aggregate-settle-table-2 : tie.Need-slice-aggregate-settle-table-2
-unfolding words
 slice-aggregate-settle-table-2 c =
     let y = when-ready (c .before .before .before .before .before .before .before .before .before .open-sheet .ensures) (c .before .before .before .before .o .given .1) .1 in
-    take-empty-length _ (2 * mostRows * words mostTicks) (words-most y _ (c .before .before .words-of .ensures) .2)
+    take-empty-length _ mostTableWords (words-most y _ (c .before .before .words-of .ensures) .2)
 
 settle-table-requires : tie.Need-settle-table-requires
-unfolding words
 settle-table-requires c κs =
     let y = when-ready (c .before .before .before .before .before .before .before .before .before .before .open-sheet .ensures) (c .before .before .before .before .before .o .given .1) .1 in
-    begun y _ (c .before .before .before .words-of .ensures) _ (take-empty _ (2 * mostRows * words mostTicks) (words-most y _ (c .before .before .before .words-of .ensures) .2))
+    begun y _ (c .before .before .before .words-of .ensures) _ (take-empty _ mostTableWords (words-most y _ (c .before .before .before .words-of .ensures) .2))
 
 enum-known-o-2 : tie.Need-enum-known-o-2
 enum-known-o-2 c = search needs
