@@ -47,11 +47,11 @@ module _ {s T places B tops : List ℕ} {w t count : ℕ} (h : AtHand s T places
   pub readings-refused : (r U : List ℕ) {a p : ℕ} → (readings (namesAt s places) w r ≡ unread a p) × (U ≡ T) → Adds s r T U (refused a p)
   readings-refused r U {a} {p} f = not-read (h .table) (to-contents h n e (λ l v m. readings (namesAt s l) v r ≡ unread a p) (f .0)) (f .1)
 
-  -- A list with a bit for each row, at each word of the widest window, lists every item.
-  list-fits : (D : List ℕ) → per mostRows * mostWords ≤ length D → Roomy count n D
-  list-fits D l =
+  -- A list with a bit for each row, at each of m words, lists every item where a row has no more than m words.
+  list-fits : (m : ℕ) → n ≤ m → (D : List ℕ) → per mostRows * m ≤ length D → Roomy count n D
+  list-fits m f D l =
       let rows : per count ≤ per mostRows = omega (arith, signals-few h n e .2) in
-      record { most = signals-few h n e .2; long = le-trans (mul-le-mul rows (some-words h n e .widest)) l }
+      record { most = signals-few h n e .2; long = le-trans (mul-le-mul rows f) l }
 
   module _ (r T₁ : List ℕ) (a : Accepted-as (readings (namesAt s places) w r) n T T₁) where
     pub settle-asks : (D : List ℕ) → per mostRows * mostWords ≤ length D
@@ -61,7 +61,7 @@ module _ {s T places B tops : List ℕ} {w t count : ℕ} (h : AtHand s T places
       (
         (k .few, λ i l. omega (arith, top-is-row (meant c) (sheet-declared s (known h n e .reads)) (getD tops i 0) (k .tops-are .given i l), k .rows)),
         (
-          list-fits D l,
+          list-fits mostWords (some-words h n e .widest) D l,
           (
             record { some = some-window h n e .0; most = omega (arith, some-window h n e .1); words-are = e; long = omega (arith, table-length h n e, a .puts .size) },
             puts-inside (length (namesAt s places)) w n (readings-within (namesAt s places) w r (some-window h n e .0) (a .all)) (table-inside h n e) (a .puts),
