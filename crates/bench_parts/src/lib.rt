@@ -1,4 +1,4 @@
-// What the programs share whose instructions are counted: a file's bytes, what the arguments ask for, and a table emptied. Assumes nothing.
+// What programs share that read their texts from files: a file's bytes, what the arguments ask for, and a table emptied. Assumes nothing.
 use read_bytes::numbers::Number;
 use read_bytes::numbers::number_at;
 use read_names::word_is;
