@@ -1,4 +1,4 @@
--- What is accepted, and the refusals by their listed cases in their order (01, "Numbers of refusal"), over 01's lines as `grammar` has them.
+-- What is accepted, and the refusals by their listed cases in their order (01, "Numbers of refusal"), over 01's lines as `spec_grammar` has them.
 -- Assumes nothing. `s` is the sheet's text, r the readings' text, T the lent table; n is the number and p the place.
 use mathlib.Core.Path.{_≡_}
 use mathlib.Core.Bool.{Bool}
