@@ -5,6 +5,7 @@ use mathlib.Core.List.{List}
 use Prim.Native.Nat.{ℕ, _≤_, _<_}
 use native.Mathlib.Omega.{arith}
 use lib.ListN.{length, getD}
+use Rattle.spec_limits.specs.Limits.{mostClosed}
 use Rattle.spec_tilco.specs.Lowering.{program}
 use Rattle.spec_tilco.specs.Table.{words, Stands, Inside}
 use Rattle.spec_tilco.proofs.Order.{row-count, top-is-row}
@@ -33,13 +34,13 @@ prepared {s} {tops = tops} k =
     }
 
 -- 64 words cover 4,096 ticks.
-words-64 : 64 ≡ words 4096
+words-64 : 64 ≡ words mostClosed
 unfolding words
 words-64 = omega arith
 
 -- Closing can be asked for. No mark is outside a window that ends with the last word.
 pub settle-asks : {places B tops : List ℕ} {count t : ℕ} → Prepared places B tops count t → (D T : List ℕ) → Lent count D T
-    → Coded count B × (((t ≤ length tops) × ((i : ℕ) → i < t → getD tops i 0 < count)) × (Roomy count 64 D × (Sized 64 count 4096 T × Inside 4096 (Stands 64 T))))
+    → Coded count B × (((t ≤ length tops) × ((i : ℕ) → i < t → getD tops i 0 < count)) × (Roomy count 64 D × (Sized 64 count mostClosed T × Inside mostClosed (Stands 64 T))))
 settle-asks k D T l = (
   k .coded,
   (

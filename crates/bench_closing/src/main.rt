@@ -1,6 +1,7 @@
 // Closes a table of 4,096 ticks again and again, so that its instructions can be counted. The sheet and the readings are those in the current folder,
 // sheet.txt and readings.txt: the table has 64 words for each value of the sheet's rows, and each reading stands there every 64 ticks. The first argument says
 // how often it is laid out and closed; with `lay` as the second it is laid out only. Prints the marks before, how many tops there are, and the marks after.
+use bench_parts::TEXT;
 use bench_parts::clear;
 use bench_parts::is_asked;
 use bench_parts::read_text;
@@ -12,10 +13,20 @@ use read_readings::whole::Outcome;
 use read_readings::whole::take_readings;
 use run_cases::print_number;
 use run_cases::print_refusal;
+use spec_limits::ROWS;
+use spec_limits::SIGNALS;
+use spec_limits::TOPS;
 use table_facts::count_facts;
 ghost use Prim.Native.Nat.{_+_, _*_, _≤_};
 ghost use lib.ListN.{length};
+ghost use Rattle.spec_limits.specs.Limits.{mostSignals};
 ghost use Rattle.bench_closing.specs.Prepared.{Prepared, Lent};
+
+// The words of a list with a bit for each row, at each of 64 words of ticks.
+const ITEM_WORDS: usize = (ROWS + 63) / 64 * 64;
+
+// The words of a table with the most rows, 64 for each value.
+const TABLE_WORDS: usize = 128 * ROWS;
 
 // Repeats the first word of the block at `first` in its 63 other words.
 fn repeat_word(table: &mut [u64], first: usize)
@@ -32,7 +43,7 @@ fn repeat_word(table: &mut [u64], first: usize)
 
 // Repeats the marks of the signals' first 64 ticks every 64 ticks.
 fn repeat_marks(table: &mut [u64], signals: usize)
-    requires { ⌜ (signals ≤ 64) × (128 * signals ≤ length (now table)) ⌝ }
+    requires { ⌜ (signals ≤ mostSignals) × (128 * signals ≤ length (now table)) ⌝ }
 {
     let blocks = 2 * signals;
     let mut k = 0;
@@ -44,7 +55,7 @@ fn repeat_marks(table: &mut [u64], signals: usize)
 
 // Lays out the table: empty but for the readings' marks.
 fn lay(s: &[u8], places: &[u64], readings: &[u8], table: &mut [u64]) -> Outcome
-    requires { ⌜ (length (now places) ≤ 64) × (128 * length (now places) ≤ length (now table)) ⌝ }
+    requires { ⌜ (length (now places) ≤ mostSignals) × (128 * length (now places) ≤ length (now table)) ⌝ }
 {
     clear(table);
     let r = take_readings(s, places, 64, 64, readings, table);
@@ -169,8 +180,8 @@ fn run_sheet(
     let times = times_asked();
     let lays = is_asked(b"lay");
     let words = 128 * count;
-    let mut todo = [0u64; 1024];
-    let mut table = [0u64; 131072];
+    let mut todo = [0u64; ITEM_WORDS];
+    let mut table = [0u64; TABLE_WORDS];
     run_lent(
         s,
         places,
@@ -188,9 +199,9 @@ fn run_sheet(
 
 // Opens the sheet.
 fn run_texts(s: &[u8], readings: &[u8]) {
-    let mut places = [0u64; 64];
-    let mut rows = [8u64; 1024];
-    let mut tops = [0u16; 96];
+    let mut places = [0u64; SIGNALS];
+    let mut rows = [8u64; ROWS];
+    let mut tops = [0u16; TOPS];
     let o = open_sheet(s, &mut places, &mut rows, &mut tops);
     match o {
         Opening::Sheet {
@@ -204,8 +215,8 @@ fn run_texts(s: &[u8], readings: &[u8]) {
 }
 
 fn main() {
-    let mut sheet = [0u8; 32769];
-    let mut readings = [0u8; 32769];
+    let mut sheet = [0u8; TEXT];
+    let mut readings = [0u8; TEXT];
     let a = read_text(b"sheet.txt", &mut sheet);
     let b = read_text(b"readings.txt", &mut readings);
     run_texts(&sheet[..a], &readings[..b]);

@@ -7,6 +7,7 @@ mod taking;
 
 use answers::Answer;
 use answers::print_answer;
+use bench_parts::TEXT;
 use bench_parts::clear;
 use bench_parts::is_asked;
 use bench_parts::read_text;
@@ -16,8 +17,11 @@ use op_add::add;
 use op_check::Checking;
 use op_check::check;
 use reading::read_sheet;
+use spec_limits::ROWS;
+use table_marks::TABLE_WORDS;
 use taking::take;
 ghost use Prim.Native.Nat.{_≤_};
+ghost use Rattle.table_marks.specs.Sizes.{mostTableWords};
 
 // How far a run goes.
 enum Run {
@@ -75,13 +79,13 @@ fn run_times(run: Run, s: &[u8], readings: &[u8], table: &mut [u64], times: usiz
 
 // The words of a table for the sheet; 0 if the sheet is refused.
 fn words_for(s: &[u8]) -> usize
-    ensures { λ n. ⌜ n ≤ 2048 ⌝ }
+    ensures { λ n. ⌜ n ≤ mostTableWords ⌝ }
 {
     let c = check(s);
     let Checking::Rows(n) = c else {
         return 0;
     };
-    if n <= 1024 { 2 * n } else { 0 }
+    if n <= ROWS { 2 * n } else { 0 }
 }
 
 // The run that is asked for; an add if none is.
@@ -103,14 +107,14 @@ fn run_texts(s: &[u8], readings: &[u8]) {
     let times = times_asked();
     let run = run_asked();
     let words = words_for(s);
-    let mut table = [0u64; 2048];
+    let mut table = [0u64; TABLE_WORDS];
     let answer = run_times(run, s, readings, &mut table[..words], times);
     print_answer(answer);
 }
 
 fn main() {
-    let mut sheet = [0u8; 32769];
-    let mut readings = [0u8; 32769];
+    let mut sheet = [0u8; TEXT];
+    let mut readings = [0u8; TEXT];
     let a = read_text(b"sheet.txt", &mut sheet);
     let b = read_text(b"readings.txt", &mut readings);
     run_texts(&sheet[..a], &readings[..b]);

@@ -4,13 +4,16 @@ use read_head::Heading;
 use read_head::head;
 use read_parts::parts::Parsed;
 use read_sheet::rules::rule_line;
+use spec_limits::ARENA;
+use spec_limits::BYTES;
+use spec_limits::SIGNALS;
 ghost use Rattle.lower_lines.specs.InTurn.{Legible};
 
 // Reads the rules on the `m` lines from `first` on, up to the sheet's end, each into the same arena.
 fn read_lines(s: &[u8], places: &[u64], m: usize, first: usize) -> Answer
     requires { ⌜ Legible (now s) (now places) m first ⌝ }
 {
-    let mut arena = [0u16; 1024];
+    let mut arena = [0u16; ARENA];
     let mut i = 0;
     let mut place = first;
     let mut row = places.len();
@@ -33,10 +36,10 @@ fn read_lines(s: &[u8], places: &[u64], m: usize, first: usize) -> Answer
 
 // Reads the sheet.
 pub fn read_sheet(s: &[u8]) -> Answer {
-    if 32768 < s.len() {
+    if BYTES < s.len() {
         return Answer::Refused(1, 0);
     }
-    let mut places = [0u64; 64];
+    let mut places = [0u64; SIGNALS];
     let h = head(s, &mut places);
     match h {
         Heading::Lines {

@@ -6,6 +6,7 @@ use mathlib.Core.Option.{Option, none, some}
 use Prim.Native.Nat.{ℕ, zero, suc, _+_, _-_}
 use lib.Dec.{T, ltb, leb, eqb}
 use lib.ListN.{length, take}
+use Rattle.spec_limits.specs.Limits.{mostBytes, mostTicks, mostSignals, mostRules, mostRuleBytes, mostOpen}
 use Rattle.read_bytes.specs.declared.bytes.Class.{Class}
 use Rattle.read_bytes.specs.declared.bytes.Class.the-variants.{Letter, Digit, Sign, Bracket, Other}
 use Rattle.read_names.specs.declared.Word.{Word}
@@ -225,8 +226,8 @@ module _ (names : List (List ℕ)) (s : List ℕ) where
   rule-numbered : Reads (rule names s)
   unfolding rule plain
   rule-numbered p =
-      then-numbered (formula (plain 32 names s) s p) (λ f q. pick (eqb q (length s)) (λ _. got f q) (refused 5 q))
-      (formula-numbered s (plain 32 names s) (plain-in-numbered (inside 32 names s) (inside-numbered 32)) p)
+      then-numbered (formula (plain mostOpen names s) s p) (λ f q. pick (eqb q (length s)) (λ _. got f q) (refused 5 q))
+      (formula-numbered s (plain mostOpen names s) (plain-in-numbered (inside mostOpen names s) (inside-numbered mostOpen)) p)
       (λ f q. pick-numbered (eqb q (length s)) (got f q) (refused 5 q) tt tt)
 
 -- ---- the sheet
@@ -241,22 +242,22 @@ module _ (s : List ℕ) where
   head-numbered : Numbered (head s)
   unfolding head
   head-numbered =
-      then-numbered (rangedLine s 0 (bytes "window=") 2 3 1 64) _ (ranged-numbered s 0 (bytes "window=") 2 tt 3 1 64 tt) (λ w p.
-      then-numbered (rangedLine s p (bytes "signals=") 2 3 1 64) _ (ranged-numbered s p (bytes "signals=") 2 tt 3 1 64 tt) (λ n q.
+      then-numbered (rangedLine s 0 (bytes "window=") 2 3 1 mostTicks) _ (ranged-numbered s 0 (bytes "window=") 2 tt 3 1 mostTicks tt) (λ w p.
+      then-numbered (rangedLine s p (bytes "signals=") 2 3 1 mostSignals) _ (ranged-numbered s p (bytes "signals=") 2 tt 3 1 mostSignals tt) (λ n q.
       then-numbered (inTurn (signalLine s) n [] q) _ (turn-numbered (signalLine s) signal-numbered n [] q) (λ t u.
-      then-numbered (rangedLine s u (bytes "rules=") 2 3 0 64) (λ m e. got (headOf w t m) e) (ranged-numbered s u (bytes "rules=") 2 tt 3 0 64 tt) (λ m e. tt))))
+      then-numbered (rangedLine s u (bytes "rules=") 2 3 0 mostRules) (λ m e. got (headOf w t m) e) (ranged-numbered s u (bytes "rules=") 2 tt 3 0 mostRules tt) (λ m e. tt))))
 
   rule-line-numbered : (names : List (List ℕ)) → Reads (ruleLine names s)
   unfolding ruleLine ruleTo
   rule-line-numbered names p =
       then-numbered (line s p (bytes "rule=") 2) (λ v e. ruleTo names s v e) (line-numbered s p (bytes "rule=") 2 tt) (λ v e.
-      pick-numbered (between 1 256 (e - v)) (andThen (rule names (take e s) v) (λ w q. got w (e + 1))) (refused 5 v)
+      pick-numbered (between 1 mostRuleBytes (e - v)) (andThen (rule names (take e s) v) (λ w q. got w (e + 1))) (refused 5 v)
       (then-numbered (rule names (take e s) v) (λ w q. got w (e + 1)) (rule-numbered names (take e s) v) (λ w q. tt)) tt)
 
   pub sheet-numbered : Numbered (sheetOf s)
   unfolding sheetOf rules
   sheet-numbered =
-      pick-numbered (leb (length s) 32768) _ (refused 1 0)
+      pick-numbered (leb (length s) mostBytes) _ (refused 1 0)
       (then-numbered (head s) _ head-numbered (λ h p.
       then-numbered (rules (namesAt s (h .places)) s (h .count) p) (λ ws q. pick (eqb q (length s)) (λ _. got (contents (h .window) (h .places) ws) q) (refused 2 q))
       (turn-numbered (λ _ q. ruleLine (namesAt s (h .places)) s q) (λ t q. rule-line-numbered (namesAt s (h .places)) q) (h .count) [] p)
@@ -277,5 +278,5 @@ module _ (names : List (List ℕ)) (W : ℕ) (r : List ℕ) where
   pub readings-numbered : Numbered (readings names W r)
   unfolding readings
   readings-numbered =
-      pick-numbered (leb (length r) 32768) (upTo (reading names W r) (length r) (length r) [] 0) (refused 10 0)
+      pick-numbered (leb (length r) mostBytes) (upTo (reading names W r) (length r) (length r) [] 0) (refused 10 0)
       (up-numbered (reading names W r) (length r) reading-numbered (length r) [] 0) tt

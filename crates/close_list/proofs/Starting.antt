@@ -11,7 +11,7 @@ use lib.Bits.{bitOr}
 use lib.ListN.{getD}
 use Rattle.spec_ticks.specs.Ticks.{Has, block}
 use Rattle.spec_ticks.proofs.Bits.{lt-or-ge, or-left, or-right, no-ticks}
-use Rattle.table_words.proofs.Places.{two-blocks}
+use Rattle.table_marks.proofs.Places.{two-blocks}
 use Rattle.lower_rows.specs.Words.{rowAt}
 use Rattle.spec_tilco.specs.Inference.{Node, signal, notOf, gate, look, mark, Shifted}
 use Rattle.spec_tilco.specs.Table.{Stands}

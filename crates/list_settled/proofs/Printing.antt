@@ -5,9 +5,10 @@ use mathlib.Core.Bool.{Bool, true}
 use mathlib.Core.List.{List, _∷_}
 use mathlib.Core.Logic.{_↔_}
 use Prim.Native.Nat.{ℕ, zero, suc, _-_, _*_, _≤_}
-use native.Mathlib.Nat.{mul-le-mul-right, zero-add}
+use native.Mathlib.Nat.{mul-le-mul, mul-le-mul-right, zero-add}
 use native.Mathlib.Omega.{arith}
 use lib.ListN.{length, take, replicate, length-replicate}
+use Rattle.spec_limits.specs.Limits.{mostRows, mostListed, mostClosed}
 use Rattle.read_names.specs.Words.{namesAt}
 use Rattle.read_names.proofs.Names.{names-many}
 use Rattle.spec_ticks.specs.Ticks.{empty}
@@ -19,6 +20,7 @@ use Rattle.spec_tilco.proofs.Order.{row-count}
 use Rattle.read_sheet.specs.Sheet.{Contents, meant}
 use Rattle.read_sheet.proofs.Wholes.{sheet-head}
 use Rattle.read_head.proofs.ShortNames.{head-names-short}
+use Rattle.table_marks.specs.Sizes.{mostTableWords}
 use Rattle.write_bytes.specs.Writes.{Wrote, Counted}
 use Rattle.op_add.specs.declared.Adding.{Adding}
 use Rattle.op_add.specs.declared.Adding.the-variants as adding
@@ -29,7 +31,7 @@ use Rattle.open_sheet.specs.SheetIn.{sheetIn, namesIn, blank}
 use Rattle.open_sheet.specs.Ready.{Ready}
 use Rattle.spec_operations.specs.Operations.{Adds}
 use Rattle.spec_operations.specs.Operations.Adds.{added}
-use Rattle.open_table.proofs.Tables.{accepted-one, InSheet, in-sheet, one-word}
+use Rattle.open_table.proofs.Tables.{accepted-one, InSheet, in-sheet, window-range, row-range, row-words}
 use Rattle.spec_operations.proofs.Opened.{fitting}
 use Rattle.list_signals.specs.Signals.{Listable, Answers}
 use Rattle.list_table.specs.Listing.{listingText, refusalText}
@@ -47,15 +49,15 @@ take-empty (suc n) (suc m) h = ap (λ (l : List ℕ). 0 ∷ l) (take-empty n m (
 pub take-empty-length : (n m : ℕ) → n ≤ m → n ≡ length (take n (replicate {A = ℕ} m 0))
 take-empty-length n m h = sym (ap length (take-empty n m h) ∙ length-replicate {A = ℕ} n 0)
 
--- The listing of a sheet that was opened fits a buffer of 8,192 bytes, whatever its numbers and marks are,
-listing-fits : (s : List ℕ) {k : Contents} → sheetIn s ≡ accepted k → (rows facts : ℕ) (clash : Bool) (f : ℕ → ℕ → Answer) → length (listingText (namesIn s k) (k .window) rows facts clash f) ≤ 8192
+-- The listing of a sheet that was opened fits the listing's buffer, whatever its numbers and marks are,
+listing-fits : (s : List ℕ) {k : Contents} → sheetIn s ≡ accepted k → (rows facts : ℕ) (clash : Bool) (f : ℕ → ℕ → Answer) → length (listingText (namesIn s k) (k .window) rows facts clash f) ≤ mostListed
 listing-fits s {k} e rows facts clash f =
     let z = in-sheet s e in
     let short = head-names-short s (sheet-head s (z .reads) .2) in
     listing-most (namesIn s k) (k .window) rows facts clash f short (omega (arith, names-many s (k .places), z .sizes .signals-high)) (z .sizes .window-high)
 
 -- and so does whatever is printed.
-pub prints-most : {s r l : List ℕ} → Prints s r l → length l ≤ 8192
+pub prints-most : {s r l : List ℕ} → Prints s r l → length l ≤ mostListed
 prints-most (no-sheet {n = n} {p} e) = refusal-most n p
 prints-most (not-added {n = n} {p} e a) = refusal-most n p
 prints-most {s} (listed {k = k} {U} {clash = clash} {f} e a q) = listing-fits s e (rowCount (meant k)) (factsOf (meant k) U) clash f
@@ -97,7 +99,7 @@ module _ {s places : List ℕ} {w count : ℕ} {T : List ℕ} (b : Begun s place
   known : InSheet s k
   known = in-sheet s (b .holds)
 
-  pub window-most : w ≤ 4096
+  pub window-most : w ≤ mostClosed
   window-most = omega (arith, b .window-is, known .sizes .window-high)
 
   -- The places of the listing can be counted.
@@ -121,12 +123,12 @@ module _ {s places : List ℕ} {w count : ℕ} {T : List ℕ} (b : Begun s place
     pub listable : Listable (length places) w n U clash
     listable =
         let p : length places ≡ length (k .places) = ap length (b .names-are) in
-        let one : n ≡ 1 = same-words ∙ one-word (k .window) (known .sizes .window-low) (known .sizes .window-high) in
+        let spread = row-words (known .sizes .window-low) (known .sizes .window-high) same-words in
         let l : 2 * length places * n ≤ 2 * rowCount (meant k) * n = mul-le-mul-right n (omega (arith, row-count (meant k))) in
         let z : length U ≡ 2 * rowCount (meant k) * n = told .size ∙ ap (λ (i : ℕ). 2 * rowCount (meant k) * i) (sym same-words) in
         record {
           rows = omega (arith, l, z);
-          ticks = omega (arith, one, b .window-is, known .sizes .window-high);
+          ticks = omega (arith, spread .cover, b .window-is);
           clashes = subst (λ (i : ℕ). (clash ≡ true) ↔ Clash (Stands i U)) (sym same-words) (told .clashes);
         }
 
@@ -160,13 +162,12 @@ module _ {s places : List ℕ} {w count : ℕ} {T : List ℕ} (b : Begun s place
 
 -- The sheet is opened: its empty table can be begun with, or its refusal is printed.
 module _ {s places B tops : List ℕ} {w t count : ℕ} (y : Ready s places B tops w t count) (n : ℕ) (e : n ≡ words w) where
-  known-of : InSheet s (y .contents)
-  known-of = in-sheet s (y .holds)
-
-  pub words-most : (w ≤ 4096) × (2 * count ≤ 2048) × (2 * count * n ≤ 2048)
+  -- The words of a table with the most rows and the widest window are enough.
+  pub words-most : (w ≤ mostClosed) × (2 * count ≤ 2 * mostRows) × (2 * count * n ≤ mostTableWords)
   words-most =
-      let one : n ≡ 1 = e ∙ one-word w (omega (arith, y .window-is, known-of .sizes .window-low)) (omega (arith, y .window-is, known-of .sizes .window-high)) in
-      (omega (arith, y .window-is, known-of .sizes .window-high), omega (arith, y .rows, known-of .rows), rw one (omega (arith, y .rows, known-of .rows)))
+      let rows : 2 * count ≤ 2 * mostRows = omega (arith, row-range y) in
+      let spread = row-words (window-range y .0) (window-range y .1) e in
+      (omega (arith, window-range y .1), rows, mul-le-mul rows (spread .widest))
 
   pub begun : (T : List ℕ) → T ≡ empty (2 * count * n) → Begun s places w count T
   begun T f = record {

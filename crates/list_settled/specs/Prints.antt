@@ -6,6 +6,7 @@ use mathlib.Core.List.{List}
 use Prim.Native.Nat.{ℕ, _≤_}
 use lib.ListN.{length}
 use lib.Seq.{sets}
+use Rattle.spec_limits.specs.Limits.{mostListed}
 use Rattle.spec_tilco.specs.Lowering.{rowCount}
 use Rattle.spec_tilco.specs.Table.{Standing, factsOf, Answer}
 use Rattle.read_sheet.specs.Sheet.{Contents, meant}
@@ -24,12 +25,12 @@ pub data Prints (s r : List ℕ) : List ℕ → Type 0 where
       → Answers (Standing (meant k) U) (length (k .places)) (k .window) f
       → Prints s r (listingText (namesIn s k) (k .window) (rowCount (meant k)) (factsOf (meant k) U) clash f)
 
--- Such a text is written from the buffer's first place on as far as there is room; its length, at most 8,192, is answered.
+-- Such a text is written from the buffer's first place on as far as there is room; its length, at most `mostListed`, is answered.
 pub record PrintedWhole (s r m m′ : List ℕ) (n : ℕ) : Type 0 where
   pub text : List ℕ
   pub prints : Prints s r text
   pub long : n ≡ length text
-  pub most : n ≤ 8192
+  pub most : n ≤ mostListed
   pub holds : m′ ≡ sets m 0 text
 
 -- The sheet was opened, and T is its empty table.

@@ -5,6 +5,10 @@ use op_add::Adding;
 use op_add::add;
 use open_sheet::Opening;
 use open_sheet::open_sheet;
+use spec_limits::ROWS;
+use spec_limits::SIGNALS;
+use spec_limits::TOPS;
+use table_marks::TABLE_WORDS;
 use table_marks::words_of;
 ghost use Rattle.list_settled.specs.Prints.{Begun, PrintedWhole};
 
@@ -35,9 +39,9 @@ fn settle_table(
 pub fn settle(s: &[u8], readings: &[u8], out: &mut [u8]) -> usize
     ensures { λ n. ⌜ PrintedWhole (now (s .entry)) (now (readings .entry)) (now (out .entry)) (now (out .exit)) n ⌝ }
 {
-    let mut places = [0u64; 64];
-    let mut rows = [8u64; 1024];
-    let mut tops = [0u16; 96];
+    let mut places = [0u64; SIGNALS];
+    let mut rows = [8u64; ROWS];
+    let mut tops = [0u16; TOPS];
     let o = open_sheet(s, &mut places, &mut rows, &mut tops);
     match o {
         Opening::Sheet {
@@ -46,7 +50,7 @@ pub fn settle(s: &[u8], readings: &[u8], out: &mut [u8]) -> usize
             tops: _,
             count,
         } => {
-            let mut table = [0u64; 2048];
+            let mut table = [0u64; TABLE_WORDS];
             let words = 2 * count * words_of(window);
             settle_table(
                 s,

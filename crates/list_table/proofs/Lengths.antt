@@ -5,6 +5,7 @@ use mathlib.Core.List.{List, [], _∷_, _++_}
 use Prim.Native.Nat.{ℕ, suc, _+_, _*_, _≤_}
 use native.Mathlib.Omega.{arith}
 use lib.ListN.{length, length-append}
+use Rattle.spec_limits.specs.Limits.{mostTicks, mostSignals, mostNameBytes, mostListed}
 use Rattle.read_bytes.specs.Bytes.{bytes}
 use Rattle.spec_tilco.specs.Lists.{All}
 use Rattle.spec_tilco.specs.Table.{Answer}
@@ -19,14 +20,14 @@ number-most : (key : List ℕ) (n : ℕ) → length (numberText key n) ≤ lengt
 number-most key n = omega (arith, line-length key (decimalText n), decimal-few n)
 
 -- A line with a number can be counted near the start of the buffer, and ends near it.
-pub number-counted : (key : List ℕ) (n : ℕ) {b : ℕ} → b + length key ≤ 8192 → Counted b (numberText key n)
+pub number-counted : (key : List ℕ) (n : ℕ) {b : ℕ} → b + length key ≤ mostListed → Counted b (numberText key n)
 number-counted key n h = record { below = omega (arith, number-most key n) }
 
 pub number-ends : (key : List ℕ) (n : ℕ) {b : ℕ} {m m₁ : List ℕ} {u : ℕ} → Wrote (numberText key n) b m m₁ u → u ≤ b + length key + 21
 number-ends key n w = omega (arith, number-most key n)
 
--- A signal takes at most 95 bytes.
-signals-most : (W : ℕ) (f : ℕ → ℕ → Answer) (x : ℕ) (names : List (List ℕ)) → W ≤ 64 → All (λ w. length w ≤ 16) names → length (signalsText W f x names) ≤ 95 * length names
+-- A signal's lines have its name, a sign a tick, and 15 bytes more.
+signals-most : (W : ℕ) (f : ℕ → ℕ → Answer) (x : ℕ) (names : List (List ℕ)) → W ≤ mostTicks → All (λ w. length w ≤ mostNameBytes) names → length (signalsText W f x names) ≤ (mostNameBytes + mostTicks + 15) * length names
 unfolding signalsText
 signals-most W f x [] h a = omega arith
 signals-most W f x (name ∷ names) h a =
@@ -50,9 +51,9 @@ head-most rows facts clash =
       length-append (numberText (bytes "facts=") facts) (numberText (bytes "clash=") (oneIf clash)),
     )
 
--- A listing fits a buffer of 8,192 bytes,
+-- A listing fits the listing's buffer,
 pub listing-most : (names : List (List ℕ)) (W rows facts : ℕ) (clash : Bool) (f : ℕ → ℕ → Answer)
-    → All (λ w. length w ≤ 16) names → length names ≤ 64 → W ≤ 64 → length (listingText names W rows facts clash f) ≤ 8192
+    → All (λ w. length w ≤ mostNameBytes) names → length names ≤ mostSignals → W ≤ mostTicks → length (listingText names W rows facts clash f) ≤ mostListed
 unfolding listingText
 listing-most names W rows facts clash f a n w =
     let h = head-most rows facts clash in
@@ -60,7 +61,7 @@ listing-most names W rows facts clash f a n w =
     omega (arith, length-append (headText rows facts clash) (signalsText W f 0 names))
 
 -- and so does a refusal's.
-pub refusal-most : (number place : ℕ) → length (refusalText number place) ≤ 8192
+pub refusal-most : (number place : ℕ) → length (refusalText number place) ≤ mostListed
 unfolding refusalText
 refusal-most number place =
     let a = number-most (bytes "answer=") number in

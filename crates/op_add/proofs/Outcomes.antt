@@ -4,9 +4,11 @@ use mathlib.Core.Path.{_≡_, refl, _∙_}
 use mathlib.Core.Bool.{Bool, true}
 use mathlib.Core.List.{List}
 use mathlib.Core.Logic.{_↔_}
-use Prim.Native.Nat.{ℕ, _-_, _≤_, _<_}
+use Prim.Native.Nat.{ℕ, _-_, _*_, _≤_, _<_}
+use native.Mathlib.Nat.{mul-le-mul, le-trans}
 use native.Mathlib.Omega.{arith}
 use lib.ListN.{length, getD}
+use Rattle.spec_limits.specs.Limits.{mostRows}
 use Rattle.read_bytes.specs.Read.Read.{got, refused as unread}
 use Rattle.read_names.specs.Words.{namesAt}
 use Rattle.spec_ticks.specs.Ticks.{Small}
@@ -16,6 +18,7 @@ use Rattle.spec_tilco.specs.Table.{words, Stands, Inside, facts, factsOf, Added
 use Rattle.spec_tilco.proofs.Order.{top-is-row}
 use Rattle.spec_tilco.proofs.Demand2.{added-from, added-facts}
 use Rattle.table_marks.specs.Puts.{Puts}
+use Rattle.table_marks.specs.Sizes.{mostWords}
 use Rattle.read_sheet.specs.Sheet.{Contents, meant}
 use Rattle.read_sheet.proofs.Accepted.{sheet-declared}
 use Rattle.read_readings.specs.Readings.{readings}
@@ -24,7 +27,7 @@ use Rattle.read_readings.proofs.Outcomes.{Accepted-as}
 use Rattle.close_rules.specs.Codes.{Coded}
 use Rattle.close_rules.specs.Moves.{Sized}
 use Rattle.close_table.specs.Closes.{SettlesAll}
-use Rattle.close_list.specs.Items.{Roomy}
+use Rattle.close_list.specs.Items.{Roomy, per}
 use Rattle.close_table.proofs.Outcomes.{settles-added}
 use Rattle.open_sheet.specs.Results.{accepted, refused}
 use Rattle.spec_operations.specs.Results.{gain}
@@ -32,31 +35,33 @@ use Rattle.open_sheet.specs.Ready.{Ready}
 use Rattle.open_table.specs.Ready.{AtHand}
 use Rattle.spec_operations.specs.Operations.{Adds}
 use Rattle.spec_operations.specs.Operations.Adds.{not-read, added}
-use Rattle.spec_operations.proofs.Opened.{known, to-contents, is-one, table-inside, some-window, table-length, signals-few}
+use Rattle.spec_operations.proofs.Opened.{known, to-contents, some-words, table-inside, some-window, table-length, signals-few}
 
 module _ {s T places B tops : List ℕ} {w t count : ℕ} (h : AtHand s T places B tops w t count) (n : ℕ) (e : n ≡ words w) where
   abbrev k : Ready s places B tops w t count
-  k = h .0
+  k = h .sheet
 
   abbrev c : Contents
   c = k .contents
 
   pub readings-refused : (r U : List ℕ) {a p : ℕ} → (readings (namesAt s places) w r ≡ unread a p) × (U ≡ T) → Adds s r T U (refused a p)
-  readings-refused r U {a} {p} f = not-read (h .1) (to-contents h n e (λ l v m. readings (namesAt s l) v r ≡ unread a p) (f .0)) (f .1)
+  readings-refused r U {a} {p} f = not-read (h .table) (to-contents h n e (λ l v m. readings (namesAt s l) v r ≡ unread a p) (f .0)) (f .1)
 
-  -- 16 words list every item of 1,024 rows with one word of ticks.
-  list-fits : (D : List ℕ) → 16 ≤ length D → Roomy count n D
-  list-fits D l = record { most = signals-few h n e .2; long = rw (is-one h n e) (omega (arith, signals-few h n e)) }
+  -- A list with a bit for each row, at each of m words, lists every item where a row has no more than m words.
+  list-fits : (m : ℕ) → n ≤ m → (D : List ℕ) → per mostRows * m ≤ length D → Roomy count n D
+  list-fits m f D l =
+      let rows : per count ≤ per mostRows = omega (arith, signals-few h n e .2) in
+      record { most = signals-few h n e .2; long = le-trans (mul-le-mul rows f) l }
 
   module _ (r T₁ : List ℕ) (a : Accepted-as (readings (namesAt s places) w r) n T T₁) where
-    pub settle-asks : (D : List ℕ) → 16 ≤ length D
+    pub settle-asks : (D : List ℕ) → per mostRows * mostWords ≤ length D
         → Coded count B × (((t ≤ length tops) × ((i : ℕ) → i < t → getD tops i 0 < count)) × (Roomy count n D × (Sized n count w T₁ × Inside w (Stands n T₁))))
     settle-asks D l = (
       record { program = program (meant c); codes = k .codes },
       (
         (k .few, λ i l. omega (arith, top-is-row (meant c) (sheet-declared s (known h n e .reads)) (getD tops i 0) (k .tops-are .given i l), k .rows)),
         (
-          list-fits D l,
+          list-fits mostWords (some-words h n e .widest) D l,
           (
             record { some = some-window h n e .0; most = omega (arith, some-window h n e .1); words-are = e; long = omega (arith, table-length h n e, a .puts .size) },
             puts-inside (length (namesAt s places)) w n (readings-within (namesAt s places) w r (some-window h n e .0) (a .all)) (table-inside h n e) (a .puts),
@@ -88,4 +93,4 @@ module _ {s T places B tops : List ℕ} {w t count : ℕ} (h : AtHand s T places
         pub gains : (clash : Bool) → (clash ≡ true) ↔ Clash (Stands n U) → Adds s r T U (accepted (gain (after - before) clash))
         gains clash q =
             let i : after - before ≡ factsOf (meant c) U - factsOf (meant c) T = omega (arith, before-is, after-is) in
-            added (h .1) (to-contents h n e (λ p v m. readings (namesAt s p) v r ≡ got (a .marks) (a .place)) (a .all)) made i (to-contents h n e (λ p v m. (clash ≡ true) ↔ Clash (Stands m U)) q)
+            added (h .table) (to-contents h n e (λ p v m. readings (namesAt s p) v r ≡ got (a .marks) (a .place)) (a .all)) made i (to-contents h n e (λ p v m. (clash ≡ true) ↔ Clash (Stands m U)) q)

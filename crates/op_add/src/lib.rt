@@ -4,12 +4,19 @@ use open_sheet::Opening;
 use open_table::open_table;
 use read_readings::whole::Outcome;
 use read_readings::whole::take_readings;
+use spec_limits::ROWS;
+use spec_limits::SIGNALS;
+use spec_limits::TOPS;
 use table_facts::clash_in;
 use table_facts::count_facts;
+use table_marks::WORDS;
 use table_marks::words_of;
 ghost use Rattle.op_add.specs.Results.{addingSays};
 ghost use Rattle.open_table.specs.Ready.{AtHand};
 ghost use Rattle.spec_operations.specs.Operations.{Adds};
+
+// The words of a list with a bit for each row, at each word of the widest window.
+const ITEM_WORDS: usize = (ROWS + 63) / 64 * WORDS;
 
 // How many facts are new, and whether there is a clash; or a refusal's number and place.
 pub enum Adding {
@@ -38,7 +45,7 @@ fn add_opened(
     let r = take_readings(s, places, window, n, readings, table);
     match r {
         Outcome::Accepted => {
-            let mut todo = [0u64; 16];
+            let mut todo = [0u64; ITEM_WORDS];
             settle(rows, count, tops, k, n, window, &mut todo, table);
             let after = count_facts(table, n, signals);
             let clash = clash_in(table, count, n);
@@ -53,9 +60,9 @@ fn add_opened(
 pub fn add(s: &[u8], readings: &[u8], table: &mut [u64]) -> Adding
     ensures { λ r. ⌜ Adds (now (s .entry)) (now (readings .entry)) (now (table .entry)) (now (table .exit)) (addingSays r) ⌝ }
 {
-    let mut places = [0u64; 64];
-    let mut rows = [8u64; 1024];
-    let mut tops = [0u16; 96];
+    let mut places = [0u64; SIGNALS];
+    let mut rows = [8u64; ROWS];
+    let mut tops = [0u16; TOPS];
     let o = open_table(s, &mut places, &mut rows, &mut tops, table);
     match o {
         Opening::Sheet {

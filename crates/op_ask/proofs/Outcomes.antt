@@ -16,20 +16,20 @@ use Rattle.spec_operations.proofs.Opened.{to-contents, some-words, signals-fit}
 
 module _ {s T places B tops : List ℕ} {w t count : ℕ} (h : AtHand s T places B tops w t count) (n : ℕ) (e : n ≡ words w) where
   abbrev k : Ready s places B tops w t count
-  k = h .0
+  k = h .sheet
 
   pub signal-past : (x y : ℕ) → length places ≤ x → Asks s T x y (refused 17 0)
-  signal-past x y l = out-of-range (h .1) (λ r. absurd (omega (arith, r .0, ap length (k .names-are))))
+  signal-past x y l = out-of-range (h .table) (λ r. absurd (omega (arith, r .0, ap length (k .names-are))))
 
   pub tick-past : (x y : ℕ) → w ≤ y → Asks s T x y (refused 17 0)
-  tick-past x y l = out-of-range (h .1) (λ r. absurd (omega (arith, r .1, k .window-is)))
+  tick-past x y l = out-of-range (h .table) (λ r. absurd (omega (arith, r .1, k .window-is)))
 
   module _ (x y : ℕ) (i : x < length places) (j : y < w) where
     pub cell-in : (2 * (x + 1) * n ≤ length T) × (y < n * 64)
     cell-in =
         let b : 2 * (x + 1) * n ≤ 2 * length places * n = mul-le-mul-right n (omega arith) in
-        (omega (arith, signals-fit h n e .0), omega (arith, some-words h n e .1))
+        (omega (arith, signals-fit h n e .0), omega (arith, some-words h n e .cover))
 
     pub answers : {a : Answer} → Asked (Stands n T) x y a → Asks s T x y (accepted a)
     answers {a} q =
-        asked (h .1) (omega (arith, ap length (k .names-are)), omega (arith, k .window-is)) (to-contents h n e (λ p v m. Asked (Stands m T) x y a) q)
+        asked (h .table) (omega (arith, ap length (k .names-are)), omega (arith, k .window-is)) (to-contents h n e (λ p v m. Asked (Stands m T) x y a) q)

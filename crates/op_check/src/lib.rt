@@ -1,6 +1,9 @@
 // check: the sheet's row count, or a refusal. Assumes nothing.
 use open_sheet::Opening;
 use open_sheet::open_sheet;
+use spec_limits::ROWS;
+use spec_limits::SIGNALS;
+use spec_limits::TOPS;
 ghost use mathlib.Core.Path.{_≡_};
 ghost use Rattle.op_check.specs.Results.{checkingSays};
 ghost use Rattle.spec_operations.specs.Operations.{checked};
@@ -15,9 +18,9 @@ pub enum Checking {
 pub fn check(s: &[u8]) -> Checking
     ensures { λ r. ⌜ checkingSays r ≡ checked (now (s .entry)) ⌝ }
 {
-    let mut places = [0u64; 64];
-    let mut rows = [8u64; 1024];
-    let mut tops = [0u16; 96];
+    let mut places = [0u64; SIGNALS];
+    let mut rows = [8u64; ROWS];
+    let mut tops = [0u16; TOPS];
     let o = open_sheet(s, &mut places, &mut rows, &mut tops);
     match o {
         Opening::Sheet {

@@ -1,4 +1,5 @@
 -- The definitions that the contracts cite, lowest layer first; `Ready` serves the functions.
 pub mod Results
 pub mod SheetIn
+pub mod Buffers
 pub mod Ready

@@ -4,6 +4,7 @@ use mathlib.Core.Bool.{Bool, _&&_}
 use mathlib.Core.List.{List}
 use Prim.Native.Nat.{ℕ}
 use lib.Dec.{leb}
+use Rattle.spec_limits.specs.Limits.{mostHidden, mostRows}
 use Rattle.read_bytes.specs.Read.{Read}
 use Rattle.read_bytes.specs.Read.Read.{got, refused as unread}
 use Rattle.read_bytes.specs.Bytes.{pick}
@@ -18,7 +19,7 @@ use Rattle.open_sheet.specs.Results.{Result, accepted, refused}
 
 -- "At most 32 hidden signals and 1,024 rows."
 unfoldable pub fits : Sheet → Bool
-fits s = leb (total hiddens (s .rules)) 32 && leb (rowCount s) 1024
+fits s = leb (total hiddens (s .rules)) mostHidden && leb (rowCount s) mostRows
 
 -- A sheet that was read is accepted, or it is over its size: 9 at 0.
 abbrev pub sized : Read Contents → Result Contents

@@ -4,14 +4,14 @@ use lower_rule::rules::AllLowered;
 use lower_sheet::whole::lower_rules;
 use read_head::Heading;
 use read_head::head;
+use spec_limits::BYTES;
 ghost use mathlib.Core.Path.{_≡_};
 ghost use Prim.Native.Nat.{ℕ};
-ghost use lib.ListN.{length};
 ghost use Rattle.read_bytes.specs.Read.{Refusal};
 ghost use Rattle.read_bytes.specs.Read.Read.{refused};
 ghost use Rattle.read_head.specs.SheetHead.{headSays};
-ghost use Rattle.lower_rows.specs.Words.{Blank};
 ghost use Rattle.open_sheet.specs.declared.Opening.the-variants.{Refused};
+ghost use Rattle.open_sheet.specs.Buffers.{Fresh};
 ghost use Rattle.open_sheet.specs.Ready.{SheetOpens};
 
 // An accepted sheet: its window, and how many signals, top rows and rows it has. Or a refusal's number and place.
@@ -43,10 +43,10 @@ fn refused_head(h: Heading) -> Opening
 
 // Reads and lowers the sheet: the places of its names, the words of its rows and its top rows.
 pub fn open_sheet(s: &[u8], places: &mut [u64], rows: &mut [u64], tops: &mut [u16]) -> Opening
-    requires { ⌜ (length (now places) ≡ 64) × (length (now rows) ≡ 1024) × Blank (now rows) × (length (now tops) ≡ 96) ⌝ }
+    requires { ⌜ Fresh (now places) (now rows) (now tops) ⌝ }
     ensures { λ r. ⌜ SheetOpens (now (s .entry)) (now (places .exit)) (now (rows .exit)) (now (tops .exit)) r ⌝ }
 {
-    if 32768 < s.len() {
+    if BYTES < s.len() {
         return Opening::Refused(1, 0);
     }
     let h = head(s, places);

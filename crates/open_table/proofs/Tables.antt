@@ -5,10 +5,12 @@ use mathlib.Core.Bool.{Bool, true, false, and-eq-true-iff}
 use mathlib.Core.List.{List}
 use mathlib.Core.Logic.{_↔_}
 use Prim.Native.Nat.{ℕ, _*_, _≤_}
+use native.Mathlib.Nat.{mul-le-mul}
 use native.Mathlib.Omega.{arith}
 use borrow.Author.Tests.{leb-true}
 use lib.Dec.{leb}
 use lib.ListN.{length, take}
+use Rattle.spec_limits.specs.Limits.{mostTicks, mostHidden, mostRows}
 use Rattle.read_bytes.specs.Read.{Read}
 use Rattle.read_bytes.specs.Read.Read.{got, refused as unread}
 use Rattle.read_bytes.specs.Bytes.{pick}
@@ -16,6 +18,7 @@ use Rattle.spec_tilco.specs.Lists.{total}
 use Rattle.spec_tilco.specs.Formula.{hiddens}
 use Rattle.spec_tilco.specs.Lowering.{rowCount}
 use Rattle.spec_tilco.specs.Table.{words, Stands, tableWords, Inside}
+use Rattle.table_marks.specs.Sizes.{mostWords}
 use Rattle.read_sheet.specs.Sheet.{Contents, sheetOf, meant}
 use Rattle.read_head.specs.SheetHead.{Sizes}
 use Rattle.read_sheet.proofs.Wholes.{sheet-sizes}
@@ -40,8 +43,8 @@ accepted-refused e = let z : _≡_ {A = ℕ} 0 1 = cc in omega arith
 pub record InSheet (s : List ℕ) (k : Contents) : Type 0 where
   pub place : ℕ
   pub reads : sheetOf s ≡ got k place
-  pub hidden : total hiddens (k .rules) ≤ 32
-  pub rows : rowCount (meant k) ≤ 1024
+  pub hidden : total hiddens (k .rules) ≤ mostHidden
+  pub rows : rowCount (meant k) ≤ mostRows
   pub count : ℕ
   pub sizes : Sizes (k .window) (length (k .places)) count
 
@@ -51,12 +54,12 @@ module _ (s : List ℕ) {k : Contents} where
   of-fitting x q f true g h =
       let y : x ≡ k = accepted-one h in
       let r : sheetOf s ≡ got k q = f ∙ ap (λ (z : Contents). got z q) y in
-      let t = and-eq-true-iff (leb (total hiddens (x .rules)) 32) (leb (rowCount (meant x)) 1024) .0 g in
+      let t = and-eq-true-iff (leb (total hiddens (x .rules)) mostHidden) (leb (rowCount (meant x)) mostRows) .0 g in
       record {
         place = q;
         reads = r;
-        hidden = subst (λ (z : Contents). total hiddens (z .rules) ≤ 32) y (leb-true (total hiddens (x .rules)) 32 (t .0));
-        rows = subst (λ (z : Contents). rowCount (meant z) ≤ 1024) y (leb-true (rowCount (meant x)) 1024 (t .1));
+        hidden = subst (λ (z : Contents). total hiddens (z .rules) ≤ mostHidden) y (leb-true (total hiddens (x .rules)) mostHidden (t .0));
+        rows = subst (λ (z : Contents). rowCount (meant z) ≤ mostRows) y (leb-true (rowCount (meant x)) mostRows (t .1));
         count = sheet-sizes s r .0;
         sizes = sheet-sizes s r .1;
       }
@@ -91,16 +94,28 @@ module _ {s places B tops : List ℕ} {w t count : ℕ} (k : Ready s places B to
   abbrev known : InSheet s (k .contents)
   known = in-sheet s (k .holds)
 
-  pub window-range : (1 ≤ w) × (w ≤ 64)
+  pub window-range : (1 ≤ w) × (w ≤ mostTicks)
   window-range = (omega (arith, k .window-is, known .sizes .window-low), omega (arith, k .window-is, known .sizes .window-high))
 
-  pub row-range : count ≤ 1024
+  pub row-range : count ≤ mostRows
   row-range = omega (arith, k .rows, known .rows)
 
--- For a window up to 64 ticks a row has one word for each value.
-pub one-word : (w : ℕ) → 1 ≤ w → w ≤ 64 → words w ≡ 1
+-- ---- the words of a row, in a window that 01 allows
+
+-- n words for each value cover a window of w ticks: at least one, and no more than the widest window has.
+pub record RowWords (w n : ℕ) : Type 0 where
+  pub some : 1 ≤ n
+  pub widest : n ≤ mostWords
+  pub most : n ≤ 64
+  pub cover : w ≤ 64 * n
+
+pub row-words : {w n : ℕ} → 1 ≤ w → w ≤ mostTicks → n ≡ words w → RowWords w n
 unfolding words
-one-word w l h = omega arith
+row-words l h e = record { some = omega arith; widest = omega arith; most = omega arith; cover = omega arith }
+
+-- The words of a table with so many rows can be counted.
+pub table-most : {count n : ℕ} → count ≤ mostRows → n ≤ 64 → 2 * count * n ≤ 2 * mostRows * 64
+table-most {count} c h = let r : 2 * count ≤ 2 * mostRows = omega arith in mul-le-mul r h
 
 -- ---- the table beside it
 

@@ -10,8 +10,9 @@ use Rattle.open_table.specs.Opening.{Opens}
 use Rattle.open_sheet.specs.Ready.{Ready}
 
 -- The sheet stands ready, and the table is accepted with it.
-abbrev pub AtHand : List ℕ → List ℕ → List ℕ → List ℕ → List ℕ → ℕ → ℕ → ℕ → Type 0
-AtHand s T places B tops w t count = (k : Ready s places B tops w t count) × Opens s T (accepted (k .contents))
+pub record AtHand (s T places B tops : List ℕ) (w t count : ℕ) : Type 0 where
+  pub sheet : Ready s places B tops w t count
+  pub table : Opens s T (accepted (sheet .contents))
 
 -- What each case of the sheet's and the table's opening says.
 pub data TableOpens (s T places B tops : List ℕ) : Opening → Type 0 where

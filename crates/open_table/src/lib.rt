@@ -4,9 +4,7 @@ use open_sheet::Opening;
 use open_sheet::open_sheet;
 use table_facts::inside_window;
 use table_marks::words_of;
-ghost use mathlib.Core.Path.{_≡_};
-ghost use lib.ListN.{length};
-ghost use Rattle.lower_rows.specs.Words.{Blank};
+ghost use Rattle.open_sheet.specs.Buffers.{Fresh};
 ghost use Rattle.open_table.specs.Ready.{TableOpens};
 
 // Opens the sheet, and compares the lent table with it.
@@ -17,7 +15,7 @@ pub fn open_table(
     tops: &mut [u16],
     table: &[u64],
 ) -> Opening
-    requires { ⌜ (length (now places) ≡ 64) × (length (now rows) ≡ 1024) × Blank (now rows) × (length (now tops) ≡ 96) ⌝ }
+    requires { ⌜ Fresh (now places) (now rows) (now tops) ⌝ }
     ensures { λ r. ⌜ TableOpens (now (s .entry)) (now (table .entry)) (now (places .exit)) (now (rows .exit)) (now (tops .exit)) r ⌝ }
 {
     let o = open_sheet(s, places, rows, tops);

@@ -5,7 +5,7 @@ use mathlib.Core.Bool.{Bool}
 use mathlib.Core.List.{List, [], _∷_, List·Memᴰ·head, List·Memᴰ·not-nil, List·Memᴰ·cases-cons}
 use mathlib.Core.Logic.{_⊎_, inl, inr, ⊎-elim}
 use Prim.Native.Nat.{ℕ, zero, suc, _+_, _*_, _/_, _%_, _^_, _<_, _≤_}
-use native.Mathlib.Nat.{mul-le-mul-right}
+use native.Mathlib.Nat.{mul-le-mul-right, suc-mul}
 use native.Mathlib.Decide.{ℕ-discrete, decLt}
 use native.Mathlib.Omega.{arith}
 use lib.Bits.{bitOr, or-lt}
@@ -13,7 +13,7 @@ use lib.ListN.{length, getD, set, List·getD-eq-default}
 use lib.Pow.{pow-lt}
 use lib.Seq.{set-getD, getD-set-same, getD-set-other}
 use Rattle.spec_ticks.specs.Ticks.{block, Small}
-use Rattle.spec_ticks.proofs.Tables.{block-low}
+use Rattle.spec_ticks.proofs.Tables.{block-low, block-high}
 use Rattle.spec_tilco.specs.Lists.{All}
 use Rattle.spec_tilco.specs.Formula.{Sheet, signalRows, Declared}
 use Rattle.spec_tilco.specs.Inference.{Node, signal, notOf, gate, look, node, Mark, mark, Marks, One, down-left, down-right, up-left, up-right, look-down, look-up, not-down, not-up, Two, up-both, rest-right, rest-left, start, top, one, two, _or_}
@@ -22,7 +22,7 @@ use Rattle.spec_tilco.specs.Table.{words, Stands, Standing, tableWords, Inside,
 use Rattle.spec_tilco.proofs.Lists.{all-at}
 use Rattle.spec_tilco.proofs.Derives.{stays-inside}
 use Rattle.spec_tilco.proofs.Order.{Ordered, row-count, children-before, top-is-row}
-use Rattle.table_marks.proofs.Marks.{word-inside, puts-word}
+use Rattle.table_marks.proofs.Marks.{puts-word}
 use Rattle.table_marks.specs.Puts.{Puts}
 use Rattle.table_words.specs.Gains.{room}
 use Rattle.table_words.proofs.Gaining.{joins-some}
@@ -127,7 +127,7 @@ put-one n U r t v h l small out = record {
     one-bit = let h : t % 64 < 64 = omega arith in pow-lt h
 
     inside : i < length U
-    inside = word-inside n r t v (length U) h l (block r v) refl
+    inside = let b : suc (block r v) * n ≤ 2 * (r + 1) * n = mul-le-mul-right n (omega (arith, block-high r v)) in omega (arith, suc-mul (block r v) n)
 
     puts : Puts n (mark r t v ∷ []) U (set U i w)
     puts = puts-word n U r t v h i w refl inside refl

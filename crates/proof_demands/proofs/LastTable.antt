@@ -20,7 +20,7 @@ use Rattle.proof_demands.proofs.Texts.{marks-read, read-marks, read-som
 use Rattle.proof_demands.proofs.Runs.{AsCalls, as-calls, calls, marksIn, window-some, blank-opens}
 use Rattle.open_sheet.specs.SheetIn.{blank}
 
--- The calls as `tilco` speaks of them.
+-- The calls as `spec_tilco` speaks of them.
 pub as-run : {s : List ℕ} {k : Contents} {rs : List (List ℕ)} {U : List ℕ} {answers : List (Result Gain)} → FromBlank s k rs U answers → AsCalls s k (blank k) rs U answers
 as-run {s} {k} x = let e = in-sheet-text s (x .sheet) in as-calls s k e (blank-opens s k e) (x .run)
 

@@ -9,6 +9,7 @@ use borrow.Author.Tests.{eqb-true}
 use lib.Dec.{leb, eqb}
 use lib.ListN.{length, take, take-append-drop}
 use lib.Seq.{drop-length, length-take-le}
+use Rattle.spec_limits.specs.Limits.{mostBytes, mostTicks, mostSignals, mostRules}
 use Rattle.read_bytes.specs.Read.{Read, andThen}
 use Rattle.read_bytes.specs.Read.Read.{got, refused}
 use Rattle.read_bytes.specs.Bytes.{bytes, pick}
@@ -66,19 +67,19 @@ module _ (h x : List ℕ) where
   pub head-narrow : {k : Head} → head (h ++ x) ≡ got k (length h) → head h ≡ got k (length h)
   unfolding head namesAt
   head-narrow {k} e =
-      let a = came (rangedLine (h ++ x) 0 (bytes "window=") 2 3 1 64) _ e in
-      let b = came (rangedLine (h ++ x) (a .place) (bytes "signals=") 2 3 1 64) _ (a .then) in
+      let a = came (rangedLine (h ++ x) 0 (bytes "window=") 2 3 1 mostTicks) _ e in
+      let b = came (rangedLine (h ++ x) (a .place) (bytes "signals=") 2 3 1 mostSignals) _ (a .then) in
       let d = came (inTurn (signalLine (h ++ x)) (b .value) [] (b .place)) _ (b .then) in
-      let f = came (rangedLine (h ++ x) (d .place) (bytes "rules=") 2 3 0 64) _ (d .then) in
-      let j = ranged-past (h ++ x) (a .place) (bytes "signals=") 2 3 1 64 (b .first) in
+      let f = came (rangedLine (h ++ x) (d .place) (bytes "rules=") 2 3 0 mostRules) _ (d .then) in
+      let j = ranged-past (h ++ x) (a .place) (bytes "signals=") 2 3 1 mostSignals (b .first) in
       let far = signals-reach (h ++ x) (b .value) [] (b .place) (j .0 .inside) (d .first) in
-      let l = ranged-past (h ++ x) (d .place) (bytes "rules=") 2 3 0 64 (f .first) in
+      let l = ranged-past (h ++ x) (d .place) (bytes "rules=") 2 3 0 mostRules (f .first) in
       let n : f .place ≡ length h = same-place (f .then) in
       let d-in : d .place ≤ length h = omega (arith, l .0 .ahead) in
       let b-in : b .place ≤ length h = omega (arith, far .0 .ahead) in
       let a-in : a .place ≤ length h = omega (arith, j .0 .ahead) in
-      head-is h (rangedLine-narrow h x 0 (bytes "window=") 2 3 1 64 (a .first) a-in) (rangedLine-narrow h x (a .place) (bytes "signals=") 2 3 1 64 (b .first) b-in)
-      (signals-narrow (b .value) [] (b .place) refl (d .first) d-in) (rangedLine-narrow h x (d .place) (bytes "rules=") 2 3 0 64 (f .first) (omega arith))
+      head-is h (rangedLine-narrow h x 0 (bytes "window=") 2 3 1 mostTicks (a .first) a-in) (rangedLine-narrow h x (a .place) (bytes "signals=") 2 3 1 mostSignals (b .first) b-in)
+      (signals-narrow (b .value) [] (b .place) refl (d .first) d-in) (rangedLine-narrow h x (d .place) (bytes "rules=") 2 3 0 mostRules (f .first) (omega arith))
       ∙ f .then
 
 -- ---- the whole text
@@ -107,7 +108,7 @@ module _ (s : List ℕ) {d : Head} {p : ℕ} (headed : head s ≡ got d p) (insi
 
 sheet-parts : (s : List ℕ) {k : Contents} {q : ℕ} → sheetOf s ≡ got k q → InParts s
 unfolding sheetOf rules
-sheet-parts s {k} {q} e = go (leb (length s) 32768) e
+sheet-parts s {k} {q} e = go (leb (length s) mostBytes) e
   where
     rest : Head → ℕ → Read Contents
     rest h p = andThen (rules (namesAt s (h .places)) s (h .count) p) (λ ws y. atEnd s (contents (h .window) (h .places) ws) y)

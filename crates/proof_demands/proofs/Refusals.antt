@@ -9,6 +9,7 @@ use native.Mathlib.Decide.{decLt}
 use native.Mathlib.Omega.{arith}
 use borrow.Author.Tests.{le-leb}
 use lib.ListN.{length}
+use Rattle.spec_limits.specs.Limits.{mostBytes, mostHidden, mostRows}
 use Rattle.read_bytes.specs.Read.{Read}
 use Rattle.read_bytes.specs.Read.Read.{got, refused as unread}
 use Rattle.read_bytes.specs.Bytes.{pick}
@@ -44,14 +45,14 @@ use Rattle.proof_demands.proofs.Deciding.{inside-told}
 
 -- ---- the sheet
 
-over-size : (k : Contents) → fits (meant k) ≡ false → (32 < total hiddens (k .rules)) ⊎ (1024 < rowCount (meant k))
+over-size : (k : Contents) → fits (meant k) ≡ false → (mostHidden < total hiddens (k .rules)) ⊎ (mostRows < rowCount (meant k))
 unfolding fits
-over-size k e = go (decLt 32 (total hiddens (k .rules))) (decLt 1024 (rowCount (meant k)))
+over-size k e = go (decLt mostHidden (total hiddens (k .rules))) (decLt mostRows (rowCount (meant k)))
   where
-    go : Dec (32 < total hiddens (k .rules)) → Dec (1024 < rowCount (meant k)) → (32 < total hiddens (k .rules)) ⊎ (1024 < rowCount (meant k))
+    go : Dec (mostHidden < total hiddens (k .rules)) → Dec (mostRows < rowCount (meant k)) → (mostHidden < total hiddens (k .rules)) ⊎ (mostRows < rowCount (meant k))
     go (yes h) d = inl h
     go (no h) (yes l) = inr l
-    go (no h) (no l) = absurd (true≢false (rw (le-leb (total hiddens (k .rules)) 32 (omega arith), le-leb (rowCount (meant k)) 1024 (omega arith)) at e))
+    go (no h) (no l) = absurd (true≢false (rw (le-leb (total hiddens (k .rules)) mostHidden (omega arith), le-leb (rowCount (meant k)) mostRows (omega arith)) at e))
 
 -- What is said of a refusal's number and place is said of the same ones.
 same-refusal : {A : Type 0} (Q : ℕ → ℕ → Type 0) {m q n p : ℕ} → _≡_ {A = Read A} (unread m q) (unread n p) → Q m q → Q n p
@@ -68,12 +69,12 @@ Case s (refused n p) = SheetRefused s n p
 module _ (s : List ℕ) where
   -- What is read is what the lines say, and the other way round.
   lines-say : {k : Contents} {q : ℕ} → sheetOf s ≡ got k q → SheetReads s k
-  lines-say {k} {q} e = go (decLt 32768 (length s))
+  lines-say {k} {q} e = go (decLt mostBytes (length s))
     where
-      go : Dec (32768 < length s) → SheetReads s k
+      go : Dec (mostBytes < length s) → SheetReads s k
       go (yes l) = absurd (not-both (sym e ∙ sheet-long s l))
       go (no l) =
-          let fits : length s ≤ 32768 = omega arith in
+          let fits : length s ≤ mostBytes = omega arith in
           let f = e ∙ ap (got k) (sheet-end s fits e) in
           record { short = fits; lines = sheet-accepted s fits (k .window) (k .places) (k .rules) .0 f }
 
@@ -81,9 +82,9 @@ module _ (s : List ℕ) where
   say-lines {k} x = sheet-accepted s (x .short) (k .window) (k .places) (k .rules) .1 (x .lines)
 
   of-lines : {n p : ℕ} → sheetOf s ≡ unread n p → SheetRefused s n p
-  of-lines {n} {p} e = go (decLt 32768 (length s))
+  of-lines {n} {p} e = go (decLt mostBytes (length s))
     where
-      go : Dec (32768 < length s) → SheetRefused s n p
+      go : Dec (mostBytes < length s) → SheetRefused s n p
       go (yes l) = same-refusal (SheetRefused s) (sym (sheet-long s l) ∙ e) (one l)
       go (no l) = two-to-eight (omega arith) (sheet-refused s (omega arith) n p .0 e)
 
@@ -131,12 +132,12 @@ module _ (s : List ℕ) where
 module _ (s : List ℕ) (k : Contents) (r : List ℕ) where
   -- What is read of them is what their lines say, and the other way round.
   pub readings-in : {ms : List Mark} {q : ℕ} → readings (namesIn s k) (k .window) r ≡ got ms q → ReadingsAccepted s k r ms
-  readings-in {ms} {q} e = go (decLt 32768 (length r))
+  readings-in {ms} {q} e = go (decLt mostBytes (length r))
     where
-      go : Dec (32768 < length r) → ReadingsAccepted s k r ms
+      go : Dec (mostBytes < length r) → ReadingsAccepted s k r ms
       go (yes l) = absurd (not-both (sym e ∙ readings-long (namesIn s k) (k .window) r l))
       go (no l) =
-          let fits : length r ≤ 32768 = omega arith in
+          let fits : length r ≤ mostBytes = omega arith in
           let f = e ∙ ap (got ms) (readings-end (namesIn s k) (k .window) r ms q e) in
           record { short = fits; lines = readings-accepted (namesIn s k) (k .window) r fits ms .0 f }
 
@@ -176,9 +177,9 @@ unchanged {T} {U} e = record {
 
 module _ {s r T : List ℕ} where
   of-readings : {k : Contents} {n p : ℕ} → TakenUp s T k → readings (namesIn s k) (k .window) r ≡ unread n p → AddRefused s r T n p
-  of-readings {k} {n} {p} x e = go (decLt 32768 (length r))
+  of-readings {k} {n} {p} x e = go (decLt mostBytes (length r))
     where
-      go : Dec (32768 < length r) → AddRefused s r T n p
+      go : Dec (mostBytes < length r) → AddRefused s r T n p
       go (yes l) = same-refusal (AddRefused s r T) (sym (readings-long (namesIn s k) (k .window) r l) ∙ e) (ten x l)
       go (no l) = eleven-to-fourteen x (omega arith) (readings-refused (namesIn s k) (k .window) r (omega arith) n p .0 e)
 

@@ -1,4 +1,4 @@
--- Calls of add with readings texts are calls of add with marks, as `tilco` speaks of them. s is the sheet's text and k its contents.
+-- Calls of add with readings texts are calls of add with marks, as `spec_tilco` speaks of them. s is the sheet's text and k its contents.
 -- Assumes that the sheet is accepted, and the table with it.
 use mathlib.Core.Path.{_≡_, refl, sym, _∙_, subst}
 use mathlib.Core.Bool.{Bool, true, false}
@@ -35,7 +35,7 @@ use Rattle.proof_demands.specs.Runs.{RunTexts, newIn}
 use Rattle.proof_demands.specs.Runs.RunTexts.{done, call}
 use Rattle.spec_operations.proofs.Determined.{opens-same, opens-or-not}
 
--- ---- calls as `tilco` speaks of them
+-- ---- calls as `spec_tilco` speaks of them
 
 -- The call of a readings text: accepted, with its marks, or refused.
 abbrev pub callOf : Read (List Mark) → Call
@@ -95,7 +95,7 @@ module _ (s : List ℕ) (k : Contents) (e : sheetIn s ≡ accepted k) where
 
 -- ---- calls one after the other
 
--- The calls as `tilco` speaks of them, with the facts that they report.
+-- The calls as `spec_tilco` speaks of them, with the facts that they report.
 pub record AsCalls (s : List ℕ) (k : Contents) (T : List ℕ) (rs : List (List ℕ)) (U : List ℕ) (answers : List (Result Gain)) : Type 0 where
   pub news : List ℕ
   pub run : Run (meant k) T (calls s k rs) U news

@@ -1,4 +1,4 @@
--- What is accepted, and the refusals by their listed cases in their order (01, "Numbers of refusal"), over 01's lines as `grammar` has them.
+-- What is accepted, and the refusals by their listed cases in their order (01, "Numbers of refusal"), over 01's lines as `spec_grammar` has them.
 -- Assumes nothing. `s` is the sheet's text, r the readings' text, T the lent table; n is the number and p the place.
 use mathlib.Core.Path.{_≡_}
 use mathlib.Core.Bool.{Bool}
@@ -6,6 +6,7 @@ use mathlib.Core.List.{List}
 use mathlib.Core.Logic.{_⊎_, _↔_}
 use Prim.Native.Nat.{ℕ, _≤_, _<_}
 use lib.ListN.{length}
+use Rattle.spec_limits.specs.Limits.{mostBytes, mostHidden, mostRows}
 use Rattle.spec_tilco.specs.Lists.{total}
 use Rattle.spec_tilco.specs.Formula.{hiddens}
 use Rattle.spec_tilco.specs.Inference.{Mark, mark}
@@ -22,14 +23,14 @@ use Rattle.spec_grammar.specs.ReadingLines.{ReadingsFault}
 
 -- Each line of the sheet is right, up to its end, and it says k. "A sheet is at most 32,768 bytes."
 pub record SheetReads (s : List ℕ) (k : Contents) : Type 0 where
-  pub short : length s ≤ 32768
+  pub short : length s ≤ mostBytes
   pub lines : sheets.Reached s (sheets.Next.rule (k .window) (k .places) 0 (k .rules)) (length s)
 
 -- The sheet is accepted: "at most 32 hidden signals and 1,024 rows".
 pub record SheetAccepted (s : List ℕ) (k : Contents) : Type 0 where
   pub reads : SheetReads s k
-  pub hidden : total hiddens (k .rules) ≤ 32
-  pub rows : rowCount (meant k) ≤ 1024
+  pub hidden : total hiddens (k .rules) ≤ mostHidden
+  pub rows : rowCount (meant k) ≤ mostRows
 
 -- The sheet and the table are accepted.
 pub record TakenUp (s T : List ℕ) (k : Contents) : Type 0 where
@@ -39,16 +40,16 @@ pub record TakenUp (s T : List ℕ) (k : Contents) : Type 0 where
 
 -- Each line of the readings is right, up to the end, and they say these marks. "At most 32,768 bytes."
 pub record ReadingsAccepted (s : List ℕ) (k : Contents) (r : List ℕ) (ms : List Mark) : Type 0 where
-  pub short : length r ≤ 32768
+  pub short : length r ≤ mostBytes
   pub lines : taking.Reached (namesIn s k) (k .window) r (taking.Next.at ms) (length r)
 
 -- ---- what is refused
 
 -- check's: "1; then the sheet from its first line to its last; 9".
 pub data SheetRefused (s : List ℕ) : ℕ → ℕ → Type 0 where
-  one : 32768 < length s → SheetRefused s 1 0
-  two-to-eight : {n p : ℕ} → length s ≤ 32768 → SheetFault s n p → SheetRefused s n p
-  nine : {k : Contents} → SheetReads s k → (32 < total hiddens (k .rules)) ⊎ (1024 < rowCount (meant k)) → SheetRefused s 9 0
+  one : mostBytes < length s → SheetRefused s 1 0
+  two-to-eight : {n p : ℕ} → length s ≤ mostBytes → SheetFault s n p → SheetRefused s n p
+  nine : {k : Contents} → SheetReads s k → (mostHidden < total hiddens (k .rules)) ⊎ (mostRows < rowCount (meant k)) → SheetRefused s 9 0
 
 -- The sheet's, then the table's: "15; 16".
 pub data TableRefused (s T : List ℕ) : ℕ → ℕ → Type 0 where
@@ -60,8 +61,8 @@ pub data TableRefused (s T : List ℕ) : ℕ → ℕ → Type 0 where
 -- add's: the sheet's and the table's, "then 10 and the readings line by line".
 pub data AddRefused (s r T : List ℕ) : ℕ → ℕ → Type 0 where
   up-to-sixteen : {n p : ℕ} → TableRefused s T n p → AddRefused s r T n p
-  ten : {k : Contents} → TakenUp s T k → 32768 < length r → AddRefused s r T 10 0
-  eleven-to-fourteen : {k : Contents} {n p : ℕ} → TakenUp s T k → length r ≤ 32768 → ReadingsFault (namesIn s k) (k .window) r n p → AddRefused s r T n p
+  ten : {k : Contents} → TakenUp s T k → mostBytes < length r → AddRefused s r T 10 0
+  eleven-to-fourteen : {k : Contents} {n p : ℕ} → TakenUp s T k → length r ≤ mostBytes → ReadingsFault (namesIn s k) (k .window) r n p → AddRefused s r T n p
 
 -- ask's: the sheet's and the table's, "then 17".
 pub data AskRefused (s T : List ℕ) (x t : ℕ) : ℕ → ℕ → Type 0 where

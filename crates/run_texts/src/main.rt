@@ -14,8 +14,13 @@ use run_cases::print;
 use run_cases::print_number;
 use run_cases::print_refusal;
 use run_cases::text_under;
+use spec_limits::SIGNALS;
+use table_marks::WORDS;
 ghost use Prim.Native.Nat.{_<_};
 ghost use lib.ListN.{length};
+
+// The words of the most signals' rows in the widest window.
+const SIGNAL_WORDS: usize = 2 * SIGNALS * WORDS;
 
 // Checks the sheet under the heading at `at`.
 fn run_sheet(cases: &[u8], at: usize)
@@ -30,8 +35,8 @@ fn run_sheet(cases: &[u8], at: usize)
     }
 }
 
-// Reads the readings under the heading at `at`, against the head of the sheet under that at `above`, into a table with a word for each of 64
-// signals and each value.
+// Reads the readings under the heading at `at`, against the head of the sheet under that at `above`, into a table of
+// the signals' rows alone, as wide as any.
 fn run_readings(cases: &[u8], above: usize, at: usize)
     requires { ⌜ (above < length (now cases)) × (at < length (now cases)) ⌝ }
 {
@@ -39,7 +44,7 @@ fn run_readings(cases: &[u8], above: usize, at: usize)
     let n = text_under(cases, above, &mut lines);
     let mut buffer = io::large_buffer();
     let m = text_under(cases, at, &mut buffer);
-    let mut places = [0u64; 64];
+    let mut places = [0u64; SIGNALS];
     let s = &lines[..n];
     let Heading::Lines {
         window,
@@ -51,8 +56,15 @@ fn run_readings(cases: &[u8], above: usize, at: usize)
         print(b"--- no sheet\n");
         return;
     };
-    let mut table = [0u64; 128];
-    let answer = take_readings(s, &places[..signals], window, 1, &buffer[..m], &mut table);
+    let mut table = [0u64; SIGNAL_WORDS];
+    let answer = take_readings(
+        s,
+        &places[..signals],
+        window,
+        WORDS,
+        &buffer[..m],
+        &mut table,
+    );
     match answer {
         Outcome::Accepted => print(b"--- accepted\n"),
         Outcome::Refused(number, place) => print_refusal(number, place),

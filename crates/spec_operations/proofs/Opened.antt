@@ -1,29 +1,22 @@
 -- With the sheet and the table at hand: what adding and asking need of them.
 -- Assumes nothing.
-use mathlib.Core.Path.{_≡_, refl, sym, ap, _∙_, subst}
+use mathlib.Core.Path.{_≡_, sym, ap, _∙_, subst}
 use mathlib.Core.List.{List}
-use Prim.Native.Nat.{ℕ, zero, suc, _*_, _^_, _≤_, _<_}
+use Prim.Native.Nat.{ℕ, _*_, _^_, _≤_, _<_}
 use native.Mathlib.Nat.{mul-le-mul-right}
 use native.Mathlib.Omega.{arith}
-use lib.ListN.{length, replicate}
+use lib.ListN.{length}
+use Rattle.spec_limits.specs.Limits.{mostTicks, mostSignals, mostRows}
 use Rattle.spec_tilco.specs.Table.{words, Stands, tableWords, Inside}
 use Rattle.spec_tilco.proofs.Order.{row-count}
 use Rattle.read_sheet.specs.Sheet.{Contents, meant}
-use Rattle.lower_rows.specs.Words.{packed, word, Blank}
 use Rattle.open_sheet.specs.Results.{accepted}
 use Rattle.open_sheet.specs.SheetIn.{sheetIn}
 use Rattle.open_table.specs.Opening.{Opens}
 use Rattle.open_sheet.specs.Ready.{Ready}
 use Rattle.open_table.specs.Ready.{AtHand}
 use Rattle.open_table.specs.Opening.Opens.{both}
-use Rattle.open_table.proofs.Tables.{InSheet, in-sheet, one-word}
-
--- A buffer of signals' words has no rows.
-pub no-rows : (n : ℕ) → Blank (replicate n 8)
-unfolding word packed
-no-rows zero i = refl
-no-rows (suc n) zero = refl
-no-rows (suc n) (suc i) = no-rows n i
+use Rattle.open_table.proofs.Tables.{InSheet, in-sheet, RowWords, row-words, table-most}
 
 -- What an opened table has.
 pub record Fitting (s T : List ℕ) (k : Contents) : Type 0 where
@@ -36,7 +29,7 @@ fitting (both e l i) = record { holds = e; long = l; inside = i }
 
 module _ {s T places B tops : List ℕ} {w t count : ℕ} (h : AtHand s T places B tops w t count) (n : ℕ) (e : n ≡ words w) where
   abbrev k : Ready s places B tops w t count
-  k = h .0
+  k = h .sheet
 
   abbrev c : Contents
   c = k .contents
@@ -45,7 +38,7 @@ module _ {s T places B tops : List ℕ} {w t count : ℕ} (h : AtHand s T places
   known = in-sheet s (k .holds)
 
   lent : Fitting s T c
-  lent = fitting (h .1)
+  lent = fitting (h .table)
 
   -- What is said of the numbers at hand is said of the contents, and the other way.
   pub to-contents : (F : List ℕ → ℕ → ℕ → Type 0) → F places w n → F (c .places) (c .window) (words (c .window))
@@ -58,14 +51,11 @@ module _ {s T places B tops : List ℕ} {w t count : ℕ} (h : AtHand s T places
       subst (F places w) (sym e)
       (subst (λ (v : ℕ). F places v (words v)) (sym (k .window-is)) (subst (λ (p : List ℕ). F p (c .window) (words (c .window))) (sym (k .names-are)) x))
 
-  pub some-window : (1 ≤ w) × (w ≤ 64)
+  pub some-window : (1 ≤ w) × (w ≤ mostTicks)
   some-window = (omega (arith, known .sizes .window-low, k .window-is), omega (arith, known .sizes .window-high, k .window-is))
 
-  pub is-one : n ≡ 1
-  is-one = e ∙ one-word w (some-window .0) (some-window .1)
-
-  pub some-words : (1 ≤ n) × (w ≤ 64 * n)
-  some-words = (omega (arith, is-one), omega (arith, is-one, some-window .1))
+  pub some-words : RowWords w n
+  some-words = row-words (some-window .0) (some-window .1) e
 
   pub table-length : length T ≡ 2 * count * n
   table-length = of-contents (λ p v m. length T ≡ 2 * count * m) (lent .long ∙ ap (λ (i : ℕ). 2 * i * words (c .window)) (sym (k .rows)))
@@ -74,7 +64,7 @@ module _ {s T places B tops : List ℕ} {w t count : ℕ} (h : AtHand s T places
   table-inside = of-contents (λ p v m. Inside v (Stands m T)) (lent .inside)
 
   -- Each declared signal has a row.
-  pub signals-few : (length places ≤ 64) × (length places ≤ count) × (count ≤ 1024)
+  pub signals-few : (length places ≤ mostSignals) × (length places ≤ count) × (count ≤ mostRows)
   signals-few =
       let p : length places ≡ length (c .places) = ap length (k .names-are) in
       (omega (arith, known .sizes .signals-high), omega (arith, row-count (meant c), k .rows), omega (arith, known .rows, k .rows))
@@ -82,4 +72,4 @@ module _ {s T places B tops : List ℕ} {w t count : ℕ} (h : AtHand s T places
   pub signals-fit : (2 * length places * n ≤ length T) × (2 * length places * n < 2 ^ 32)
   signals-fit =
       let b : 2 * length places * n ≤ 2 * count * n = mul-le-mul-right n (omega (arith, signals-few .1)) in
-      (omega (arith, table-length), rw is-one (omega (arith, signals-few .0)))
+      (omega (arith, table-length), omega (arith, table-most (signals-few .2) (some-words .most)))

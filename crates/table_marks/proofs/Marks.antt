@@ -6,7 +6,7 @@ use mathlib.Core.List.{List, [], _∷_, _++_, List·Memᴰ·head, List·Memᴰ·
 use mathlib.Core.Logic.{_⊎_, _↔_, inl, inr, ⊎-elim}
 use Prim.Native.Nat.{ℕ, suc, _+_, _*_, _/_, _%_, _^_, _<_, _≤_}
 use native.Mathlib.Decide.{ℕ-discrete}
-use native.Mathlib.Nat.{mod-eq-of-lt, one-mul, mul-le-mul-left, mul-le-mul-right, suc-mul}
+use native.Mathlib.Nat.{mod-eq-of-lt, one-mul}
 use native.Mathlib.Omega.{arith}
 use borrow.Author.Tests.{eqb-true, eq-eqb}
 use lib.Arith.{digits-div, digits-mod}
@@ -18,7 +18,7 @@ use lib.Seq.{getD-set-same, getD-set-other}
 use Rattle.spec_ticks.specs.Ticks.{bit, Has, block}
 use Rattle.spec_ticks.proofs.Bits.{or-left, or-right, or-out}
 use Rattle.spec_ticks.proofs.Shifts.{one-has, one-only}
-use Rattle.spec_ticks.proofs.Tables.{block-apart, block-high}
+use Rattle.spec_ticks.proofs.Tables.{block-apart}
 use Rattle.spec_tilco.specs.Inference.{Mark, mark, Marks, _or_}
 use Rattle.spec_tilco.specs.Table.{Stands, Taken}
 use Rattle.table_marks.specs.Puts.{Gains, Puts}
@@ -55,20 +55,6 @@ puts-more {n} ms m a b =
 -- The word of tick t alone, as the code makes it.
 pub one-word : (t : ℕ) → t < 64 → (1 * 2 ^ t) % 2 ^ 64 ≡ 2 ^ t
 one-word t h = rw one-mul (mod-eq-of-lt (pow-lt h))
-
--- A row's number fits a word, and so do its blocks.
-pub row-fits : (n row m : ℕ) → 0 < n → 2 * (row + 1) * n ≤ m → 2 * row + 1 < m
-row-fits n row m h l = omega (arith, mul-le-mul-left (2 * (row + 1)) h)
-
--- The place of word q of a row, in block k, is in the table.
-pub place-inside : (n row q : ℕ) (v : Bool) (m : ℕ) → q < n → 2 * (row + 1) * n ≤ m → (k : ℕ) → k ≡ block row v → k * n + q < m
-place-inside n row q v m h l k e =
-    let b : suc k * n ≤ 2 * (row + 1) * n = mul-le-mul-right n (omega (arith, block-high row v)) in
-    omega (arith, suc-mul k n)
-
--- The place of a mark's word is in the table.
-pub word-inside : (n row t : ℕ) (v : Bool) (m : ℕ) → t < n * 64 → 2 * (row + 1) * n ≤ m → (k : ℕ) → k ≡ block row v → k * n + t / 64 < m
-word-inside n row t v m h l k e = place-inside n row (t / 64) v m (omega arith) l k e
 
 -- Ticks joined to word q of a row's marks of one value: these are in the table besides what was in it, and no other.
 module _ (n : ℕ) (T : List ℕ) (row : ℕ) (v : Bool) (q ticks : ℕ) (l : q < n) (i w : ℕ) (e : i ≡ block row v * n + q) (inside : i < length T) (f : w ≡ bitOr (getD T i 0) ticks) where
@@ -138,18 +124,16 @@ puts-word n T row t v h i w e l f = record { size = length-set T i w; exactly = 
       ⊎-elim (λ m. joined x u y .1 (inl m)) (λ a. subst (Stands n (set T i w)) (sym (List·Memᴰ·eq-of-singleton a)) (joined row t v .1 (inr (refl, refl, refl, one-has (t % 64))))),
     )
 
--- The same, as the code makes the word in block k.
-pub puts-made : (n : ℕ) (T : List ℕ) (row t : ℕ) (v : Bool) → t < n * 64 → 2 * (row + 1) * n ≤ length T → (k : ℕ) → k ≡ block row v
-    → Puts n (mark row t v ∷ []) T (set T (k * n + t / 64) (bitOr (getD T (k * n + t / 64) 0) ((1 * 2 ^ (t % 64)) % 2 ^ 64)))
-puts-made n T row t v h l k e =
-    puts-word n T row t v h (k * n + t / 64) (bitOr (getD T (k * n + t / 64) 0) ((1 * 2 ^ (t % 64)) % 2 ^ 64))
-    (ap (λ (z : ℕ). z * n + t / 64) e) (word-inside n row t v (length T) h l k e)
-    (ap (bitOr (getD T (k * n + t / 64) 0)) (one-word (t % 64) (omega arith)))
+-- The same, as the code makes the word at place i.
+pub puts-made : (n : ℕ) (T : List ℕ) (row t : ℕ) (v : Bool) → t < n * 64 → (i : ℕ) → i ≡ block row v * n + t / 64 → i < length T
+    → Puts n (mark row t v ∷ []) T (set T i (bitOr (getD T i 0) ((1 * 2 ^ (t % 64)) % 2 ^ 64)))
+puts-made n T row t v h i e l =
+    puts-word n T row t v h i (bitOr (getD T i 0) ((1 * 2 ^ (t % 64)) % 2 ^ 64)) e l (ap (bitOr (getD T i 0)) (one-word (t % 64) (omega arith)))
 
--- A mark stands exactly if its bit, as the code reads it in block k, is one.
-pub stands-made : (n : ℕ) (T : List ℕ) (row t : ℕ) (v : Bool) → t < n * 64 → (k : ℕ) → k ≡ block row v
-    → (eqb (getD T (k * n + t / 64) 0 / 2 ^ (t % 64) % 2) 1 ≡ true) ↔ Stands n T (mark row t v)
+-- A mark stands exactly if its bit, as the code reads it at place i, is one.
+pub stands-made : (n : ℕ) (T : List ℕ) (row t : ℕ) (v : Bool) → t < n * 64 → (i : ℕ) → i ≡ block row v * n + t / 64
+    → (eqb (getD T i 0 / 2 ^ (t % 64) % 2) 1 ≡ true) ↔ Stands n T (mark row t v)
 unfolding bit
-stands-made n T row t v h k e =
-    let d = ap (λ (z : ℕ). getD T (z * n + t / 64) 0 / 2 ^ (t % 64) % 2) e in
+stands-made n T row t v h i e =
+    let d = ap (λ (z : ℕ). getD T z 0 / 2 ^ (t % 64) % 2) e in
     (λ a. record { within = h; set-at = sym d ∙ eqb-true _ 1 a }, λ m. eq-eqb _ 1 (d ∙ m .set-at))

@@ -1,3 +1,4 @@
 -- The definitions that the contracts cite.
+pub mod Sizes
 pub mod Puts
 pub mod Values

@@ -1,30 +1,43 @@
 // Marks in a lent table of words, put and looked up: a row has `n` words for each value, 64 ticks in each. Assumes nothing of the words.
+use spec_limits::ROWS;
+use spec_limits::TICKS;
 ghost use mathlib.Core.Path.{_≡_};
 ghost use mathlib.Core.Bool.{true};
 ghost use mathlib.Core.List.{[], _∷_};
 ghost use mathlib.Core.Logic.{_↔_};
 ghost use Prim.Native.Nat.{_+_, _*_, _^_, _<_, _≤_};
 ghost use lib.ListN.{length};
+ghost use Rattle.spec_limits.specs.Limits.{mostClosed};
 ghost use Rattle.spec_ticks.specs.Ticks.{block};
 ghost use Rattle.spec_tilco.specs.Inference.{mark, Clash};
 ghost use Rattle.spec_tilco.specs.Table.{words, Stands, Asked};
 ghost use Rattle.table_marks.specs.Puts.{Puts};
 ghost use Rattle.table_marks.specs.Values.{valueSays};
 
+// mostWords: of a row, for each value.
+pub const WORDS: usize = (TICKS + 63) / 64;
+
+// mostTableWords
+pub const TABLE_WORDS: usize = 2 * ROWS * WORDS;
+
 // The words that a row has for each value.
 pub fn words_of(window: usize) -> usize
-    requires { ⌜ window ≤ 4096 ⌝ }
+    requires { ⌜ window ≤ mostClosed ⌝ }
     ensures { λ n. ⌜ n ≡ words window ⌝ }
 {
     (window + 63) / 64
 }
 
-// The number of the block of words that holds a row's marks of one value.
-pub fn block_of(row: usize, value: bool) -> usize
-    requires { ⌜ 2 * row + 1 < 2 ^ 64 ⌝ }
-    ensures { λ k. ⌜ k ≡ block row value ⌝ }
+// The place of word q of a row's marks of one value.
+pub fn place_of(n: usize, q: usize, row: usize, value: bool) -> usize
+    requires { ⌜ (q < n) × (2 * (row + 1) * n < 2 ^ 64) ⌝ }
+    ensures { λ i. ⌜ (i ≡ block row value * n + q) × (i < 2 * (row + 1) * n) ⌝ }
 {
-    if value { 2 * row } else { 2 * row + 1 }
+    let first = 2 * row * n + q;
+    if value {
+        return first;
+    }
+    first + n
 }
 
 // Puts one mark into the table.
@@ -32,8 +45,7 @@ pub fn put_mark(table: &mut [u64], n: usize, row: usize, tick: usize, value: boo
     requires { ⌜ (tick < n * 64) × (2 * (row + 1) * n ≤ length (now table)) ⌝ }
     ensures { λ _. ⌜ Puts n (mark row tick value ∷ []) (now (table .entry)) (now (table .exit)) ⌝ }
 {
-    let k = block_of(row, value);
-    let i = k * n + tick / 64;
+    let i = place_of(n, tick / 64, row, value);
     let t = tick % 64;
     let w = table[i];
     table[i] = w | (1 << t);
@@ -44,8 +56,7 @@ pub fn has_mark(table: &[u64], n: usize, row: usize, tick: usize, value: bool) -
     requires { ⌜ (tick < n * 64) × (2 * (row + 1) * n ≤ length (now table)) ⌝ }
     ensures { λ r. ⌜ (r ≡ true) ↔ Stands n (now (table .entry)) (mark row tick value) ⌝ }
 {
-    let k = block_of(row, value);
-    let i = k * n + tick / 64;
+    let i = place_of(n, tick / 64, row, value);
     let b = tick % 64;
     let w = table[i];
     (w >> b) % 2 == 1

@@ -1,4 +1,3 @@
 -- The laws, in the order in which they build on each other.
-pub mod Places
 pub mod OneWord
 pub mod Gaining

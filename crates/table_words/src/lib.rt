@@ -1,22 +1,11 @@
 // The words of a table of marks: reading them, joining ticks to them, and the window's ticks.
 // Assumes that the table has the row.
+use table_marks::place_of;
 ghost use mathlib.Core.Path.{_≡_};
 ghost use Prim.Native.Nat.{_+_, _*_, _^_, _<_};
 ghost use lib.ListN.{getD};
 ghost use Rattle.spec_ticks.specs.Ticks.{block};
 ghost use Rattle.table_words.specs.Gains.{HasRow, Ticks, Here, Sides, Reads, Bits, Joins};
-
-// The place of word q of a row's marks of one value.
-fn place_of(n: usize, q: usize, row: usize, value: bool) -> usize
-    requires { ⌜ (q < n) × (2 * (row + 1) * n < 2 ^ 64) ⌝ }
-    ensures { λ i. ⌜ (i ≡ block row value * n + q) × (i < 2 * (row + 1) * n) ⌝ }
-{
-    let first = 2 * row * n + q;
-    if value {
-        return first;
-    }
-    first + n
-}
 
 // Word q of a row's marks of one value.
 pub fn word_at(marks: &[u64], n: usize, q: usize, row: usize, value: bool) -> u64

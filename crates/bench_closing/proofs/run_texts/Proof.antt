@@ -2,8 +2,8 @@
 use native.Mathlib.Omega.{arith}
 use mathlib.Core.Path.{refl}
 use lib.ListN.{length-take}
+use Rattle.open_sheet.proofs.Buffers.{fresh}
 use Rattle.open_table.proofs.Tables.{when-ready}
-use Rattle.spec_operations.proofs.Opened.{no-rows}
 use Rattle.bench_closing.proofs.Preparing.{prepared}
 use borrow.Author.Needs.{needs}
 use Rattle.bench_closing.proofs.run_texts.Statement.{statement}
@@ -19,7 +19,7 @@ slice-aggregate-open-sheet-3 : tie.Need-slice-aggregate-open-sheet-3
 slice-aggregate-open-sheet-3 c = search needs
 
 open-sheet-requires : tie.Need-open-sheet-requires
-open-sheet-requires c κs = (refl, refl, no-rows 1024, refl)
+open-sheet-requires c κs = fresh
 
 enum-known-o : tie.Need-enum-known-o
 enum-known-o c = search needs

@@ -6,7 +6,7 @@ use mathlib.Core.Bool.{true, false}
 use mathlib.Core.Logic.{⊎-elim}
 use lib.Bits.{bitOr}
 use lib.ListN.{getD}
-use Rattle.table_words.proofs.Places.{two-blocks, first-block, second-block}
+use Rattle.table_marks.proofs.Places.{two-blocks, first-block, second-block}
 use Rattle.close_list.specs.Items.{Starts}
 use Rattle.close_list.proofs.Starting.{place-in, starts-none, starts-touched, starts-bare, starts-row, starts-as}
 use Rattle.close_list.proofs.Noting.{roomy-as}

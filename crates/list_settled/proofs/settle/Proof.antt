@@ -2,8 +2,9 @@
 use native.Mathlib.Omega.{arith}
 use mathlib.Core.Path.{refl}
 use lib.ListN.{length-take}
+use Rattle.table_marks.specs.Sizes.{mostTableWords}
+use Rattle.open_sheet.proofs.Buffers.{fresh}
 use Rattle.open_table.proofs.Tables.{when-ready, when-refused}
-use Rattle.spec_operations.proofs.Opened.{no-rows}
 use Rattle.list_settled.proofs.Printing.{take-empty, take-empty-length, words-most, begun, prints-no-sheet}
 use borrow.Author.Needs.{needs}
 use Rattle.list_settled.proofs.settle.Statement.{statement}
@@ -19,7 +20,7 @@ slice-aggregate-open-sheet-3 : tie.Need-slice-aggregate-open-sheet-3
 slice-aggregate-open-sheet-3 c = search needs
 
 open-sheet-requires : tie.Need-open-sheet-requires
-open-sheet-requires c κs = (refl, refl, no-rows 1024, refl)
+open-sheet-requires c κs = fresh
 
 enum-known-o : tie.Need-enum-known-o
 enum-known-o c = search needs
@@ -45,12 +46,12 @@ array-borrow-prefix-table c = let y = when-ready (c .before .before .before .bef
 slice-aggregate-settle-table-2 : tie.Need-slice-aggregate-settle-table-2
 slice-aggregate-settle-table-2 c =
     let y = when-ready (c .before .before .before .before .before .before .before .before .before .open-sheet .ensures) (c .before .before .before .before .o .given .1) .1 in
-    take-empty-length _ 2048 (words-most y _ (c .before .before .words-of .ensures) .2)
+    take-empty-length _ mostTableWords (words-most y _ (c .before .before .words-of .ensures) .2)
 
 settle-table-requires : tie.Need-settle-table-requires
 settle-table-requires c κs =
     let y = when-ready (c .before .before .before .before .before .before .before .before .before .before .open-sheet .ensures) (c .before .before .before .before .before .o .given .1) .1 in
-    begun y _ (c .before .before .before .words-of .ensures) _ (take-empty _ 2048 (words-most y _ (c .before .before .before .words-of .ensures) .2))
+    begun y _ (c .before .before .before .words-of .ensures) _ (take-empty _ mostTableWords (words-most y _ (c .before .before .before .words-of .ensures) .2))
 
 enum-known-o-2 : tie.Need-enum-known-o-2
 enum-known-o-2 c = search needs

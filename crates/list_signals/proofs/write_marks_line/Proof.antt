@@ -1,8 +1,7 @@
 -- `write_marks_line` meets its contract. Assumes nothing.
 use borrow.Author.Needs.{needs}
 use Rattle.spec_tilco.specs.Table.Answer.{Unsettled}
-use Rattle.write_lines.specs.LineTexts.{lineText}
-use Rattle.write_bytes.proofs.Writing.{and-then, counted-first, counted-rest}
+use Rattle.write_lines.proofs.Lines.{key-counted, value-counted, end-counted, line-written}
 use Rattle.list_signals.proofs.Answered.{answers-there}
 use Rattle.list_signals.proofs.write_marks_line.Statement.{statement}
 use Rattle.list_signals.proofs.write_marks_line.Tie as tie
@@ -11,23 +10,24 @@ slice-aggregate-push-text : tie.Need-slice-aggregate-push-text
 slice-aggregate-push-text c = search needs
 
 push-text-requires : tie.Need-push-text-requires
-unfolding lineText
-push-text-requires c κs = counted-first _ (c .before .before .before .before .pre .1 (λ t. Unsettled))
+push-text-requires c κs = key-counted _ (c .before .before .before .before .pre .1 (λ t. Unsettled))
 
 write-signs-requires : tie.Need-write-signs-requires
-unfolding lineText
-write-signs-requires c κs = (c .before .before .before .before .before .before .before .before .pre .0, λ f. counted-first _ (counted-rest (c .before .before .before .before .before .before .before .before .pre .1 f) (c .before .before .before .push-text .ensures)))
+write-signs-requires c κs =
+    let given = c .before .before .before .before .before .before .before .before .pre in
+    (given .0, λ f. value-counted (given .1 f) (c .before .before .before .push-text .ensures))
 
 push-requires : tie.Need-push-requires
-unfolding lineText
-push-requires c κs = let g = answers-there (c .before .before .before .before .before .before .before .before .before .before .before .before .pre .0) (c .before .before .before .before .before .before .before .before .before .before .before .before .args .signal) in counted-rest (counted-rest (c .before .before .before .before .before .before .before .before .before .before .before .before .pre .1 (g .0)) (c .before .before .before .before .before .before .before .push-text .ensures)) (c .before .before .before .write-signs .ensures (g .0) (g .1))
+push-requires c κs =
+    let start = c .before .before .before .before .before .before .before .before .before .before .before .before in
+    let g = answers-there (start .pre .0) (start .args .signal) in
+    end-counted (start .pre .1 (g .0)) (c .before .before .before .before .before .before .before .push-text .ensures) (c .before .before .before .write-signs .ensures (g .0) (g .1))
 
 same-length : tie.Need-same-length
 same-length c = search needs
 
 returns : tie.Need-returns
-unfolding lineText
-returns c = λ f a. and-then (c .before .before .before .before .before .before .before .before .before .before .push-text .ensures) (and-then (c .before .before .before .before .before .before .write-signs .ensures f a) (c .before .before .push .ensures))
+returns c = λ f a. line-written (c .before .before .before .before .before .before .before .before .before .before .push-text .ensures) (c .before .before .before .before .before .before .write-signs .ensures f a) (c .before .before .push .ensures)
 
 pub write-marks-line-spec : {M : Type 1} → statement M
 write-marks-line-spec =

@@ -9,15 +9,22 @@ use Rattle.op_add.proofs.add_opened.Statement.{statement}
 use Rattle.op_add.proofs.add_opened.Tie as tie
 
 words-of-requires : tie.Need-words-of-requires
-words-of-requires c κs = omega (arith, some-window (c .before .before .before .before .before .before .pre) _ refl .1)
+words-of-requires c κs =
+    let given = c .before .before .before .before .before .before .pre in
+    omega (arith, some-window given _ refl .1)
 
 count-facts-requires : tie.Need-count-facts-requires
-count-facts-requires c κs = (some-words (c .before .before .before .before .before .before .before .before .pre) _ (c .before .words-of .ensures) .0, signals-fit (c .before .before .before .before .before .before .before .before .pre) _ (c .before .words-of .ensures) .0, signals-fit (c .before .before .before .before .before .before .before .before .pre) _ (c .before .words-of .ensures) .1)
+count-facts-requires c κs =
+    let given = c .before .before .before .before .before .before .before .before .pre in
+    let words = c .before .words-of .ensures in
+    (some-words given _ words .some, signals-fit given _ words .0, signals-fit given _ words .1)
 
 take-readings-requires : tie.Need-take-readings-requires
 take-readings-requires c κs =
-    let w = some-window (c .before .before .before .before .before .before .before .before .before .before .pre) _ (c .before .before .before .words-of .ensures) in
-    record { some = w .0; ticks = omega (arith, w .1); covered = some-words (c .before .before .before .before .before .before .before .before .before .before .pre) _ (c .before .before .before .words-of .ensures) .1; signals = signals-few (c .before .before .before .before .before .before .before .before .before .before .pre) _ (c .before .before .before .words-of .ensures) .0; room = signals-fit (c .before .before .before .before .before .before .before .before .before .before .pre) _ (c .before .before .before .words-of .ensures) .0 }
+    let given = c .before .before .before .before .before .before .before .before .before .before .pre in
+    let words = c .before .before .before .words-of .ensures in
+    let w = some-window given _ words in
+    record { some = w .0; ticks = omega (arith, w .1); covered = some-words given _ words .cover; signals = signals-few given _ words .0; room = signals-fit given _ words .0 }
 
 enum-told : tie.Need-enum-told
 enum-told c = search needs
@@ -26,20 +33,33 @@ slice-aggregate-settle : tie.Need-slice-aggregate-settle
 slice-aggregate-settle c = search needs
 
 settle-requires : tie.Need-settle-requires
-settle-requires c κs = settle-asks (c .before .before .before .before .before .before .before .before .before .before .before .before .before .before .before .before .before .pre) _ (c .before .before .before .before .before .before .before .before .before .before .words-of .ensures) _ _ (when-accepted (c .before .before .before .before .before .before .take-readings .ensures) (c .before .before .enum-told .given .1)) _ (omega arith)
+settle-requires c κs =
+    let given = c .before .before .before .before .before .before .before .before .before .before .before .before .before .before .before .before .before .pre in
+    let words = c .before .before .before .before .before .before .before .before .before .before .words-of .ensures in
+    let taken = when-accepted (c .before .before .before .before .before .before .take-readings .ensures) (c .before .before .enum-told .given .1) in
+    settle-asks given _ words _ _ taken _ (omega arith)
 
 count-facts-requires-2 : tie.Need-count-facts-requires-2
 count-facts-requires-2 c κs =
-    let z = same-size (c .before .before .before .before .before .before .before .before .before .before .before .before .before .before .before .before .before .before .before .before .before .before .pre) _ (c .before .before .before .before .before .before .before .before .before .before .before .before .before .before .before .words-of .ensures) _ _ (when-accepted (c .before .before .before .before .before .before .before .before .before .before .before .take-readings .ensures) (c .before .before .before .before .before .before .before .enum-told .given .1)) _ (c .before .before .before .before .settle .ensures) in
-    (some-words (c .before .before .before .before .before .before .before .before .before .before .before .before .before .before .before .before .before .before .before .before .before .before .pre) _ (c .before .before .before .before .before .before .before .before .before .before .before .before .before .before .before .words-of .ensures) .0, omega (arith, signals-fit (c .before .before .before .before .before .before .before .before .before .before .before .before .before .before .before .before .before .before .before .before .before .before .pre) _ (c .before .before .before .before .before .before .before .before .before .before .before .before .before .before .before .words-of .ensures) .0, z), signals-fit (c .before .before .before .before .before .before .before .before .before .before .before .before .before .before .before .before .before .before .before .before .before .before .pre) _ (c .before .before .before .before .before .before .before .before .before .before .before .before .before .before .before .words-of .ensures) .1)
+    let given = c .before .before .before .before .before .before .before .before .before .before .before .before .before .before .before .before .before .before .before .before .before .before .pre in
+    let words = c .before .before .before .before .before .before .before .before .before .before .before .before .before .before .before .words-of .ensures in
+    let taken = when-accepted (c .before .before .before .before .before .before .before .before .before .before .before .take-readings .ensures) (c .before .before .before .before .before .before .before .enum-told .given .1) in
+    let z = same-size given _ words _ _ taken _ (c .before .before .before .before .settle .ensures) in
+    (some-words given _ words .some, omega (arith, signals-fit given _ words .0, z), signals-fit given _ words .1)
 
 clash-in-requires : tie.Need-clash-in-requires
 clash-in-requires c κs =
-    same-size (c .before .before .before .before .before .before .before .before .before .before .before .before .before .before .before .before .before .before .before .before .before .before .before .before .pre) _ (c .before .before .before .before .before .before .before .before .before .before .before .before .before .before .before .before .before .words-of .ensures) _ _ (when-accepted (c .before .before .before .before .before .before .before .before .before .before .before .before .before .take-readings .ensures) (c .before .before .before .before .before .before .before .before .before .enum-told .given .1)) _ (c .before .before .before .before .before .before .settle .ensures) ∙ table-length (c .before .before .before .before .before .before .before .before .before .before .before .before .before .before .before .before .before .before .before .before .before .before .before .before .pre) _ (c .before .before .before .before .before .before .before .before .before .before .before .before .before .before .before .before .before .words-of .ensures)
+    let given = c .before .before .before .before .before .before .before .before .before .before .before .before .before .before .before .before .before .before .before .before .before .before .before .before .pre in
+    let words = c .before .before .before .before .before .before .before .before .before .before .before .before .before .before .before .before .before .words-of .ensures in
+    let taken = when-accepted (c .before .before .before .before .before .before .before .before .before .before .before .before .before .take-readings .ensures) (c .before .before .before .before .before .before .before .before .before .enum-told .given .1) in
+    same-size given _ words _ _ taken _ (c .before .before .before .before .before .before .settle .ensures) ∙ table-length given _ words
 
 sub-new : tie.Need-sub-new
 sub-new c =
-    no-fewer (c .before .before .before .before .before .before .before .before .before .before .before .before .before .before .before .before .before .before .before .before .before .before .before .before .before .pre) _ (c .before .before .before .before .before .before .before .before .before .before .before .before .before .before .before .before .before .before .words-of .ensures) _ _ (when-accepted (c .before .before .before .before .before .before .before .before .before .before .before .before .before .before .take-readings .ensures) (c .before .before .before .before .before .before .before .before .before .before .enum-told .given .1)) _ (c .before .before .before .before .before .before .before .settle .ensures) _ _ (c .before .before .before .before .before .before .before .before .before .before .before .before .before .before .before .before .count-facts .ensures) (c .before .before .count-facts2 .ensures) (λ i. omega (arith, c .before .before .before .before .before .before .before .before .before .before .before .before .before .before .before .before .before .before .before .slice-known .given i))
+    let given = c .before .before .before .before .before .before .before .before .before .before .before .before .before .before .before .before .before .before .before .before .before .before .before .before .before .pre in
+    let words = c .before .before .before .before .before .before .before .before .before .before .before .before .before .before .before .before .before .before .words-of .ensures in
+    let taken = when-accepted (c .before .before .before .before .before .before .before .before .before .before .before .before .before .before .take-readings .ensures) (c .before .before .before .before .before .before .before .before .before .before .enum-told .given .1) in
+    no-fewer given _ words _ _ taken _ (c .before .before .before .before .before .before .before .settle .ensures) _ _ (c .before .before .before .before .before .before .before .before .before .before .before .before .before .before .before .before .count-facts .ensures) (c .before .before .count-facts2 .ensures) (λ i. omega (arith, c .before .before .before .before .before .before .before .before .before .before .before .before .before .before .before .before .before .before .before .slice-known .given i))
 
 enum-known-r : tie.Need-enum-known-r
 enum-known-r c = search needs
@@ -49,13 +69,19 @@ same-length c = search needs
 
 returns : tie.Need-returns
 returns c =
-    gains (c .before .before .before .before .before .before .before .before .before .before .before .before .before .before .before .before .before .before .before .before .before .before .before .before .before .pre) _ (c .before .before .before .before .before .before .before .before .before .before .before .before .before .before .before .before .before .before .words-of .ensures) _ _ (when-accepted (c .before .before .before .before .before .before .before .before .before .before .before .before .before .before .take-readings .ensures) (c .before .before .before .before .before .before .before .before .before .before .enum-told .given .1)) _ (c .before .before .before .before .before .before .before .settle .ensures) _ _ (c .before .before .before .before .before .before .before .before .before .before .before .before .before .before .before .before .count-facts .ensures) (c .before .before .count-facts2 .ensures) _ (c .clash-in .ensures)
+    let given = c .before .before .before .before .before .before .before .before .before .before .before .before .before .before .before .before .before .before .before .before .before .before .before .before .before .pre in
+    let words = c .before .before .before .before .before .before .before .before .before .before .before .before .before .before .before .before .before .before .words-of .ensures in
+    let taken = when-accepted (c .before .before .before .before .before .before .before .before .before .before .before .before .before .before .take-readings .ensures) (c .before .before .before .before .before .before .before .before .before .before .enum-told .given .1) in
+    gains given _ words _ _ taken _ (c .before .before .before .before .before .before .before .settle .ensures) _ _ (c .before .before .before .before .before .before .before .before .before .before .before .before .before .before .before .before .count-facts .ensures) (c .before .before .count-facts2 .ensures) _ (c .clash-in .ensures)
 
 same-length-2 : tie.Need-same-length-2
 same-length-2 c = search needs
 
 returns-2 : tie.Need-returns-2
-returns-2 c = readings-refused (c .before .before .before .before .before .before .before .before .before .before .before .before .before .before .before .before .pre) _ (c .before .before .before .before .before .before .before .before .before .words-of .ensures) _ _ (when-refused (c .before .before .before .before .before .take-readings .ensures) (c .before .r .given .1))
+returns-2 c =
+    let given = c .before .before .before .before .before .before .before .before .before .before .before .before .before .before .before .before .pre in
+    let words = c .before .before .before .before .before .before .before .before .before .words-of .ensures in
+    readings-refused given _ words _ _ (when-refused (c .before .before .before .before .before .take-readings .ensures) (c .before .r .given .1))
 
 pub add-opened-spec : {M : Type 1} → statement M
 add-opened-spec =

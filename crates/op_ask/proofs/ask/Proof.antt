@@ -3,8 +3,9 @@ use native.Mathlib.Omega.{arith}
 use mathlib.Core.Path.{refl}
 use lib.ListN.{length-take}
 use Rattle.spec_operations.specs.Operations.Asks.{not-opened}
+use Rattle.open_sheet.proofs.Buffers.{fresh}
 use Rattle.open_table.proofs.Tables.{when-hand, when-not}
-use Rattle.spec_operations.proofs.Opened.{no-rows, some-window, table-length}
+use Rattle.spec_operations.proofs.Opened.{some-window, table-length}
 use Rattle.op_ask.proofs.Outcomes.{signal-past, tick-past, cell-in, answers}
 use borrow.Author.Needs.{needs}
 use Rattle.op_ask.proofs.ask.Statement.{statement}
@@ -20,7 +21,7 @@ slice-aggregate-open-table-3 : tie.Need-slice-aggregate-open-table-3
 slice-aggregate-open-table-3 c = search needs
 
 open-table-requires : tie.Need-open-table-requires
-open-table-requires c κs = (refl, refl, no-rows 1024, refl)
+open-table-requires c κs = fresh
 
 enum-known-o : tie.Need-enum-known-o
 enum-known-o c = search needs

@@ -2,8 +2,8 @@
 use mathlib.Core.Path.{refl, sym, ap, _∙_}
 use Rattle.open_sheet.specs.Results.{accepted}
 use Rattle.spec_operations.specs.Operations.{counted}
+use Rattle.open_sheet.proofs.Buffers.{fresh}
 use Rattle.open_table.proofs.Tables.{when-ready, when-refused}
-use Rattle.spec_operations.proofs.Opened.{no-rows}
 use borrow.Author.Needs.{needs}
 use Rattle.op_check.proofs.check.Statement.{statement}
 use Rattle.op_check.proofs.check.Tie as tie
@@ -18,7 +18,7 @@ slice-aggregate-open-sheet-3 : tie.Need-slice-aggregate-open-sheet-3
 slice-aggregate-open-sheet-3 c = search needs
 
 open-sheet-requires : tie.Need-open-sheet-requires
-open-sheet-requires c κs = (refl, refl, no-rows 1024, refl)
+open-sheet-requires c κs = fresh
 
 enum-known-o : tie.Need-enum-known-o
 enum-known-o c = search needs

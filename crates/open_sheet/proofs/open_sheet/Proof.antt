@@ -42,7 +42,9 @@ slice-aggregate-lower-rules : tie.Need-slice-aggregate-lower-rules
 slice-aggregate-lower-rules c = let h = when-headed (c .before .before .before .before .before .before .head .ensures) (c .before .before .h .given .1) in simp length-take (omega (arith, h .1 .signals-high))
 
 lower-rules-requires : tie.Need-lower-rules-requires
-lower-rules-requires c κs = (legible (begun (c .before .before .before .before .before .before .before .before .head .ensures) (c .before .before .before .before .h .given .1) (c .before .before .before .before .before .before .before .before .before .before .if1 .left) (omega arith)), record { blank = c .before .before .before .before .before .before .before .before .before .before .before .before .before .before .before .pre .2; long = c .before .before .before .before .before .before .before .before .before .before .before .before .before .before .before .pre .1; wide = c .before .before .before .before .before .before .before .before .before .before .before .before .before .before .before .pre .3 })
+lower-rules-requires c κs =
+    let opened = begun (c .before .before .before .before .before .before .before .before .head .ensures) (c .before .before .before .before .h .given .1) (c .before .before .before .before .before .before .before .before .before .before .if1 .left) (omega arith) in
+    (legible opened, c .before .before .before .before .before .before .before .before .before .before .before .before .before .before .before .pre .room)
 
 enum-known-r : tie.Need-enum-known-r
 enum-known-r c = search needs
@@ -57,7 +59,9 @@ same-length-4 : tie.Need-same-length-4
 same-length-4 c = search needs
 
 returns-3 : tie.Need-returns-3
-returns-3 c = more-follow (begun (c .before .before .before .before .before .before .before .before .before .before .before .before .before .before .before .before .before .head .ensures) (c .before .before .before .before .before .before .before .before .before .before .before .before .before .h .given .1) (c .before .before .before .before .before .before .before .before .before .before .before .before .before .before .before .before .before .before .before .if1 .left) (omega arith)) (c .before .before .before .before .before .before .before .before .lower-rules .ensures) (c .before .before .r .given .1) (c .if2 .taken)
+returns-3 c =
+    let opened = begun (c .before .before .before .before .before .before .before .before .before .before .before .before .before .before .before .before .before .head .ensures) (c .before .before .before .before .before .before .before .before .before .before .before .before .before .h .given .1) (c .before .before .before .before .before .before .before .before .before .before .before .before .before .before .before .before .before .before .before .if1 .left) (omega arith) in
+    more-follow opened (c .before .before .before .before .before .before .before .before .lower-rules .ensures) (c .before .before .r .given .1) (c .if2 .taken)
 
 enum-known-lowered : tie.Need-enum-known-lowered
 enum-known-lowered c = search needs
@@ -78,7 +82,9 @@ same-length-7 : tie.Need-same-length-7
 same-length-7 c = search needs
 
 returns-4 : tie.Need-returns-4
-returns-4 c = fitting (begun (c .before .before .before .before .before .before .before .before .before .before .before .before .before .before .before .before .before .before .before .before .head .ensures) (c .before .before .before .before .before .before .before .before .before .before .before .before .before .before .before .before .h .given .1) (c .before .before .before .before .before .before .before .before .before .before .before .before .before .before .before .before .before .before .before .before .before .before .if1 .left) (omega arith)) (c .before .before .before .before .before .before .before .before .before .before .before .lower-rules .ensures) (c .before .before .before .before .before .r .given .1) (c .before .before .before .if2 .left) _ _ (c .before .lowered .given .1)
+returns-4 c =
+    let opened = begun (c .before .before .before .before .before .before .before .before .before .before .before .before .before .before .before .before .before .before .before .before .head .ensures) (c .before .before .before .before .before .before .before .before .before .before .before .before .before .before .before .before .h .given .1) (c .before .before .before .before .before .before .before .before .before .before .before .before .before .before .before .before .before .before .before .before .before .before .if1 .left) (omega arith) in
+    fitting opened (c .before .before .before .before .before .before .before .before .before .before .before .lower-rules .ensures) (c .before .before .before .before .before .r .given .1) (c .before .before .before .if2 .left) _ _ (c .before .lowered .given .1)
 
 same-length-8 : tie.Need-same-length-8
 same-length-8 c = search needs
@@ -90,7 +96,9 @@ same-length-10 : tie.Need-same-length-10
 same-length-10 c = search needs
 
 returns-5 : tie.Need-returns-5
-returns-5 c = not-fitting (begun (c .before .before .before .before .before .before .before .before .before .before .before .before .before .before .before .before .before .before .before .head .ensures) (c .before .before .before .before .before .before .before .before .before .before .before .before .before .before .before .h .given .1) (c .before .before .before .before .before .before .before .before .before .before .before .before .before .before .before .before .before .before .before .before .before .if1 .left) (omega arith)) (c .before .before .before .before .before .before .before .before .before .before .lower-rules .ensures) (c .before .before .before .before .r .given .1) (c .before .before .if2 .left) (ap allLoweredSays (c .enum-told2 .given .1))
+returns-5 c =
+    let opened = begun (c .before .before .before .before .before .before .before .before .before .before .before .before .before .before .before .before .before .before .before .head .ensures) (c .before .before .before .before .before .before .before .before .before .before .before .before .before .before .before .h .given .1) (c .before .before .before .before .before .before .before .before .before .before .before .before .before .before .before .before .before .before .before .before .before .if1 .left) (omega arith) in
+    not-fitting opened (c .before .before .before .before .before .before .before .before .before .before .lower-rules .ensures) (c .before .before .before .before .r .given .1) (c .before .before .if2 .left) (ap allLoweredSays (c .enum-told2 .given .1))
 
 same-length-11 : tie.Need-same-length-11
 same-length-11 c = search needs
@@ -102,7 +110,9 @@ same-length-13 : tie.Need-same-length-13
 same-length-13 c = search needs
 
 returns-6 : tie.Need-returns-6
-returns-6 c = rule-refused (begun (c .before .before .before .before .before .before .before .before .before .before .before .before .before .before .before .before .head .ensures) (c .before .before .before .before .before .before .before .before .before .before .before .before .h .given .1) (c .before .before .before .before .before .before .before .before .before .before .before .before .before .before .before .before .before .before .if1 .left) (omega arith)) (c .before .before .before .before .before .before .before .lower-rules .ensures) (c .before .r2 .given .1)
+returns-6 c =
+    let opened = begun (c .before .before .before .before .before .before .before .before .before .before .before .before .before .before .before .before .head .ensures) (c .before .before .before .before .before .before .before .before .before .before .before .before .h .given .1) (c .before .before .before .before .before .before .before .before .before .before .before .before .before .before .before .before .before .before .if1 .left) (omega arith) in
+    rule-refused opened (c .before .before .before .before .before .before .before .lower-rules .ensures) (c .before .r2 .given .1)
 
 pub open-sheet-spec : {M : Type 1} → statement M
 open-sheet-spec =

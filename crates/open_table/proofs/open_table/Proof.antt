@@ -4,7 +4,7 @@ use mathlib.Core.Path.{sym, _∙_}
 use borrow.Author.Tests.{not-true, not-false}
 use Rattle.table_facts.proofs.Clashing.{never}
 use Rattle.open_table.specs.Ready.TableOpens.{ready, refused-at}
-use Rattle.open_table.proofs.Tables.{when-ready, window-range, row-range, one-word, wrong-length, outside, within, sheet-refused}
+use Rattle.open_table.proofs.Tables.{when-ready, window-range, row-range, row-words, table-most, wrong-length, outside, within, sheet-refused}
 use borrow.Author.Needs.{needs}
 use Rattle.open_table.proofs.open_table.Statement.{statement}
 use Rattle.open_table.proofs.open_table.Tie as tie
@@ -39,8 +39,8 @@ mul-if1 c = let k = when-ready (c .before .before .before .before .before .befor
 mul-if1-2 : tie.Need-mul-if1-2
 mul-if1-2 c =
     let k = when-ready (c .before .before .before .before .before .before .before .before .before .before .open-sheet .ensures) (c .before .before .o .given .1) .1 in
-    let n = c .words-of .ensures ∙ one-word _ (window-range k .0) (window-range k .1) in
-    rw n (omega (arith, row-range k))
+    let n = row-words (window-range k .0) (window-range k .1) (c .words-of .ensures) in
+    omega (arith, table-most (row-range k) (n .most))
 
 same-length-4 : tie.Need-same-length-4
 same-length-4 c = search needs
@@ -57,8 +57,8 @@ returns-2 c = let k = when-ready (c .before .before .before .before .before .bef
 inside-window-requires : tie.Need-inside-window-requires
 inside-window-requires c κs =
     let k = when-ready (c .before .before .before .before .before .before .before .before .before .before .before .open-sheet .ensures) (c .before .before .before .o .given .1) .1 in
-    let n = c .before .words-of .ensures ∙ one-word _ (window-range k .0) (window-range k .1) in
-    (c .if1 .left, window-range k .0, c .before .words-of .ensures, rw n (omega (arith, row-range k)))
+    let n = row-words (window-range k .0) (window-range k .1) (c .before .words-of .ensures) in
+    (c .if1 .left, window-range k .0, c .before .words-of .ensures, omega (arith, table-most (row-range k) (n .most)))
 
 same-length-7 : tie.Need-same-length-7
 same-length-7 c = search needs
@@ -86,7 +86,7 @@ same-length-12 c = search needs
 returns-4 : tie.Need-returns-4
 returns-4 c =
     let h = when-ready (c .before .before .before .before .before .before .before .before .before .before .before .before .before .open-sheet .ensures) (c .before .before .before .before .before .o .given .1) in
-    ready (h .0) (h .1, within (h .1) _ _ (c .before .before .before .words-of .ensures) (c .before .before .if1 .left) (c .before .inside-window .ensures .0 (not-false _ (c .if2 .left))))
+    ready (h .0) (record { sheet = h .1; table = within (h .1) _ _ (c .before .before .before .words-of .ensures) (c .before .before .if1 .left) (c .before .inside-window .ensures .0 (not-false _ (c .if2 .left))) })
 
 pub open-table-spec : {M : Type 1} → statement M
 open-table-spec =

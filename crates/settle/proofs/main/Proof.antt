@@ -42,7 +42,7 @@ settle-requires : tie.Need-settle-requires
 settle-requires c κs = search needs
 
 array-share-prefix-out : tie.Need-array-share-prefix-out
-array-share-prefix-out c = search needs
+array-share-prefix-out c = omega (arith, c .before .settle .ensures .most)
 
 slice-aggregate-write-all : tie.Need-slice-aggregate-write-all
 slice-aggregate-write-all c = simp length-take (omega (arith, c .before .before .settle .ensures .most))

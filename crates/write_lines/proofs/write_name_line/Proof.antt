@@ -1,7 +1,6 @@
 -- `write_name_line` meets its contract. Assumes nothing.
 use borrow.Author.Needs.{needs}
-use Rattle.write_lines.specs.LineTexts.{lineText}
-use Rattle.write_bytes.proofs.Writing.{and-then, counted-first, counted-rest}
+use Rattle.write_lines.proofs.Lines.{key-counted, value-counted, end-counted, line-written}
 use Rattle.write_lines.proofs.write_name_line.Statement.{statement}
 use Rattle.write_lines.proofs.write_name_line.Tie as tie
 
@@ -9,23 +8,19 @@ slice-aggregate-push-text : tie.Need-slice-aggregate-push-text
 slice-aggregate-push-text c = search needs
 
 push-text-requires : tie.Need-push-text-requires
-unfolding lineText
-push-text-requires c κs = counted-first _ (c .before .before .before .before .pre)
+push-text-requires c κs = key-counted _ (c .before .before .before .before .pre)
 
 write-word-requires : tie.Need-write-word-requires
-unfolding lineText
-write-word-requires c κs = counted-first _ (counted-rest (c .before .before .before .before .before .before .before .before .pre) (c .before .before .before .push-text .ensures))
+write-word-requires c κs = value-counted (c .before .before .before .before .before .before .before .before .pre) (c .before .before .before .push-text .ensures)
 
 push-requires : tie.Need-push-requires
-unfolding lineText
-push-requires c κs = counted-rest (counted-rest (c .before .before .before .before .before .before .before .before .before .before .before .before .pre) (c .before .before .before .before .before .before .before .push-text .ensures)) (c .before .before .before .write-word .ensures)
+push-requires c κs = end-counted (c .before .before .before .before .before .before .before .before .before .before .before .before .pre) (c .before .before .before .before .before .before .before .push-text .ensures) (c .before .before .before .write-word .ensures)
 
 same-length : tie.Need-same-length
 same-length c = search needs
 
 returns : tie.Need-returns
-unfolding lineText
-returns c = and-then (c .before .before .before .before .before .before .before .before .before .before .push-text .ensures) (and-then (c .before .before .before .before .before .before .write-word .ensures) (c .before .before .push .ensures))
+returns c = line-written (c .before .before .before .before .before .before .before .before .before .before .push-text .ensures) (c .before .before .before .before .before .before .write-word .ensures) (c .before .before .push .ensures)
 
 pub write-name-line-spec : {M : Type 1} → statement M
 write-name-line-spec = tie.close (tie.spec slice-aggregate-push-text push-text-requires write-word-requires push-requires same-length returns)

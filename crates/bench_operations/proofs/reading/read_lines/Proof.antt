@@ -4,6 +4,7 @@ use Prim.Native.Nat.{ℕ, _+_, _-_, _*_, _<_, _≤_}
 use mathlib.Core.Path.{_≡_, refl}
 use mathlib.Core.List.{List}
 use lib.ListN.{length}
+use Rattle.spec_limits.specs.Limits.{mostRuleBytes, arenaNumbers}
 use Rattle.read_bytes.proofs.Places.{Reach}
 use Rattle.read_sheet.specs.Reading.{Ready}
 use Rattle.lower_lines.specs.InTurn.{Legible}
@@ -15,7 +16,7 @@ use Rattle.bench_operations.proofs.reading.read_lines.Statement.{statem
 use Rattle.bench_operations.proofs.reading.read_lines.Tie as tie
 
 -- The next line can be read.
-line-ready : {s places : List ℕ} {m first i p x : ℕ} (a : List ℕ) → Legible s places m first → Reach s first p → i < m → x ≤ length places + 256 * i → length a ≡ 1024 → Ready s a places p x
+line-ready : {s places : List ℕ} {m first i p x : ℕ} (a : List ℕ) → Legible s places m first → Reach s first p → i < m → x ≤ length places + mostRuleBytes * i → length a ≡ arenaNumbers → Ready s a places p x
 line-ready {places = places} a g z l r e = record {
   within = z .inside;
   before = up-to (z .ahead) places (g .before);
@@ -25,7 +26,7 @@ line-ready {places = places} a g z l r e = record {
 }
 
 abbrev Inv-loop : tie.InvT-loop
-Inv-loop s places m first arena₀ i₀ place₀ row₀ arena i place row = Reach s first place × (row ≤ length places + 256 * i) × (length arena ≡ 1024)
+Inv-loop s places m first arena₀ i₀ place₀ row₀ arena i place row = Reach s first place × (row ≤ length places + mostRuleBytes * i) × (length arena ≡ arenaNumbers)
 
 abbrev μ-loop : tie.MeasureT-loop
 μ-loop s places m first arena₀ i₀ place₀ row₀ arena i place row = m - i

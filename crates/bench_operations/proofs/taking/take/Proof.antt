@@ -1,9 +1,10 @@
 -- `take` is safe and ends. Assumes nothing.
 use native.Mathlib.Omega.{arith}
-use mathlib.Core.Path.{refl, sym}
+use mathlib.Core.Path.{refl}
 use lib.ListN.{length-take}
-use Rattle.open_table.proofs.Tables.{when-hand, one-word}
-use Rattle.spec_operations.proofs.Opened.{no-rows, some-window, signals-few, signals-fit}
+use Rattle.open_sheet.proofs.Buffers.{fresh}
+use Rattle.open_table.proofs.Tables.{when-hand}
+use Rattle.spec_operations.proofs.Opened.{some-window, signals-few, signals-fit}
 use borrow.Author.Needs.{needs}
 use Rattle.bench_operations.proofs.taking.take.Statement.{statement}
 use Rattle.bench_operations.proofs.taking.take.Tie as tie
@@ -18,7 +19,7 @@ slice-aggregate-open-table-3 : tie.Need-slice-aggregate-open-table-3
 slice-aggregate-open-table-3 c = search needs
 
 open-table-requires : tie.Need-open-table-requires
-open-table-requires c κs = (refl, refl, no-rows 1024, refl)
+open-table-requires c κs = fresh
 
 enum-known-o : tie.Need-enum-known-o
 enum-known-o c = search needs
@@ -32,9 +33,7 @@ slice-aggregate-take-opened c = let h = when-hand (c .before .before .before .be
 take-opened-requires : tie.Need-take-opened-requires
 take-opened-requires c κs =
     let h = when-hand (c .before .before .before .before .before .before .before .before .open-table .ensures) (c .before .before .before .o .given .1) .1 in
-    let w = some-window h _ refl in
-    let n = sym (one-word _ (w .0) (w .1)) in
-    (w .0, w .1, signals-few h 1 n .0, omega (arith, signals-fit h 1 n .0))
+    (some-window h _ refl .0, some-window h _ refl .1, signals-few h _ refl .0, signals-fit h _ refl .0)
 
 enum-known-o-2 : tie.Need-enum-known-o-2
 enum-known-o-2 c = search needs

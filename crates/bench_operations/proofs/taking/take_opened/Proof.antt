@@ -1,7 +1,7 @@
 -- `take_opened` is safe and ends. Assumes nothing.
 use native.Mathlib.Omega.{arith}
-use mathlib.Core.Path.{_∙_}
-use Rattle.open_table.proofs.Tables.{one-word}
+use native.Mathlib.Nat.{le-trans}
+use Rattle.open_table.proofs.Tables.{row-words, table-most}
 use borrow.Author.Needs.{needs}
 use Rattle.bench_operations.proofs.taking.take_opened.Statement.{statement}
 use Rattle.bench_operations.proofs.taking.take_opened.Tie as tie
@@ -10,10 +10,17 @@ words-of-requires : tie.Need-words-of-requires
 words-of-requires c κs = search needs
 
 count-facts-requires : tie.Need-count-facts-requires
-count-facts-requires c κs = let n = c .before .words-of .ensures ∙ one-word _ (c .before .before .before .before .before .before .pre .0) (c .before .before .before .before .before .before .pre .1) in rw n (omega arith, omega (arith, c .before .before .before .before .before .before .pre .3), omega (arith, c .before .before .before .before .before .before .pre .2))
+count-facts-requires c κs =
+    let given = c .before .before .before .before .before .before .pre in
+    let n = c .before .words-of .ensures in
+    let spread = row-words (given .0) (given .1) n in
+    (spread .some, rw n (given .3), omega (arith, table-most (le-trans (given .2) (omega arith)) (spread .most)))
 
 take-readings-requires : tie.Need-take-readings-requires
-take-readings-requires c κs = let n = c .before .before .before .words-of .ensures ∙ one-word _ (c .before .before .before .before .before .before .before .before .pre .0) (c .before .before .before .before .before .before .before .before .pre .1) in rw n (record { some = c .before .before .before .before .before .before .before .before .pre .0; ticks = omega (arith, c .before .before .before .before .before .before .before .before .pre .1); covered = omega (arith, c .before .before .before .before .before .before .before .before .pre .1); signals = c .before .before .before .before .before .before .before .before .pre .2; room = omega (arith, c .before .before .before .before .before .before .before .before .pre .3) })
+take-readings-requires c κs =
+    let given = c .before .before .before .before .before .before .before .before .pre in
+    let n = c .before .before .before .words-of .ensures in
+    record { some = given .0; ticks = omega (arith, given .1); covered = row-words (given .0) (given .1) n .cover; signals = given .2; room = rw n (given .3) }
 
 enum-told : tie.Need-enum-told
 enum-told c = search needs

@@ -1,10 +1,14 @@
 -- Where the words of a row stand in a table: two blocks of n, the true marks' first. Assumes nothing.
 use mathlib.Core.Path.{_≡_, _∙_, ap, sym}
 use mathlib.Core.Bool.{Bool, true, false}
-use Prim.Native.Nat.{ℕ, suc, _+_, _*_}
-use native.Mathlib.Nat.{suc-mul}
+use Prim.Native.Nat.{ℕ, suc, _+_, _*_, _≤_, _<_}
+use native.Mathlib.Nat.{suc-mul, mul-le-mul-left}
 use native.Mathlib.Omega.{arith}
 use Rattle.spec_ticks.specs.Ticks.{block}
+
+-- A row's number fits a word, and so do its blocks.
+pub row-fits : (n row m : ℕ) → 0 < n → 2 * (row + 1) * n ≤ m → 2 * row + 1 < m
+row-fits n row m h l = omega (arith, mul-le-mul-left (2 * (row + 1)) h)
 
 -- A row's words are two blocks of n.
 pub two-blocks : (n row : ℕ) → 2 * (row + 1) * n ≡ 2 * row * n + n + n

@@ -1,10 +1,9 @@
 -- `place_of` meets its contract. Assumes nothing.
 use native.Mathlib.Omega.{arith}
 use native.Mathlib.Nat.{le-refl}
-use Rattle.table_marks.proofs.Marks.{row-fits}
-use Rattle.table_words.proofs.Places.{two-blocks, first-block, second-block}
-use Rattle.table_words.proofs.place_of.Statement.{statement}
-use Rattle.table_words.proofs.place_of.Tie as tie
+use Rattle.table_marks.proofs.Places.{row-fits, two-blocks, first-block, second-block}
+use Rattle.table_marks.proofs.place_of.Statement.{statement}
+use Rattle.table_marks.proofs.place_of.Tie as tie
 
 mul-first : tie.Need-mul-first
 mul-first c =

@@ -1,0 +1,2 @@
+-- The laws, one idea a file.
+pub mod Lines
