@@ -1,11 +1,6 @@
 // Closes a table of 4,096 ticks again and again, so that its instructions can be counted. The sheet and the readings are those in the current folder,
 // sheet.txt and readings.txt: the table has 64 words for each value of the sheet's rows, and each reading stands there every 64 ticks. The first argument says
 // how often it is laid out and closed; with `lay` as the second it is laid out only. Prints the marks before, how many tops there are, and the marks after.
-use bench_parts::TEXT;
-use bench_parts::clear;
-use bench_parts::is_asked;
-use bench_parts::read_text;
-use bench_parts::times_asked;
 use close_table::tops::settle;
 use open_sheet::Opening;
 use open_sheet::open_sheet;
@@ -13,6 +8,11 @@ use read_readings::whole::Outcome;
 use read_readings::whole::take_readings;
 use run_cases::print_number;
 use run_cases::print_refusal;
+use run_parts::TEXT;
+use run_parts::clear;
+use run_parts::is_asked;
+use run_parts::read_text;
+use run_parts::times_asked;
 use spec_limits::ROWS;
 use spec_limits::SIGNALS;
 use spec_limits::TOPS;

@@ -3,8 +3,8 @@ use borrow.Author.Needs.{needs}
 use Prim.Native.Nat.{_-_}
 use mathlib.Core.Path.{_≡_}
 use lib.ListN.{length}
-use Rattle.bench_parts.proofs.clear.Statement.{statement}
-use Rattle.bench_parts.proofs.clear.Tie as tie
+use Rattle.run_parts.proofs.clear.Statement.{statement}
+use Rattle.run_parts.proofs.clear.Tie as tie
 
 abbrev Inv-loop : tie.InvT-loop
 Inv-loop table₀ i₀ table i = length table ≡ length table₀
