@@ -20,6 +20,7 @@ use Rattle.close_rules.specs.Codes.{Codes, Coded}
 use Rattle.close_rules.specs.Settled.{SettledTo}
 use Rattle.close_rules.specs.Moves.{Gathers}
 use Rattle.close_list.specs.Items.{per, ToDo, OneItem, DoneTo}
+use Rattle.close_list.proofs.Noting.{still-to-do}
 use Rattle.close_store.specs.Visits.{Heeds, Visited, Visits, Looks}
 use Rattle.close_word.specs.Stretches.{Stretch, NoWord, Taken, TakenLook}
 use Rattle.close_word.proofs.Local.{settled-more, settled-local}
@@ -94,8 +95,8 @@ module _ (count : ℕ) (D : List ℕ) (i k q : ℕ) (l : i < per count) (m : k <
 -- ---- a visit to item (64 i + k, q)
 module _ (count : ℕ) (B : List ℕ) (n i k q : ℕ) {T T′ D D₁ : List ℕ} (l : q < n) (b : k < 64) (has : Has (getD D (q * per count + i) 0) k) where
   -- The item is on the list after the visit too.
-  pub kept-item : 64 * i + k < count → Heeds count B n (64 * i + k) q T T′ D D₁ → Has (getD D₁ (q * per count + i) 0) k
-  kept-item g f = rw (word, tick) at (f .kept (64 * i + k) q g l (rw (word, tick) has))
+  pub kept-item : Heeds count B n (64 * i + k) q T T′ D D₁ → Has (getD D₁ (q * per count + i) 0) k
+  kept-item f = rw (word, tick) at (still-to-do count (64 * i + k) q (f .keeps) (rw (word, tick) has))
     where
       word : (64 * i + k) / 64 ≡ i
       word = omega arith
@@ -103,12 +104,8 @@ module _ (count : ℕ) (B : List ℕ) (n i k q : ℕ) {T T′ D D₁ : List ℕ}
       tick : (64 * i + k) % 64 ≡ k
       tick = omega arith
 
-  pub kept-bit : (W : ℕ) → Coded count B → Inside W (Stands n T) → Visits count B (64 * i + k) q W n T T′ D D₁ → Has (getD D₁ (q * per count + i) 0) k
-  kept-bit W c w f =
-      ⊎-elim (λ g. kept-item g (v .heeds)) (λ g. subst (λ (X : List ℕ). Has (getD X (q * per count + i) 0) k) (sym (v .still (f .past g) .1)) has) (lt-or-ge (64 * i + k) count)
-    where
-      v : Visited count B n (c .program) W (64 * i + k) q (Stands n T′) T T′ D D₁ (f .changed)
-      v = f .each (c .program) (c .codes) w
+  pub kept-bit : (W : ℕ) → Coded count B → Visits count B (64 * i + k) q W n T T′ D D₁ → Has (getD D₁ (q * per count + i) 0) k
+  kept-bit W c f = kept-item (f .each (c .program) (c .codes) .heeds)
 
 module _ (count : ℕ) (B : List ℕ) (W n i k q : ℕ) (T T′ D D₁ D′ : List ℕ) (l : i < per count) (m : k < 64)
     (inside : q * per count + i < length D₁) (has : Has (getD D₁ (q * per count + i) 0) k)
@@ -119,7 +116,7 @@ module _ (count : ℕ) (B : List ℕ) (W n i k q : ℕ) (T T′ D D₁ D′ : Li
     still-settled : (r p : ℕ) → r < count → p < n → (ToDo count D₁ r p → ⊥) → (OneItem (64 * i + k) q r p → ⊥) → SettledTo X′ p W (Stands n T′) r (rowAt B r)
     still-settled r p h b f z =
         settled-more X X′ p W (Stands n T′) r (rowAt B r) more
-        (settled-local n W T T′ (v .grows) X r p (rowAt B r) (v .heeds .noted r p h b f z) (done r p h b (λ t. f (v .heeds .kept r p h b t))))
+        (settled-local n W T T′ (v .infers .grows) X r p (rowAt B r) (v .heeds .noted r p h b f z) (done r p h b (λ t. f (still-to-do count r p (v .heeds .keeps) t))))
 
     done-after : DoneTo X′ count B W n T′ D′
     done-after r p h b f = go (ℕ-discrete r (64 * i + k)) (ℕ-discrete p q)
@@ -139,12 +136,9 @@ module _ (count : ℕ) (B : List ℕ) (W n i k q : ℕ) (T T′ D D₁ D′ : Li
   module _ {P : Program} {C : Marks} {x : ℕ} (v : Visited count B n P W (64 * i + k) q C T T′ D D₁ x) where
     stretch : {F G : List ℕ → List ℕ → Type 0} → (F T D → G T′ D′) → Stretch F G n P W NoWord T T′ D D′ x
     stretch f = record {
-      size = v .size;
-      grows = v .grows;
-      sound = v .sound;
-      moved = v .moved;
-      still = λ e. v .still e .0;
-      empty = λ e j. ⊎-elim (λ z. subst (λ (X : List ℕ). getD X j 0 ≡ 0) (sym is) (zero-stays count D₁ i k q l m inside has j (subst (λ (X : List ℕ). getD X j 0 ≡ 0) (sym (v .still e .1)) z)))
+      infers = v .infers;
+      tells = v .tells;
+      empty = λ e j. ⊎-elim (λ z. subst (λ (X : List ℕ). getD X j 0 ≡ 0) (sym is) (zero-stays count D₁ i k q l m inside has j (subst (λ (X : List ℕ). getD X j 0 ≡ 0) (sym (v .same-list e)) z)))
           (λ z. absurd z);
       rests = f;
     }
@@ -152,29 +146,29 @@ module _ (count : ℕ) (B : List ℕ) (W n i k q : ℕ) (T T′ D D₁ D′ : Li
     falls : x ≡ 0 → getD D′ (q * per count + i) 0 < getD D (q * per count + i) 0
     falls e =
         subst (λ (X : List ℕ). getD X (q * per count + i) 0 < getD D (q * per count + i) 0) (sym is)
-        (subst (λ (X : List ℕ). getD (without count D₁ i k q l m inside has) (q * per count + i) 0 < getD X (q * per count + i) 0) (v .still e .1) (word-falls count D₁ i k q l m inside has))
+        (subst (λ (X : List ℕ). getD (without count D₁ i k q l m inside has) (q * per count + i) 0 < getD X (q * per count + i) 0) (v .same-list e) (word-falls count D₁ i k q l m inside has))
 
     long : length D′ ≡ length D
-    long = ap length is ∙ length-set D₁ (q * per count + i) (getD D₁ (q * per count + i) 0 - 2 ^ k) ∙ v .heeds .size
+    long = ap length is ∙ length-set D₁ (q * per count + i) (getD D₁ (q * per count + i) 0 - 2 ^ k) ∙ v .heeds .keeps .size
 
-  module _ (coded : Coded count B) (w : Inside W (Stands n T)) where
+  module _ (coded : Coded count B) where
     pub taken : Visits count B (64 * i + k) q W n T T′ D D₁ → Taken count B W n (q * per count + i) T T′ D D′
     taken f = record {
       works = record {
         changed = f .changed;
-        long = long (f .each (coded .program) (coded .codes) w);
-        each = λ P c. let v = f .each P c w in stretch v (done-after P c (Stands n T′) (Stands n T) (Stands n T′) (v .grows) (λ m h. h) v);
+        long = long (f .each (coded .program) (coded .codes));
+        each = λ P c. let v = f .each P c in stretch v (done-after P c (Stands n T′) (Stands n T) (Stands n T′) (v .infers .grows) (λ m h. h) v);
       };
-      less = falls (f .each (coded .program) (coded .codes) w);
+      less = falls (f .each (coded .program) (coded .codes));
     }
 
     -- A look: what it gives its child is gathered.
-    pub looked : (o y : ℕ) (G G′ : Marks) → rowAt B (64 * i + k) ≡ look o y → Looks o y count B (64 * i + k) q W n G G′ T T′ D D₁ → TakenLook count B W n (q * per count + i) G G′ T T′ D D′
-    looked o y G G′ e f = record {
+    pub looked : Inside W (Stands n T) → (o y : ℕ) (G G′ : Marks) → rowAt B (64 * i + k) ≡ look o y → Looks o y count B (64 * i + k) q W n G G′ T T′ D D₁ → TakenLook count B W n (q * per count + i) G G′ T T′ D D′
+    looked w o y G G′ e f = record {
       changed = f .changed;
       long = long (visit (coded .program) (coded .codes) .0);
       each = λ P c. let v = visit P c in (
-        stretch (v .0) (done-after P c G′ (_or_ (Stands n T) G) (_or_ (Stands n T′) G′) (λ m. ⊎-elim (λ h. inl (v .0 .grows m h)) (λ h. inr (v .1 .grows m h))) (λ m h. inr h) (v .0)),
+        stretch (v .0) (done-after P c G′ (_or_ (Stands n T) G) (_or_ (Stands n T′) G′) (λ m. ⊎-elim (λ h. inl (v .0 .infers .grows m h)) (λ h. inr (v .1 .grows m h))) (λ m h. inr h) (v .0)),
         v .1,
       );
       less = falls (visit (coded .program) (coded .codes) .0);

@@ -1,4 +1,5 @@
 -- The laws, in the order in which they build on each other.
 pub mod Places
 pub mod OneWord
+pub mod Telling
 pub mod Gaining

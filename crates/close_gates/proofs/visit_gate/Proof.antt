@@ -27,14 +27,14 @@ mark-child-requires : tie.Need-mark-child-requires
 mark-child-requires c κs =
     let o = c .before .before .before .before .before .before .before .before .before .before .before .before .before .before .before .before .before .before .before .before .before .before .before .before .before .before .before .pre in
     let own = c .before .before .before .before .before .before .mark-own .ensures in
-    (o .0, ((omega (arith, o .1 .0, o .1 .1 .0 .4), o .1 .1 .0 .0, omega (arith, o .1 .1 .0 .2, own .0 .gains .size)), (o .1 .1 .1 .0, roomy-as (own .1 .1 .enters .size) (o .1 .1 .1 .1))))
+    (o .0, ((omega (arith, o .1 .0, o .1 .1 .0 .4), o .1 .1 .0 .0, omega (arith, o .1 .1 .0 .2, own .0 .gains .size)), (o .1 .1 .1 .0, roomy-as (own .1 .1 .enters .keeps .size) (o .1 .1 .1 .1))))
 
 mark-child-requires-2 : tie.Need-mark-child-requires-2
 mark-child-requires-2 c κs =
     let o = c .before .before .before .before .before .before .before .before .before .before .before .before .before .before .before .before .before .before .before .before .before .before .before .before .before .before .before .before .before .before .before .before .before .before .pre in
     let own = c .before .before .before .before .before .before .before .before .before .before .before .before .before .mark-own .ensures in
     let left = c .before .before .before .before .before .before .mark-child .ensures in
-    (o .0, ((omega (arith, o .1 .0, o .1 .1 .0 .5), o .1 .1 .0 .0, omega (arith, o .1 .1 .0 .3, own .0 .gains .size, left .joins .gains .size)), (o .1 .1 .1 .0, roomy-as (left .notes .size ∙ own .1 .1 .enters .size) (o .1 .1 .1 .1))))
+    (o .0, ((omega (arith, o .1 .0, o .1 .1 .0 .5), o .1 .1 .0 .0, omega (arith, o .1 .1 .0 .3, own .0 .gains .size, left .joins .gains .size)), (o .1 .1 .1 .0, roomy-as (left .notes .keeps .size ∙ own .1 .1 .enters .keeps .size) (o .1 .1 .1 .1))))
 
 same-length : tie.Need-same-length
 same-length c = search needs

@@ -23,7 +23,7 @@ mark-child-requires : tie.Need-mark-child-requires
 mark-child-requires c κs =
     let o = c .before .before .before .before .before .before .before .before .before .before .before .before .before .before .before .before .before .before .pre in
     let own = c .before .before .before .before .before .before .mark-own .ensures in
-    (o .0, ((omega (arith, o .1 .0, o .1 .1 .0 .3), o .1 .1 .0 .0, omega (arith, o .1 .1 .0 .2, own .0 .gains .size)), (o .1 .1 .1 .0, roomy-as (own .1 .1 .enters .size) (o .1 .1 .1 .1))))
+    (o .0, ((omega (arith, o .1 .0, o .1 .1 .0 .3), o .1 .1 .0 .0, omega (arith, o .1 .1 .0 .2, own .0 .gains .size)), (o .1 .1 .1 .0, roomy-as (own .1 .1 .enters .keeps .size) (o .1 .1 .1 .1))))
 
 same-length : tie.Need-same-length
 same-length c = search needs

@@ -18,7 +18,7 @@ enter-requires : tie.Need-enter-requires Inv-loop μ-loop
 enter-requires c κs =
     let o = c .before .before .before .before .before .pre in
     let l = c .before .before .loop in
-    omega (arith, walk-edge _ _ _ _ _ _ _ (omega arith) (l .inv), o .2, l .inv .size)
+    omega (arith, walk-edge _ _ _ _ _ _ _ (omega arith) (l .inv), o .2, l .inv .keeps .size)
 
 mul-index : tie.Need-mul-index Inv-loop μ-loop
 mul-index c =
@@ -46,7 +46,7 @@ loop-again c =
     walk-more _ _ _ _ _ _ _ _ _ (omega arith) (c .index .ensures) (l .inv) (c .before .before .before .before .enter .ensures)
 
 same-length : tie.Need-same-length Inv-loop μ-loop
-same-length c = c .before .loop .inv .size
+same-length c = c .before .loop .inv .keeps .size
 
 returns : tie.Need-returns Inv-loop μ-loop
 returns c = walk-end _ _ _ _ _ _ _ (omega arith) (c .before .loop .inv)

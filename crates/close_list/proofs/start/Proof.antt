@@ -19,7 +19,7 @@ loop-holds c = (omega arith, starts-none _ _ _ _ _ _ (λ x p z. omega (arith, z 
 start-column-requires : tie.Need-start-column-requires Inv-loop μ-loop
 start-column-requires c κs =
     let o = c .before .before .before .before .before .before .before .before .pre in
-    (o .0, ((omega arith, o .1 .0), (o .1 .1 .0, roomy-as (c .before .before .loop .inv .1 .size) (o .1 .1 .1))))
+    (o .0, ((omega arith, o .1 .0), (o .1 .1 .0, roomy-as (c .before .before .loop .inv .1 .keeps .size) (o .1 .1 .1))))
 
 add-q : tie.Need-add-q Inv-loop μ-loop
 add-q c = omega arith
@@ -31,7 +31,7 @@ loop-again : tie.Need-loop-again Inv-loop μ-loop
 loop-again c = (omega arith, starts-column _ _ _ _ _ _ _ _ (c .before .before .before .before .before .loop .inv .1) (c .before .before .start-column .ensures))
 
 same-length : tie.Need-same-length Inv-loop μ-loop
-same-length c = c .before .loop .inv .1 .size
+same-length c = c .before .loop .inv .1 .keeps .size
 
 returns : tie.Need-returns Inv-loop μ-loop
 returns c = starts-done _ _ _ _ _ _ (c .before .before .before .before .before .before .before .pre .0) (starts-as _ _ _ _ _ _ _ _ (λ x p z. (z .0, omega (arith, z .1))) (c .before .loop .inv .1))

@@ -67,7 +67,7 @@ touch-requires : tie.Need-touch-requires Inv-loop μ-loop
 touch-requires c κs =
     let o = c .before .before .before .before .before .before .before .before .before .before .before .pre in
     let l = c .before .before .before .before .before .loop .inv in
-    (o .0, ((omega arith, o .1 .0 .0), (o .1 .1 .0, roomy-as (l .2 .size) (o .1 .1 .1))))
+    (o .0, ((omega arith, o .1 .0 .0), (o .1 .1 .0, roomy-as (l .2 .keeps .size) (o .1 .1 .1))))
 
 mul-place : tie.Need-mul-place Inv-loop μ-loop
 mul-place c =
@@ -106,7 +106,7 @@ loop-again c =
     )
 
 same-length : tie.Need-same-length Inv-loop μ-loop
-same-length c = c .before .loop .inv .2 .size
+same-length c = c .before .loop .inv .2 .keeps .size
 
 returns : tie.Need-returns Inv-loop μ-loop
 returns c =

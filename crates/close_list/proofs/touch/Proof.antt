@@ -11,7 +11,7 @@ enter-own-requires c κs = search needs
 touch-parents-requires : tie.Need-touch-parents-requires
 touch-parents-requires c κs =
     let o = c .before .before .before .before .before .before .before .before .before .pre in
-    (o .1 .0, (ended (o .1 .1 .0), roomy-as (c .before .before .before .enter-own .ensures .size) (o .1 .1 .1)))
+    (o .1 .0, (ended (o .1 .1 .0), roomy-as (c .before .before .before .enter-own .ensures .keeps .size) (o .1 .1 .1)))
 
 same-length : tie.Need-same-length
 same-length c = search needs

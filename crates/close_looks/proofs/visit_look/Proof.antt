@@ -20,7 +20,7 @@ look-part-requires-2 : tie.Need-look-part-requires-2
 look-part-requires-2 c κs =
     let o = c .before .before .before .before .before .before .before .before .before .before .before .before .before .before .pre in
     let first = c .before .before .before .before .before .before .look-part .ensures in
-    ((o .0 .0, omega (arith, o .0 .1, c .before .before .before .before .before .before .look-part), o .0 .2, o .0 .3), (first .1, (ended (o .1 .1 .0), roomy-as (first .0 .enters .enters .size) (o .1 .1 .1))))
+    ((o .0 .0, omega (arith, o .0 .1, c .before .before .before .before .before .before .look-part), o .0 .2, o .0 .3), (first .1, (ended (o .1 .1 .0), roomy-as (first .0 .enters .enters .keeps .size) (o .1 .1 .1))))
 
 same-length : tie.Need-same-length
 same-length c = search needs

@@ -45,7 +45,7 @@ clear-bit-requires c κs =
     let at = o .1 .0 .2 in (
       omega (arith, at, o .1 .0 .1, column-in _ (a .n) (a .q) _ (o .1 .0 .0) (o .1 .1 .1 .0 .long)),
       o .1 .0 .3,
-      rw at (kept-bit _ _ _ (a .i) (a .k) (a .q) (o .1 .0 .0) (o .1 .0 .3) (rw at at (o .1 .0 .4)) _ (o .0) (o .1 .1 .1 .1 .1) (c .before .before .before .before .before .visit .ensures)),
+      rw at (kept-bit _ _ _ (a .i) (a .k) (a .q) (o .1 .0 .0) (o .1 .0 .3) (rw at at (o .1 .0 .4)) _ (o .0) (c .before .before .before .before .before .visit .ensures)),
     )
 
 same-length-3 : tie.Need-same-length-3
@@ -60,7 +60,7 @@ returns-2 c =
     let o = c .before .before .before .before .before .before .before .before .before .before .before .before .before .before .before .before .before .before .pre in
     let at = o .1 .0 .2 in
     rw at (taken _ _ _ _ (a .i) (a .k) (a .q) _ _ _ _ _ (o .1 .0 .1) (o .1 .0 .3) (omega (arith, at, o .1 .0 .1, column-in _ (a .n) (a .q) _ (o .1 .0 .0) (o .1 .1 .1 .0 .long)))
-    (kept-bit _ _ _ (a .i) (a .k) (a .q) (o .1 .0 .0) (o .1 .0 .3) (rw at at (o .1 .0 .4)) _ (o .0) (o .1 .1 .1 .1 .1) (c .before .before .before .before .before .before .before .before .visit .ensures)) (rw at at (c .before .before .clear-bit .ensures)) (o .0) (o .1 .1 .1 .1 .1) (c .before .before .before .before .before .before .before .before .visit .ensures))
+    (kept-bit _ _ _ (a .i) (a .k) (a .q) (o .1 .0 .0) (o .1 .0 .3) (rw at at (o .1 .0 .4)) _ (o .0) (c .before .before .before .before .before .before .before .before .visit .ensures)) (rw at at (c .before .before .clear-bit .ensures)) (o .0) (c .before .before .before .before .before .before .before .before .visit .ensures))
 
 pub take-spec : {M : Type 1} → statement M
 take-spec =

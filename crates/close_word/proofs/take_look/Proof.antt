@@ -41,7 +41,7 @@ clear-bit-requires c κs =
     let l = look-in (a .count) (a .rows .now) r (a .child .row) (o .1 .0 .4) (o .0) in (
       omega (arith, at, o .1 .0 .0, column-in _ (a .n) (a .child .q) _ (o .1 .1 .0 .0) (o .1 .1 .1 .1 .0 .long)),
       o .1 .0 .2,
-      rw at (kept-item _ _ _ (a .i) (a .k) (a .child .q) (o .1 .1 .0 .0) (o .1 .0 .2) (rw at at (o .1 .0 .3)) l (c .before .before .before .before .before .visit-look .ensures .0 .each (o .0 .program) (o .0 .codes .nodes r ∙ y) y (o .1 .1 .1 .1 .1 .1) .0 .heeds)),
+      rw at (kept-item _ _ _ (a .i) (a .k) (a .child .q) (o .1 .1 .0 .0) (o .1 .0 .2) (rw at at (o .1 .0 .3)) (c .before .before .before .before .before .visit-look .ensures .0 .each (o .0 .program) (o .0 .codes .nodes r ∙ y) y (o .1 .1 .1 .1 .1 .1) .0 .heeds)),
     )
 
 same-length : tie.Need-same-length
@@ -60,7 +60,7 @@ returns c =
     let l = look-in (a .count) (a .rows .now) r (a .child .row) (o .1 .0 .4) (o .0) in
     let f = c .before .before .before .before .before .before .before .before .visit-look .ensures in
     let w = o .1 .1 .1 .1 .1 .1 in
-    let has = kept-item _ _ _ (a .i) (a .k) (a .child .q) (o .1 .1 .0 .0) (o .1 .0 .2) (rw at at (o .1 .0 .3)) l (f .0 .each (o .0 .program) (o .0 .codes .nodes r ∙ y) y w .0 .heeds) in
+    let has = kept-item _ _ _ (a .i) (a .k) (a .child .q) (o .1 .1 .0 .0) (o .1 .0 .2) (rw at at (o .1 .0 .3)) (f .0 .each (o .0 .program) (o .0 .codes .nodes r ∙ y) y w .0 .heeds) in
     (rw at (looked _ _ _ _ (a .i) (a .k) (a .child .q) _ _ _ _ _ (o .1 .0 .0) (o .1 .0 .2) (omega (arith, at, o .1 .0 .0, column-in _ (a .n) (a .child .q) _ (o .1 .1 .0 .0) (o .1 .1 .1 .1 .0 .long))) has (rw at at (c .before .before .clear-bit .ensures)) (o .0) w _ _ _ _ y (f .0)), f .1)
 
 pub take-look-spec : {M : Type 1} → statement M

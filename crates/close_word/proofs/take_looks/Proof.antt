@@ -68,7 +68,7 @@ take-look-requires c κs =
     let o = c .before .before .before .before .before .before .before .before .before .before .before .before .pre in
     let v = c .before .before .before .loop .inv in
     let b = v .2 (omega arith) in
-    (o .0, ((o .1 .0 .1, rw (c .before .before .before .before .child-at .ensures .1) (o .1 .0 .2), omega arith, b .0, b .1), (v .1, (o .1 .1 .1 .0, (roomy-as (v .0 .long) (o .1 .1 .1 .1 .0), (sized-as (v .0 .each (o .0 .program) (o .0 .codes) .size) (o .1 .1 .1 .1 .1 .0), gathering-inside _ _ _ _ _ (o .0) (o .1 .1 .1 .1 .1 .1) (v .0)))))))
+    (o .0, ((o .1 .0 .1, rw (c .before .before .before .before .child-at .ensures .1) (o .1 .0 .2), omega arith, b .0, b .1), (v .1, (o .1 .1 .1 .0, (roomy-as (v .0 .long) (o .1 .1 .1 .1 .0), (sized-as (v .0 .each (o .0 .program) (o .0 .codes) .infers .size) (o .1 .1 .1 .1 .1 .0), gathering-inside _ _ _ _ _ (o .0) (o .1 .1 .1 .1 .1 .1) (v .0)))))))
 
 mul-next-look : tie.Need-mul-next-look Inv-loop μ-loop
 mul-next-look c =
@@ -109,17 +109,17 @@ mark-child-requires c κs =
     let y = getD (a .rows .now) r 0 % 524288 / 8 in
     let l = look-in (a .count) (a .rows .now) r y e (o .0) in
     let w = c .before .before .before .loop .inv .0 in
-    let h = look-asks (a .count) (a .rows .now) r l (a .n) (a .q) (a .window) (c .before .before .before .loop .marks) (o .0) (sized-as (w .each (o .0 .program) (o .0 .codes) .size) (o .1 .1 .1 .1 .1 .0)) (o .1 .0 .0) (look-kind (a .count) (a .rows .now) r y e) in
+    let h = look-asks (a .count) (a .rows .now) r l (a .n) (a .q) (a .window) (c .before .before .before .loop .marks) (o .0) (sized-as (w .each (o .0 .program) (o .0 .codes) .infers .size) (o .1 .1 .1 .1 .1 .0)) (o .1 .0 .0) (look-kind (a .count) (a .rows .now) r y e) in
     let b = look-child (a .count) (a .rows .now) r y e in
     (o .0, ((omega (arith, l, h .3, b), h .0, rw b at (h .2)), (o .1 .1 .1 .0, roomy-as (w .long) (o .1 .1 .1 .1 .0))))
 
 same-length : tie.Need-same-length Inv-loop μ-loop
-same-length c = c .before .before .before .before .mark-child .ensures .notes .size ∙ c .before .before .before .before .before .before .before .before .loop .inv .0 .long
+same-length c = c .before .before .before .before .mark-child .ensures .notes .keeps .size ∙ c .before .before .before .before .before .before .before .before .loop .inv .0 .long
 
 same-length-2 : tie.Need-same-length-2 Inv-loop μ-loop
 same-length-2 c =
     let o = c .before .before .before .before .before .before .before .before .before .before .before .before .before .before .before .before .before .pre in
-    c .before .before .before .before .mark-child .ensures .joins .gains .size ∙ c .before .before .before .before .before .before .before .before .loop .inv .0 .each (o .0 .program) (o .0 .codes) .size
+    c .before .before .before .before .mark-child .ensures .joins .gains .size ∙ c .before .before .before .before .before .before .before .before .loop .inv .0 .each (o .0 .program) (o .0 .codes) .infers .size
 
 returns : tie.Need-returns Inv-loop μ-loop
 returns c =

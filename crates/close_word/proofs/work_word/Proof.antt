@@ -70,7 +70,7 @@ take-requires c κs =
     let o = c .before .before .before .before .before .before .before .before .before .before .before .before .pre in
     let w = c .before .before .before .before .before .before .loop .inv .0 in
     let b = c .before .before .next-bit .ensures in
-    (o .0, ((o .1 .0 .0, o .1 .0 .1, refl, b .0, b .1), (o .1 .1 .0, (roomy-as (w .long) (o .1 .1 .1 .0), (sized-as (w .each (o .0 .program) (o .0 .codes) .size) (o .1 .1 .1 .1 .0), works-inside _ _ _ _ _ (o .0) (o .1 .1 .1 .1 .1) w)))))
+    (o .0, ((o .1 .0 .0, o .1 .0 .1, refl, b .0, b .1), (o .1 .1 .0, (roomy-as (w .long) (o .1 .1 .1 .0), (sized-as (w .each (o .0 .program) (o .0 .codes) .infers .size) (o .1 .1 .1 .1 .0), works-inside _ _ _ _ _ (o .0) (o .1 .1 .1 .1 .1) w)))))
 
 loop-less : tie.Need-loop-less Inv-loop μ-loop
 loop-less c =
@@ -87,7 +87,7 @@ same-length c = c .before .before .loop .inv .0 .long
 same-length-2 : tie.Need-same-length-2 Inv-loop μ-loop
 same-length-2 c =
     let o = c .before .before .before .before .before .before .before .before .pre in
-    c .before .before .loop .inv .0 .each (o .0 .program) (o .0 .codes) .size
+    c .before .before .loop .inv .0 .each (o .0 .program) (o .0 .codes) .infers .size
 
 returns : tie.Need-returns Inv-loop μ-loop
 returns c = works-word _ _ _ _ _ (omega arith) (c .before .before .loop .inv .0)

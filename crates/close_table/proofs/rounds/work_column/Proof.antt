@@ -32,7 +32,7 @@ work-word-requires c κs =
     let l = c .before .before .before .before .loop in
     let o = c .before .before .before .before .before .before .before .before .before .before .pre in
     let w = l .inv .1 in
-    (o .0, ((o .1 .0, omega (arith, c .before .before .turned .ensures, turn-below (a .up) (per (a .count)) (l .i) (omega arith))), (o .1 .1 .0, (roomy-as (w .long) (o .1 .1 .1 .0), (sized-as (w .each (o .0 .program) (o .0 .codes) .size) (o .1 .1 .1 .1 .0), works-inside _ _ _ _ _ (o .0) (o .1 .1 .1 .1 .1) w)))))
+    (o .0, ((o .1 .0, omega (arith, c .before .before .turned .ensures, turn-below (a .up) (per (a .count)) (l .i) (omega arith))), (o .1 .1 .0, (roomy-as (w .long) (o .1 .1 .1 .0), (sized-as (w .each (o .0 .program) (o .0 .codes) .infers .size) (o .1 .1 .1 .1 .0), works-inside _ _ _ _ _ (o .0) (o .1 .1 .1 .1 .1) w)))))
 
 add-i : tie.Need-add-i Inv-loop μ-loop
 add-i c = omega (arith, c .before .before .before .before .before .before .before .before .before .before .before .before .before .before .before .pre .1 .1 .1 .0 .most)
@@ -49,7 +49,7 @@ same-length c = c .before .loop .inv .1 .long
 same-length-2 : tie.Need-same-length-2 Inv-loop μ-loop
 same-length-2 c =
     let o = c .before .before .before .before .before .before .before .pre in
-    c .before .loop .inv .1 .each (o .0 .program) (o .0 .codes) .size
+    c .before .loop .inv .1 .each (o .0 .program) (o .0 .codes) .infers .size
 
 returns : tie.Need-returns Inv-loop μ-loop
 returns c =

@@ -33,7 +33,7 @@ work-round-requires : tie.Need-work-round-requires Inv-loop μ-loop
 work-round-requires c κs =
     let o = c .before .before .before .before .before .before .before .before .before .pre in
     let l = c .before .before .before .loop in
-    (o .0, (o .1 .0, (roomy-as (l .inv .1) (o .1 .1 .0 .0), (sized-as (l .inv .2 (o .0 .program) (o .0 .codes) .size) (o .1 .1 .1 .0), toward-inside _ _ _ _ _ (o .0) (o .1 .1 .1 .1) (l .inv .2)))))
+    (o .0, (o .1 .0, (roomy-as (l .inv .1) (o .1 .1 .0 .0), (sized-as (l .inv .2 (o .0 .program) (o .0 .codes) .infers .size) (o .1 .1 .1 .0), toward-inside _ _ _ _ _ (o .0) (o .1 .1 .1 .1) (l .inv .2)))))
 
 items-left-requires : tie.Need-items-left-requires Inv-loop μ-loop
 items-left-requires c κs = omega (arith, c .before .before .before .before .before .before .before .before .before .before .before .before .before .before .before .pre .1 .1 .0 .0 .long, c .before .before .before .before .before .before .before .before .before .loop .inv .1, c .before .before .before .before .before .work-round .ensures .long)
@@ -54,7 +54,7 @@ same-length c = c .before .loop .inv .1
 same-length-2 : tie.Need-same-length-2 Inv-loop μ-loop
 same-length-2 c =
     let o = c .before .before .before .before .before .before .before .pre in
-    c .before .loop .inv .2 (o .0 .program) (o .0 .codes) .size
+    c .before .loop .inv .2 (o .0 .program) (o .0 .codes) .infers .size
 
 returns : tie.Need-returns Inv-loop μ-loop
 returns c =

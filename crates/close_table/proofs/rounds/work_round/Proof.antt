@@ -24,7 +24,7 @@ work-column-requires : tie.Need-work-column-requires Inv-loop μ-loop
 work-column-requires c κs =
     let o = c .before .before .before .before .before .before .before .before .before .pre in
     let w = c .before .before .before .loop .inv .1 in
-    (o .0, (omega arith, (o .1 .0, (roomy-as (w .long) (o .1 .1 .0), (sized-as (w .each (o .0 .program) (o .0 .codes) .size) (o .1 .1 .1 .0), works-inside _ _ _ _ _ (o .0) (o .1 .1 .1 .1) w)))))
+    (o .0, (omega arith, (o .1 .0, (roomy-as (w .long) (o .1 .1 .0), (sized-as (w .each (o .0 .program) (o .0 .codes) .infers .size) (o .1 .1 .1 .0), works-inside _ _ _ _ _ (o .0) (o .1 .1 .1 .1) w)))))
 
 add-q : tie.Need-add-q Inv-loop μ-loop
 add-q c = omega arith
@@ -41,7 +41,7 @@ same-length c = c .before .loop .inv .1 .long
 same-length-2 : tie.Need-same-length-2 Inv-loop μ-loop
 same-length-2 c =
     let o = c .before .before .before .before .before .before .before .pre in
-    c .before .loop .inv .1 .each (o .0 .program) (o .0 .codes) .size
+    c .before .loop .inv .1 .each (o .0 .program) (o .0 .codes) .infers .size
 
 returns : tie.Need-returns Inv-loop μ-loop
 returns c =
