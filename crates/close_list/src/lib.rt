@@ -4,10 +4,12 @@ use close_parents::index;
 ghost use mathlib.Core.Path.{_≡_};
 ghost use Prim.Native.Nat.{ℕ, _+_, _*_, _/_, _<_, _≤_};
 ghost use lib.ListN.{length};
+ghost use Rattle.table_words.specs.Gains.{HasRows};
 ghost use Rattle.lower_rows.specs.Words.{rowAt};
 ghost use Rattle.close_rules.specs.Codes.{Coded};
-ghost use Rattle.close_parents.specs.Links.{Reach, Falls, Ended, Linked};
+ghost use Rattle.close_parents.specs.Links.{Reach, Falls, Ended};
 ghost use Rattle.close_list.specs.Items.{per, Roomy, Enters, OwnItem, ItemsOf, ParentsAt, Touched, Starts, Done};
+ghost use Rattle.close_list.specs.Workable.{Queueable};
 
 // Sets row y's bit in the words of the list from place i on.
 fn enter(todo: &mut [u64], i: usize, y: usize)
@@ -99,10 +101,8 @@ pub fn touch(
     nexts: &[u16],
     todo: &mut [u64],
 )
-    requires { ⌜ Coded count (now rows) ⌝ }
+    requires { ⌜ Queueable count n (now rows) (now heads) (now nexts) (now todo) ⌝ }
     requires { ⌜ (x < count) × (q < n) ⌝ }
-    requires { ⌜ Linked count (now rows) (now heads) (now nexts) ⌝ }
-    requires { ⌜ Roomy count n (now todo) ⌝ }
     ensures { λ _. ⌜ Touched count (now (rows .entry)) n x q (now (todo .entry)) (now (todo .exit)) ⌝ }
 {
     enter_own(rows, count, n, q, x, todo);
@@ -120,10 +120,8 @@ fn start_column(
     todo: &mut [u64],
     marks: &[u64],
 )
-    requires { ⌜ Coded count (now rows) ⌝ }
-    requires { ⌜ (q < n) × (2 * count * n ≤ length (now marks)) ⌝ }
-    requires { ⌜ Linked count (now rows) (now heads) (now nexts) ⌝ }
-    requires { ⌜ Roomy count n (now todo) ⌝ }
+    requires { ⌜ Queueable count n (now rows) (now heads) (now nexts) (now todo) ⌝ }
+    requires { ⌜ (q < n) × HasRows n (now marks) count ⌝ }
     ensures { λ _. ⌜ Starts count (now (rows .entry)) n (λ x p. (x < count) × (p ≡ q)) (now (marks .entry)) (now (todo .entry)) (now (todo .exit)) ⌝ }
 {
     let mut x: usize = 0;
@@ -149,10 +147,8 @@ pub fn start(
     todo: &mut [u64],
     marks: &[u64],
 )
-    requires { ⌜ Coded count (now rows) ⌝ }
-    requires { ⌜ 2 * count * n ≤ length (now marks) ⌝ }
-    requires { ⌜ Linked count (now rows) (now heads) (now nexts) ⌝ }
-    requires { ⌜ Roomy count n (now todo) ⌝ }
+    requires { ⌜ Queueable count n (now rows) (now heads) (now nexts) (now todo) ⌝ }
+    requires { ⌜ HasRows n (now marks) count ⌝ }
     ensures { λ _. ⌜ ((W : ℕ) → Done count (now (rows .entry)) W n (now (marks .entry)) (now (todo .exit))) ⌝ }
 {
     let mut q: usize = 0;

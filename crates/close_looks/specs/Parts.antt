@@ -11,8 +11,10 @@ use Rattle.close_list.specs.Items.{per}
 use Rattle.close_store.specs.Visits.{EntersIf, LookItems}
 
 -- Word q of row c is at hand: its marks of true and of false are v and w, and `here` are the window's ticks in it.
-abbrev pub Sees : ℕ → ℕ → List ℕ → ℕ → ℕ → ℕ → ℕ → ℕ → Type 0
-Sees n W T c q v w here = (q < n) × Ticks q here (λ t. t < W) × Reads n T q c true v w
+pub record Sees (n W : ℕ) (T : List ℕ) (c q v w here : ℕ) : Type 0 where
+  pub within : q < n
+  pub window : Ticks q here (λ t. t < W)
+  pub reads : Reads n T q c true v w
 
 -- Where a look's rules about the lower ticks of its child's word q (true), or about the upper ones, change its row's word, the other item of the row that rests on
 -- that word is the one before this.

@@ -14,8 +14,9 @@ ghost use Rattle.spec_tilco.specs.Table.{words};
 ghost use Rattle.table_words.specs.Gains.{HasRow};
 ghost use Rattle.close_shift.specs.Moved.{endOf, apart};
 ghost use Rattle.close_rules.specs.Moves.{Gathered};
-ghost use Rattle.close_parents.specs.Links.{Ended, Linked};
+ghost use Rattle.close_parents.specs.Links.{Ended};
 ghost use Rattle.close_list.specs.Items.{Roomy};
+ghost use Rattle.close_list.specs.Workable.{Workable};
 ghost use Rattle.close_store.specs.Visits.{Looks};
 ghost use Rattle.close_looks.specs.Parts.{Sees, nextOf, LooksFrom};
 
@@ -130,10 +131,9 @@ pub fn visit_look(
     todo: &mut [u64],
     marks: &mut [u64],
 ) -> Words
-    requires { ⌜ (row < count) × HasRow n (now marks) row × (child .row < row) × (n ≡ words window) ⌝ }
+    requires { ⌜ Workable count n window (now rows) (now heads) (now nexts) (now todo) (now marks) ⌝ }
+    requires { ⌜ (row < count) × (child .row < row) ⌝ }
     requires { ⌜ Sees n window (now marks) (child .row) (child .q) (child .words .this) (child .words .other) (child .here) ⌝ }
-    requires { ⌜ Linked count (now rows) (now heads) (now nexts) ⌝ }
-    requires { ⌜ Roomy count n (now todo) ⌝ }
     ensures { λ g. ⌜ Looks offset (child .row) count (now (rows .entry)) row (child .q) window n (Gathered (child .row) (child .q) (given .this) (given .other)) (Gathered (child .row) (child .q) (g .this) (g .other)) (now (marks .entry)) (now (marks .exit)) (now (todo .entry)) (now (todo .exit)) ⌝ }
     ensures { λ _. ⌜ Sees n window (now (marks .exit)) (child .row) (child .q) (child .words .this) (child .words .other) (child .here) ⌝ }
 {

@@ -1,4 +1,4 @@
--- A row of the program by its word: its node, and what the table has for its rules.
+-- A row of the program by its word, and the words of a table that has the rows.
 -- Assumes nothing.
 use mathlib.Core.Path.{_≡_, refl, sym, ap, _∙_, subst}
 use mathlib.Core.List.{List}
@@ -11,8 +11,8 @@ use Rattle.spec_ticks.proofs.Bits.{lt-or-ge}
 use Rattle.spec_tilco.specs.Inference.{Node, signal, notOf, gate, look, Program, node}
 use Rattle.spec_tilco.specs.Table.{words}
 use Rattle.lower_rows.specs.Words.{unpacked, rowAt}
-use Rattle.close_rules.specs.Codes.{Fine, Codes, Coded}
-use Rattle.table_words.specs.Gains.{HasRow}
+use Rattle.close_rules.specs.Codes.{Codes, Coded}
+use Rattle.table_words.specs.Gains.{HasRow, HasRows}
 use Rattle.close_rules.specs.Moves.{Sized}
 
 -- A word of a row lies in the window.
@@ -25,11 +25,11 @@ pub words-cover : (W n : ℕ) → n ≡ words W → W ≤ n * 64
 unfolding words
 words-cover W n e = omega arith
 
--- The table has every row of the program.
-pub has-row : (n count W : ℕ) (T : List ℕ) (x : ℕ) → Sized n count W T → x < count → HasRow n T x
-has-row n count W T x s l =
+-- A table that has the rows has each of them.
+pub has-row : (n count : ℕ) (T : List ℕ) (x : ℕ) → HasRows n T count → x < count → HasRow n T x
+has-row n count T x s l =
     let b : 2 * (x + 1) * n ≤ 2 * count * n = mul-le-mul-right n (omega arith) in
-    omega (arith, s .long)
+    omega arith
 
 -- A table of the same length is as large.
 pub sized-as : {n count W : ℕ} {T T′ : List ℕ} → length T′ ≡ length T → Sized n count W T → Sized n count W T′
@@ -92,24 +92,3 @@ module _ (count : ℕ) (B : List ℕ) (r : ℕ) where
 
     pub look-in : Coded count B → r < count
     look-in k = row-in k (λ z. omega (arith, z, look-kind))
-
-  fine-as : (k : ℕ) → kind ≡ k → Coded count B → Fine r (unpacked k left right)
-  fine-as k e c = subst (Fine r) (node-as k e (c .program) (c .codes)) (c .codes .fine r)
-
-  module _ (hi : r < count) (n q W : ℕ) (T : List ℕ) (c : Coded count B) (s : Sized n count W T) (l : q < n) where
-    abbrev has : (x : ℕ) → x < count → HasRow n T x
-    has x h = has-row n count W T x s h
-
-    -- What the rules of each kind ask of the table.
-    pub gate-asks : (kind ≡ 1) ⊎ (kind ≡ 2) → (q < n) × HasRow n T r × HasRow n T left × HasRow n T right × (left < r) × (right < r)
-    gate-asks k =
-        let f = ⊎-elim (λ e. fine-as 1 e c) (λ e. fine-as 2 e c) k in
-        (l, has r hi, has left (omega (arith, f .0)), has right (omega (arith, f .1)), f .0, f .1)
-
-    pub look-asks : kind ≡ 3 → (q < n) × HasRow n T r × HasRow n T left × (left < r) × (right ≤ 127) × (n ≡ words W)
-    look-asks e =
-        let f = fine-as 3 e c in
-        (l, has r hi, has left (omega (arith, f .0)), f .0, f .2, s .words-are)
-
-    pub not-asks : 4 ≤ kind → (q < n) × HasRow n T r × HasRow n T left × (left < r)
-    not-asks h = let f = fine-as past (omega arith) c in (l, has r hi, has left (omega arith), f)

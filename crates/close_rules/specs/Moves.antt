@@ -5,11 +5,11 @@ use mathlib.Core.Path.{_≡_}
 use mathlib.Core.Bool.{Bool, true, false}
 use mathlib.Core.List.{List}
 use mathlib.Core.Logic.{_⊎_}
-use Prim.Native.Nat.{ℕ, _+_, _*_, _/_, _≤_, _<_}
+use Prim.Native.Nat.{ℕ, _+_, _/_, _≤_, _<_}
 use lib.ListN.{length}
 use Rattle.spec_tilco.specs.Inference.{Node, look, Program, node, Mark, mark, Marks, Derives, _or_}
 use Rattle.spec_tilco.specs.Table.{words, Stands, Inside}
-use Rattle.table_words.specs.Gains.{Ticks, Sides, Bits, Tells}
+use Rattle.table_words.specs.Gains.{HasRows, Ticks, Sides, Bits, Tells}
 
 -- Inference leads from T to T′: no mark is lost, every new mark follows, and the length stays.
 pub record Infers (n : ℕ) (P : Program) (W : ℕ) (T T′ : List ℕ) : Type 0 where
@@ -68,4 +68,4 @@ pub record Sized (n count W : ℕ) (T : List ℕ) : Type 0 where
   pub some : 1 ≤ W
   pub most : W ≤ 4096
   pub words-are : n ≡ words W
-  pub long : 2 * count * n ≤ length T
+  pub long : HasRows n T count

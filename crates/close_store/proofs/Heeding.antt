@@ -7,7 +7,7 @@ use Prim.Native.Nat.{ℕ, _+_, _*_, _/_, _<_}
 use native.Mathlib.Omega.{arith}
 use Rattle.lower_rows.specs.Words.{rowAt}
 use Rattle.spec_tilco.specs.Inference.{Node, look, Program, node, mark, Marks, _or_}
-use Rattle.spec_tilco.specs.Table.{Stands}
+use Rattle.spec_tilco.specs.Table.{Stands, Inside}
 use Rattle.close_rules.specs.Settled.{SettledTo, SettledIn, Rests}
 use Rattle.close_rules.specs.Moves.{Moves, Wrote, WroteBefore, ByNode, ByLook}
 use Rattle.close_parents.specs.Links.{Linked}
@@ -122,11 +122,11 @@ module _ (count : ℕ) (B : List ℕ) (n : ℕ) where
     each = λ P e is. let m = f P e in visited r q W (Stands n T′) P (m .0) (k is) (subst (SettledIn q W (Stands n T′) r) (sym e) (m .1));
   }
 
-  pub looks-by : (o c r q W : ℕ) (A G G′ : Marks) (T T′ D D′ : List ℕ) (x : ℕ)
+  pub looks-by : (o c r q W : ℕ) (A G G′ : Marks) (T T′ D D′ : List ℕ) (x : ℕ) → Inside W (Stands n T)
       → ByLook o c r A (λ S. SettledTo G′ q W S r (look o c)) G G′ W n T T′ x → (rowAt B r ≡ look o c → Notes (OneItem r q) count B n A D D′ x) → Looks o c count B r q W n G G′ T T′ D D′
-  looks-by o c r q W A G G′ T T′ D D′ x f k = record {
+  looks-by o c r q W A G G′ T T′ D D′ x inside f k = record {
     changed = x;
-    each = λ P e is inside. let m = f P e inside in (visited r q W G′ P (m .0) (k is) (subst (SettledTo G′ q W (Stands n T′) r) (sym e) (m .1)), m .2);
+    each = λ P e is. let m = f P e inside in (visited r q W G′ P (m .0) (k is) (subst (SettledTo G′ q W (Stands n T′) r) (sym e) (m .1)), m .2);
   }
 
 -- A row whose items rest, by its node, on the same word of the row itself: a gate or a not-row.

@@ -8,7 +8,7 @@ use mathlib.Core.Logic.{_⊎_}
 use Prim.Native.Nat.{ℕ, _+_, _/_, _≤_, _<_}
 use Rattle.lower_rows.specs.Words.{rowAt}
 use Rattle.spec_tilco.specs.Inference.{Node, look, Program, node, mark, Marks}
-use Rattle.spec_tilco.specs.Table.{Stands, Inside}
+use Rattle.spec_tilco.specs.Table.{Stands}
 use Rattle.close_rules.specs.Codes.{Codes}
 use Rattle.table_words.specs.Gains.{Sides, Bits, Joins, Tells}
 use Rattle.close_rules.specs.Settled.{SettledTo, Rests, SameWord}
@@ -43,8 +43,7 @@ pub record VisitsBy (d : Node) (count : ℕ) (B : List ℕ) (r q W n : ℕ) (T T
 -- The same where row r looks at row c with the offset k, and what it gives c is gathered: G before and G′ after.
 pub record Looks (k c count : ℕ) (B : List ℕ) (r q W n : ℕ) (G G′ : Marks) (T T′ D D′ : List ℕ) : Type 0 where
   pub changed : ℕ
-  pub each : (P : Program) → node P r ≡ look k c → rowAt B r ≡ look k c → Inside W (Stands n T)
-      → Visited count B n P W r q G′ T T′ D D′ changed × Gathers P W (Stands n T) G G′
+  pub each : (P : Program) → node P r ≡ look k c → rowAt B r ≡ look k c → Visited count B n P W r q G′ T T′ D D′ changed × Gathers P W (Stands n T) G G′
 
 -- Nothing is taken off the list, and every item but those of E that rests on the word of a mark among A is on it; if nothing changed it is the same.
 pub record Notes (E : ℕ → ℕ → Type 0) (count : ℕ) (B : List ℕ) (n : ℕ) (A : Marks) (D D′ : List ℕ) (changed : ℕ) : Type 0 where

@@ -7,23 +7,25 @@ use mathlib.Core.Logic.{inr, ⊎-elim}
 use Prim.Native.Nat.{ℕ, zero, suc, _+_, _*_, _/_, _%_, _≤_, _<_}
 use native.Mathlib.Nat.{zero-mul, mul-comm, zero-lt-suc, mod-lt, div-lt-iff-lt-mul, div-add-mod'}
 use native.Mathlib.Omega.{arith}
-use lib.ListN.{getD}
+use lib.ListN.{length, getD}
 use Rattle.spec_ticks.specs.Ticks.{Has, Small}
 use Rattle.spec_ticks.proofs.Bits.{lt-or-ge, no-ticks}
 use Rattle.lower_rows.specs.Words.{rowAt}
 use Rattle.spec_tilco.specs.Inference.{Node, Program, node, mark}
-use Rattle.spec_tilco.specs.Table.{words, Stands, Inside}
+use Rattle.spec_tilco.specs.Table.{words, Stands}
 use Rattle.spec_tilco.proofs.Closing.{SettledAt, finished}
 use Rattle.close_rules.specs.Codes.{Codes, Coded}
 use Rattle.close_rules.specs.Moves.{Infers}
 use Rattle.table_words.specs.Gains.{room}
 use Rattle.close_list.specs.Items.{per, ToDo, Done}
+use Rattle.close_list.specs.Workable.{Workable}
 use Rattle.close_list.proofs.Noting.{column-in}
+use Rattle.close_list.proofs.Workable.{workable-after}
 use Rattle.close_word.specs.Stretches.{Stretch, Works}
 use Rattle.close_table.specs.Closes.{ClosesAll}
 use Rattle.close_table.specs.Rounds.{InColumns}
 use Rattle.close_rules.proofs.Decoding.{words-cover}
-use Rattle.close_rules.proofs.Moving.{infers-none, infers-then, infers-inside}
+use Rattle.close_rules.proofs.Moving.{infers-none, infers-then}
 use Rattle.close_word.proofs.Local.{settled-all}
 
 -- 1 if there is another round, and else 0.
@@ -79,9 +81,9 @@ module _ (count : ℕ) (B : List ℕ) (W n : ℕ) (T : List ℕ) where
     clear = λ e. absurd (omega (arith, ap another e));
   }
 
-  -- No mark is outside the window on the way.
-  pub toward-inside : {T′ D : List ℕ} {go : Bool} → Coded count B → Inside W (Stands n T) → Toward T′ D go → Inside W (Stands n T′)
-  toward-inside k inside f = infers-inside (f (k .program) (k .codes) .infers) inside
+  -- Items can be visited on the way.
+  pub toward-workable : {H N D₀ T′ D : List ℕ} {go : Bool} → Workable count n W B H N D₀ T → length D ≡ length D₀ → Toward T′ D go → Workable count n W B H N D T′
+  toward-workable k e f = workable-after k e (f (k .coded .program) (k .coded .codes) .infers)
 
   pub toward-more : (T′ T″ D D′ : List ℕ) {x : Bool} (y : Bool) → Toward T′ D x → Works count B W n (InColumns count n) T′ T″ D D′
       → (y ≡ false → (j : ℕ) → j < per count * n → getD D′ j 0 ≡ 0) → Toward T″ D′ y

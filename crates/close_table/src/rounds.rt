@@ -8,14 +8,11 @@ ghost use mathlib.Core.Bool.{false};
 ghost use mathlib.Core.Logic.{_↔_};
 ghost use Prim.Native.Nat.{ℕ, _+_, _-_, _/_, _≤_, _<_};
 ghost use lib.ListN.{length, getD};
-ghost use Rattle.spec_tilco.specs.Table.{Stands, Inside};
-ghost use Rattle.close_rules.specs.Codes.{Coded};
-ghost use Rattle.close_rules.specs.Moves.{Sized};
 ghost use Rattle.close_table.specs.Closes.{ClosesAll};
 ghost use Rattle.close_table.specs.Rounds.{InColumn, InColumns, turn};
-ghost use Rattle.close_list.specs.Items.{Roomy, Done};
+ghost use Rattle.close_list.specs.Items.{Done};
+ghost use Rattle.close_list.specs.Workable.{Workable, Closable};
 ghost use Rattle.close_word.specs.Stretches.{Works};
-ghost use Rattle.close_parents.specs.Links.{Linked};
 
 // The i-th of m words from below or, if not `up`, from above.
 fn turned(up: bool, m: usize, i: usize) -> usize
@@ -41,12 +38,8 @@ fn work_column(
     todo: &mut [u64],
     marks: &mut [u64],
 )
-    requires { ⌜ Coded count (now rows) ⌝ }
+    requires { ⌜ Workable count n window (now rows) (now heads) (now nexts) (now todo) (now marks) ⌝ }
     requires { ⌜ q < n ⌝ }
-    requires { ⌜ Linked count (now rows) (now heads) (now nexts) ⌝ }
-    requires { ⌜ Roomy count n (now todo) ⌝ }
-    requires { ⌜ Sized n count window (now marks) ⌝ }
-    requires { ⌜ Inside window (Stands n (now marks)) ⌝ }
     ensures { λ _. ⌜ Works count (now (rows .entry)) window n (InColumn count q) (now (marks .entry)) (now (marks .exit)) (now (todo .entry)) (now (todo .exit)) ⌝ }
 {
     let stride = (count + 63) / 64;
@@ -70,11 +63,7 @@ fn work_round(
     todo: &mut [u64],
     marks: &mut [u64],
 )
-    requires { ⌜ Coded count (now rows) ⌝ }
-    requires { ⌜ Linked count (now rows) (now heads) (now nexts) ⌝ }
-    requires { ⌜ Roomy count n (now todo) ⌝ }
-    requires { ⌜ Sized n count window (now marks) ⌝ }
-    requires { ⌜ Inside window (Stands n (now marks)) ⌝ }
+    requires { ⌜ Workable count n window (now rows) (now heads) (now nexts) (now todo) (now marks) ⌝ }
     ensures { λ _. ⌜ Works count (now (rows .entry)) window n (InColumns count n) (now (marks .entry)) (now (marks .exit)) (now (todo .entry)) (now (todo .exit)) ⌝ }
 {
     let mut q: usize = 0;
@@ -111,11 +100,8 @@ fn work_off(
     todo: &mut [u64],
     marks: &mut [u64],
 )
-    requires { ⌜ Coded count (now rows) ⌝ }
-    requires { ⌜ Linked count (now rows) (now heads) (now nexts) ⌝ }
-    requires { ⌜ Roomy count n (now todo) × Done count (now rows) window n (now marks) (now todo) ⌝ }
-    requires { ⌜ Sized n count window (now marks) ⌝ }
-    requires { ⌜ Inside window (Stands n (now marks)) ⌝ }
+    requires { ⌜ Workable count n window (now rows) (now heads) (now nexts) (now todo) (now marks) ⌝ }
+    requires { ⌜ Done count (now rows) window n (now marks) (now todo) ⌝ }
     ensures { λ _. ⌜ ClosesAll count (now (rows .entry)) window n (now (marks .entry)) (now (marks .exit)) ⌝ }
 {
     let m = (count + 63) / 64 * n;
@@ -138,10 +124,7 @@ pub fn close(
     todo: &mut [u64],
     marks: &mut [u64],
 )
-    requires { ⌜ Coded count (now rows) ⌝ }
-    requires { ⌜ Roomy count n (now todo) ⌝ }
-    requires { ⌜ Sized n count window (now marks) ⌝ }
-    requires { ⌜ Inside window (Stands n (now marks)) ⌝ }
+    requires { ⌜ Closable count n window (now rows) (now todo) (now marks) ⌝ }
     ensures { λ _. ⌜ ClosesAll count (now (rows .entry)) window n (now (marks .entry)) (now (marks .exit)) ⌝ }
 {
     let mut heads = [0u16; 1024];

@@ -9,15 +9,17 @@ use lib.ListN.{length, getD}
 use Rattle.spec_ticks.proofs.Bits.{no-ticks}
 use Rattle.lower_rows.specs.Words.{rowAt}
 use Rattle.spec_tilco.specs.Inference.{Program, Mark, mark, Marks, Derives, _or_}
-use Rattle.spec_tilco.specs.Table.{Stands, Inside}
+use Rattle.spec_tilco.specs.Table.{Stands}
 use Rattle.spec_tilco.proofs.Derives.{cut}
-use Rattle.close_rules.specs.Codes.{Codes, Coded}
+use Rattle.close_rules.specs.Codes.{Codes}
 use Rattle.close_rules.specs.Settled.{Rests, SameWord}
 use Rattle.close_rules.specs.Moves.{Moves, Gathered}
 use Rattle.table_words.proofs.Telling.{tells-none}
-use Rattle.close_rules.proofs.Moving.{infers-none, infers-inside, joins-move}
+use Rattle.close_rules.proofs.Moving.{infers-none, joins-move}
 use Rattle.close_list.specs.Items.{ToDo, Done}
 use Rattle.close_list.proofs.Noting.{still-to-do}
+use Rattle.close_list.specs.Workable.{Workable}
+use Rattle.close_list.proofs.Workable.{workable-after}
 use Rattle.close_store.specs.Visits.{Marked}
 use Rattle.close_word.specs.Stretches.{Stretch, NoWord, Taken, DoneBut, TakenLook}
 use Rattle.close_word.proofs.Local.{settled-more, settled-local}
@@ -94,6 +96,7 @@ module _ (count : ℕ) (B : List ℕ) (W n j : ℕ) where
               (λ y. absurd (off (b .notes .noted x t z (⊎-elim (λ g. (g .0, g .2, y .1)) (λ g. (g .0, g .2, y .1)) (y .0)) r p l h (λ none. none) (subst (λ (s : ℕ). Rests (rowAt B r) r p x s) (sym e) rests))))
               (m .only (mark x t z) i)
 
-  -- No mark leaves the window.
-  pub gathering-inside : {K : Type 0} {G : Marks} {T T′ D D′ : List ℕ} → Coded count B → Inside W (Stands n T) → Gathering count B W n j K G T T′ D D′ → Inside W (Stands n T′)
-  gathering-inside k w a = infers-inside (a .each (k .program) (k .codes) .infers) w
+  -- Items can be visited still.
+  pub gathering-workable : {K : Type 0} {G : Marks} {H N T T′ D D′ : List ℕ} → Workable count n W B H N D T → Gathering count B W n j K G T T′ D D′
+      → Workable count n W B H N D′ T′
+  gathering-workable k a = workable-after k (a .long) (a .each (k .coded .program) (k .coded .codes) .infers)

@@ -12,11 +12,12 @@ use Rattle.spec_ticks.specs.Ticks.{Has}
 use Rattle.spec_ticks.proofs.Bits.{bit-shr, has-below}
 use Rattle.spec_ticks.proofs.Counts.{first-has}
 use Rattle.spec_tilco.specs.Inference.{Program}
-use Rattle.spec_tilco.specs.Table.{Stands, Inside}
 use Rattle.close_rules.specs.Codes.{Coded}
 use Rattle.table_words.specs.Gains.{room}
 use Rattle.table_words.proofs.Telling.{some-or-none, tells-none, tells-then}
-use Rattle.close_rules.proofs.Moving.{infers-none, infers-then, infers-inside}
+use Rattle.close_rules.proofs.Moving.{infers-none, infers-then}
+use Rattle.close_list.specs.Workable.{Workable}
+use Rattle.close_list.proofs.Workable.{workable-after}
 use Rattle.close_word.specs.Stretches.{Stretch, Works, Taken, NoWord, OneWord}
 
 -- One stretch after another.
@@ -65,9 +66,9 @@ module _ (count : ℕ) (B : List ℕ) (W n : ℕ) where
     each = λ P c. stretch-as (OneWord j) (λ i e. inr (subst (λ (k : ℕ). getD D′ k 0 ≡ 0) (sym e) z)) (a .each P c);
   }
 
-  -- No mark leaves the window.
-  pub works-inside : (Z : ℕ → Type 0) {T T′ D D′ : List ℕ} → Coded count B → Inside W (Stands n T) → Works count B W n Z T T′ D D′ → Inside W (Stands n T′)
-  works-inside Z k w a = infers-inside (a .each (k .program) (k .codes) .infers) w
+  -- Items can be visited still.
+  pub works-workable : (Z : ℕ → Type 0) {H N T T′ D D′ : List ℕ} → Workable count n W B H N D T → Works count B W n Z T T′ D D′ → Workable count n W B H N D′ T′
+  works-workable Z k a = workable-after k (a .long) (a .each (k .coded .program) (k .coded .codes) .infers)
 
   -- One stretch after another.
   pub works-then : (Y Z U : ℕ → Type 0) {T T′ T″ D D′ D″ : List ℕ} → ((j : ℕ) → U j → Y j ⊎ Z j) → Works count B W n Y T T′ D D′ → Works count B W n Z T′ T″ D′ D″ → Works count B W n U T T″ D D″

@@ -10,13 +10,11 @@ ghost use mathlib.Core.Path.{_≡_};
 ghost use Prim.Native.Nat.{_+_, _-_, _*_, _/_, _%_, _^_, _<_, _≤_};
 ghost use lib.ListN.{length, getD, set};
 ghost use Rattle.spec_ticks.specs.Ticks.{Has};
-ghost use Rattle.spec_tilco.specs.Table.{Stands, Inside};
-ghost use Rattle.close_rules.specs.Codes.{Coded};
-ghost use Rattle.close_rules.specs.Moves.{Gathered, Sized};
+ghost use Rattle.close_rules.specs.Moves.{Gathered};
 ghost use Rattle.close_looks.specs.Parts.{Sees};
-ghost use Rattle.close_parents.specs.Links.{Linked};
-ghost use Rattle.close_list.specs.Items.{per, Roomy};
-ghost use Rattle.close_word.specs.Stretches.{Works, OneWord, Taken, TakenLook};
+ghost use Rattle.close_list.specs.Items.{per};
+ghost use Rattle.close_list.specs.Workable.{Workable};
+ghost use Rattle.close_word.specs.Stretches.{ItemAt, Works, OneWord, Taken, TakenLook};
 
 // Clears bit k, which is set, of word j of the list.
 fn clear_bit(todo: &mut [u64], j: usize, k: u64)
@@ -73,13 +71,9 @@ fn take_look(
     todo: &mut [u64],
     marks: &mut [u64],
 ) -> Words
-    requires { ⌜ Coded count (now rows) ⌝ }
-    requires { ⌜ (i < per count) × (j ≡ child .q * per count + i) × (k < 64) × Has (getD (now todo) j 0) k × (getD (now rows) (64 * i + k) 0 % 524288 ≡ 8 * child .row + 3) ⌝ }
+    requires { ⌜ Workable count n window (now rows) (now heads) (now nexts) (now todo) (now marks) ⌝ }
+    requires { ⌜ ItemAt count n (child .q) i j k (now todo) × (getD (now rows) (64 * i + k) 0 % 524288 ≡ 8 * child .row + 3) ⌝ }
     requires { ⌜ Sees n window (now marks) (child .row) (child .q) (child .words .this) (child .words .other) (child .here) ⌝ }
-    requires { ⌜ Linked count (now rows) (now heads) (now nexts) ⌝ }
-    requires { ⌜ Roomy count n (now todo) ⌝ }
-    requires { ⌜ Sized n count window (now marks) ⌝ }
-    requires { ⌜ Inside window (Stands n (now marks)) ⌝ }
     ensures { λ g. ⌜ TakenLook count (now (rows .entry)) window n j (Gathered (child .row) (child .q) (given .this) (given .other)) (Gathered (child .row) (child .q) (g .this) (g .other)) (now (marks .entry)) (now (marks .exit)) (now (todo .entry)) (now (todo .exit)) ⌝ }
     ensures { λ _. ⌜ Sees n window (now (marks .exit)) (child .row) (child .q) (child .words .this) (child .words .other) (child .here) ⌝ }
 {
@@ -118,13 +112,8 @@ fn take_looks(
     todo: &mut [u64],
     marks: &mut [u64],
 )
-    requires { ⌜ Coded count (now rows) ⌝ }
-    requires { ⌜ (q < n) × (i < per count) × (j ≡ q * per count + i) × (first < 64) × Has (getD (now todo) j 0) first ⌝ }
-    requires { ⌜ getD (now rows) (64 * i + first) 0 % 8 ≡ 3 ⌝ }
-    requires { ⌜ Linked count (now rows) (now heads) (now nexts) ⌝ }
-    requires { ⌜ Roomy count n (now todo) ⌝ }
-    requires { ⌜ Sized n count window (now marks) ⌝ }
-    requires { ⌜ Inside window (Stands n (now marks)) ⌝ }
+    requires { ⌜ Workable count n window (now rows) (now heads) (now nexts) (now todo) (now marks) ⌝ }
+    requires { ⌜ ItemAt count n q i j first (now todo) × (getD (now rows) (64 * i + first) 0 % 8 ≡ 3) ⌝ }
     ensures { λ _. ⌜ Taken count (now (rows .entry)) window n j (now (marks .entry)) (now (marks .exit)) (now (todo .entry)) (now (todo .exit)) ⌝ }
 {
     let start = 64 * i;
@@ -169,12 +158,8 @@ fn take(
     todo: &mut [u64],
     marks: &mut [u64],
 )
-    requires { ⌜ Coded count (now rows) ⌝ }
-    requires { ⌜ (q < n) × (i < per count) × (j ≡ q * per count + i) × (k < 64) × Has (getD (now todo) j 0) k ⌝ }
-    requires { ⌜ Linked count (now rows) (now heads) (now nexts) ⌝ }
-    requires { ⌜ Roomy count n (now todo) ⌝ }
-    requires { ⌜ Sized n count window (now marks) ⌝ }
-    requires { ⌜ Inside window (Stands n (now marks)) ⌝ }
+    requires { ⌜ Workable count n window (now rows) (now heads) (now nexts) (now todo) (now marks) ⌝ }
+    requires { ⌜ ItemAt count n q i j k (now todo) ⌝ }
     ensures { λ _. ⌜ Taken count (now (rows .entry)) window n j (now (marks .entry)) (now (marks .exit)) (now (todo .entry)) (now (todo .exit)) ⌝ }
 {
     let row = 64 * i + (k as usize);
@@ -213,12 +198,8 @@ pub fn work_word(
     todo: &mut [u64],
     marks: &mut [u64],
 )
-    requires { ⌜ Coded count (now rows) ⌝ }
+    requires { ⌜ Workable count n window (now rows) (now heads) (now nexts) (now todo) (now marks) ⌝ }
     requires { ⌜ (q < n) × (i < per count) ⌝ }
-    requires { ⌜ Linked count (now rows) (now heads) (now nexts) ⌝ }
-    requires { ⌜ Roomy count n (now todo) ⌝ }
-    requires { ⌜ Sized n count window (now marks) ⌝ }
-    requires { ⌜ Inside window (Stands n (now marks)) ⌝ }
     ensures { λ _. ⌜ Works count (now (rows .entry)) window n (OneWord (q * per count + i)) (now (marks .entry)) (now (marks .exit)) (now (todo .entry)) (now (todo .exit)) ⌝ }
 {
     let stride = (count + 63) / 64;

@@ -15,6 +15,10 @@ use Rattle.table_marks.specs.Puts.{Gains}
 abbrev pub HasRow : ℕ → List ℕ → ℕ → Type 0
 HasRow n T r = 2 * (r + 1) * n ≤ length T
 
+-- The table has the first `count` rows.
+abbrev pub HasRows : ℕ → List ℕ → ℕ → Type 0
+HasRows n T count = 2 * count * n ≤ length T
+
 -- The ticks of v, as word q, are those of U.
 abbrev pub Ticks : ℕ → ℕ → (ℕ → Type 0) → Type 0
 Ticks q v U = (b : ℕ) → b < 64 → Has v b ↔ U (q * 64 + b)

@@ -9,7 +9,7 @@ use lib.ListN.{getD}
 use Rattle.table_words.proofs.Places.{two-blocks, first-block, second-block}
 use Rattle.close_list.specs.Items.{Starts}
 use Rattle.close_list.proofs.Starting.{place-in, starts-none, starts-touched, starts-bare, starts-row, starts-as}
-use Rattle.close_list.proofs.Noting.{roomy-as}
+use Rattle.close_list.proofs.Workable.{queueable-as}
 use Rattle.close_list.proofs.start_column.Statement.{statement}
 use Rattle.close_list.proofs.start_column.Tie as tie
 
@@ -28,7 +28,7 @@ mul-yes c =
     let a = c .before .before .before .before .before .before .before .args in
     let o = c .before .before .before .before .before .before .before .pre in
     let l = c .before .loop .inv in
-    let i = place-in (a .n) (a .count) _ (a .q) _ _ (omega arith) (o .1 .0 .0) (o .1 .0 .1) (l .1) in
+    let i = place-in (a .n) (a .count) _ (a .q) _ _ (omega arith) (o .1 .0) (o .1 .1) (l .1) in
     omega arith
 
 shared-slice-read-yes : tie.Need-shared-slice-read-yes Inv-loop μ-loop
@@ -36,7 +36,7 @@ shared-slice-read-yes c =
     let a = c .before .before .before .before .before .before .before .before .args in
     let o = c .before .before .before .before .before .before .before .before .pre in
     let l = c .before .before .loop .inv in
-    let i = place-in (a .n) (a .count) _ (a .q) _ _ (omega arith) (o .1 .0 .0) (o .1 .0 .1) (l .1) in
+    let i = place-in (a .n) (a .count) _ (a .q) _ _ (omega arith) (o .1 .0) (o .1 .1) (l .1) in
     omega arith
 
 add-no : tie.Need-add-no Inv-loop μ-loop
@@ -44,7 +44,7 @@ add-no c =
     let a = c .before .before .before .before .before .before .before .before .args in
     let o = c .before .before .before .before .before .before .before .before .pre in
     let l = c .before .before .loop .inv in
-    let i = place-in (a .n) (a .count) _ (a .q) _ _ (omega arith) (o .1 .0 .0) (o .1 .0 .1) (l .1) in
+    let i = place-in (a .n) (a .count) _ (a .q) _ _ (omega arith) (o .1 .0) (o .1 .1) (l .1) in
     omega arith
 
 mul-no : tie.Need-mul-no Inv-loop μ-loop
@@ -52,7 +52,7 @@ mul-no c =
     let a = c .before .before .before .before .before .before .before .before .args in
     let o = c .before .before .before .before .before .before .before .before .pre in
     let l = c .before .before .loop .inv in
-    let i = place-in (a .n) (a .count) _ (a .q) _ _ (omega arith) (o .1 .0 .0) (o .1 .0 .1) (l .1) in
+    let i = place-in (a .n) (a .count) _ (a .q) _ _ (omega arith) (o .1 .0) (o .1 .1) (l .1) in
     omega arith
 
 shared-slice-read-no : tie.Need-shared-slice-read-no Inv-loop μ-loop
@@ -60,21 +60,21 @@ shared-slice-read-no c =
     let a = c .before .before .before .before .before .before .before .before .before .args in
     let o = c .before .before .before .before .before .before .before .before .before .pre in
     let l = c .before .before .before .loop .inv in
-    let i = place-in (a .n) (a .count) _ (a .q) _ _ (omega arith) (o .1 .0 .0) (o .1 .0 .1) (l .1) in
+    let i = place-in (a .n) (a .count) _ (a .q) _ _ (omega arith) (o .1 .0) (o .1 .1) (l .1) in
     omega arith
 
 touch-requires : tie.Need-touch-requires Inv-loop μ-loop
 touch-requires c κs =
     let o = c .before .before .before .before .before .before .before .before .before .before .before .pre in
     let l = c .before .before .before .before .before .loop .inv in
-    (o .0, ((omega arith, o .1 .0 .0), (o .1 .1 .0, roomy-as (l .2 .keeps .size) (o .1 .1 .1))))
+    (queueable-as (l .2 .keeps .size) (o .0), (omega arith, o .1 .0))
 
 mul-place : tie.Need-mul-place Inv-loop μ-loop
 mul-place c =
     let a = c .before .before .before .before .before .before .before .before .before .before .args in
     let o = c .before .before .before .before .before .before .before .before .before .before .pre in
     let l = c .before .before .before .before .loop .inv in
-    let i = place-in (a .n) (a .count) _ (a .q) _ _ (omega arith) (o .1 .0 .0) (o .1 .0 .1) (l .1) in
+    let i = place-in (a .n) (a .count) _ (a .q) _ _ (omega arith) (o .1 .0) (o .1 .1) (l .1) in
     omega arith
 
 add-place : tie.Need-add-place Inv-loop μ-loop
@@ -82,7 +82,7 @@ add-place c =
     let a = c .before .before .before .before .before .before .before .before .before .before .args in
     let o = c .before .before .before .before .before .before .before .before .before .before .pre in
     let l = c .before .before .before .before .loop .inv in
-    let i = place-in (a .n) (a .count) _ (a .q) _ _ (omega arith) (o .1 .0 .0) (o .1 .0 .1) (l .1) in
+    let i = place-in (a .n) (a .count) _ (a .q) _ _ (omega arith) (o .1 .0) (o .1 .1) (l .1) in
     omega arith
 
 add-x : tie.Need-add-x Inv-loop μ-loop

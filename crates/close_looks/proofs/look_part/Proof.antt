@@ -9,7 +9,7 @@ use Rattle.close_looks.proofs.look_part.Statement.{statement}
 use Rattle.close_looks.proofs.look_part.Tie as tie
 
 part-of-requires : tie.Need-part-of-requires
-part-of-requires c κs = omega (arith, word-in-window _ _ _ (c .before .before .before .before .pre .0 .3) (c .before .before .before .before .pre .1 .0 .0), c .before .before .before .before .fits .window .fits)
+part-of-requires c κs = omega (arith, word-in-window _ _ _ (c .before .before .before .before .pre .0 .3) (c .before .before .before .before .pre .1 .0 .within), c .before .before .before .before .fits .window .fits)
 
 returns : tie.Need-returns
 returns c = (part-none _ _ _ _ _ _ _ _ _ _ _ _ _ _ (λ t s d a h k. omega (arith, c .if1 .taken, c .before .before .part-of .ensures .0)), c .before .before .before .before .before .before .before .pre .1 .0)
@@ -27,7 +27,7 @@ returns-3 c =
 window-beside-requires : tie.Need-window-beside-requires
 window-beside-requires c κs =
     let o = c .before .before .before .before .before .before .before .before .before .before .before .before .pre in
-    (word-in-window _ _ _ (o .0 .3) (omega arith), o .1 .0 .1)
+    (word-in-window _ _ _ (o .0 .3) (omega arith), o .1 .0 .window)
 
 shift-requires : tie.Need-shift-requires
 shift-requires c κs = omega (arith, part-small (c .before .before .before .before .before .before .before .before .before .before .before .before .before .args .up) (c .before .before .before .before .before .before .before .before .before .before .before .before .before .args .offset), c .before .before .before .before .before .before .before .before .part-of .ensures .1, c .before .before .if3 .left)
@@ -35,7 +35,7 @@ shift-requires c κs = omega (arith, part-small (c .before .before .before .befo
 mark-look-requires : tie.Need-mark-look-requires
 mark-look-requires c κs =
     let o = c .before .before .before .before .before .before .before .before .before .before .before .before .before .before .before .before .pre in
-    ((o .0 .0, omega (arith, c .before .before .before .before .before .before .before .if2 .left, o .1 .0 .0), o .0 .1), (o .1 .1 .0, o .1 .1 .1))
+    ((o .0 .0, omega (arith, c .before .before .before .before .before .before .before .if2 .left, o .1 .0 .within), o .0 .1), (o .1 .1 .0, o .1 .1 .1))
 
 shift-requires-2 : tie.Need-shift-requires-2
 shift-requires-2 c κs = omega (arith, part-small (c .before .before .before .before .before .before .before .before .before .before .before .before .before .before .before .before .before .before .before .before .before .before .args .up) (c .before .before .before .before .before .before .before .before .before .before .before .before .before .before .before .before .before .before .before .before .before .before .args .offset), c .before .before .before .before .before .before .before .before .before .before .before .before .before .before .before .before .before .part-of .ensures .1, c .before .before .before .before .before .before .before .before .before .before .before .if3 .left)
@@ -58,9 +58,9 @@ returns-4 c =
     let own = c .before .before .before .before .before .before .before .mark-look .ensures in
     let b = part-beside (a .up) _ _ _ _ (f .0) (f .1) (omega (arith, c .before .before .before .before .before .before .before .before .before .before .before .before .before .before .before .before .before .if1 .left)) in (
       part-some _ _ _ _ _ _ _ _ _ _ _ (c .before .before .before .before .before .before .before .before .before .before .before .before .before .before .before .before .before .before .before .part-of .result .e - a .offset / 64) _ _ (o .0 .2) (omega (arith, c .before .before .before .before .before .before .before .before .before .before .before .before .before .before .before .before .before .if1 .left, f .0))
-          (gives-as _ (c .before .before .before .before .before .before .before .before .before .before .shift .ensures) (from-child _ _ _ _ _ _ _ _ _ (a .up) b (c .before .before .before .before .before .before .before .before .before .before .before .window-beside .ensures) (omega (arith, c .before .before .before .before .before .before .before .before .before .before .before .before .before .before .before .before .before .before .before .before .before .before .before .before .good)) (omega (arith, c .before .before .before .before .before .before .before .before .before .before .before .before .before .before .before .before .before .before .before .before .before .before .before .before .good)) (t .2))) (own .0)
-          (gives-as _ (c .before .shift2 .ensures) (from-look _ _ _ _ _ _ _ _ _ (a .up) b (t .1) (omega (arith, c .before .before .before .before .before .before .before .mark-look, c .before .before .before .before .before .before .before .before .before .before .before .before .before .before .before .before .before .before .before .before .before .before .before .before .good)) (omega (arith, c .before .before .before .before .before .before .before .mark-look, c .before .before .before .before .before .before .before .before .before .before .before .before .before .before .before .before .before .before .before .before .before .before .before .before .good)) (own .1 .0))) (rw (f .2) at (own .1 .1)) (c .join .ensures),
-      (t .0, t .1, child-stays _ _ _ _ _ (o .0 .2) (own .0) (t .2)),
+          (gives-as _ (c .before .before .before .before .before .before .before .before .before .before .shift .ensures) (from-child _ _ _ _ _ _ _ _ _ (a .up) b (c .before .before .before .before .before .before .before .before .before .before .before .window-beside .ensures) (omega (arith, c .before .before .before .before .before .before .before .before .before .before .before .before .before .before .before .before .before .before .before .before .before .before .before .before .good)) (omega (arith, c .before .before .before .before .before .before .before .before .before .before .before .before .before .before .before .before .before .before .before .before .before .before .before .before .good)) (t .reads))) (own .0)
+          (gives-as _ (c .before .shift2 .ensures) (from-look _ _ _ _ _ _ _ _ _ (a .up) b (t .window) (omega (arith, c .before .before .before .before .before .before .before .mark-look, c .before .before .before .before .before .before .before .before .before .before .before .before .before .before .before .before .before .before .before .before .before .before .before .before .good)) (omega (arith, c .before .before .before .before .before .before .before .mark-look, c .before .before .before .before .before .before .before .before .before .before .before .before .before .before .before .before .before .before .before .before .before .before .before .before .good)) (own .1 .0))) (rw (f .2) at (own .1 .1)) (c .join .ensures),
+      record { within = t .within; window = t .window; reads = child-stays _ _ _ _ _ (o .0 .2) (own .0) (t .reads) },
     )
 
 pub look-part-spec : {M : Type 1} → statement M

@@ -2,11 +2,9 @@
 use native.Mathlib.Omega.{arith}
 use mathlib.Core.Path.{_≡_}
 use Prim.Native.Nat.{_-_, _≤_}
-use Rattle.close_rules.proofs.Decoding.{sized-as}
 use Rattle.close_list.specs.Items.{per}
-use Rattle.close_list.proofs.Noting.{roomy-as}
 use Rattle.close_word.specs.Stretches.{Works}
-use Rattle.close_word.proofs.Working.{works-inside}
+use Rattle.close_word.proofs.Working.{works-workable}
 use Rattle.close_table.proofs.Turning.{Turned, turned-none, turned-more, turned-all, turn-below}
 use Rattle.close_table.proofs.rounds.work_column.Statement.{statement}
 use Rattle.close_table.proofs.rounds.work_column.Tie as tie
@@ -18,7 +16,7 @@ abbrev μ-loop : tie.MeasureT-loop
 μ-loop up rows count q n window heads nexts todo₀ marks₀ stride i₀ todo marks i = per count - i
 
 add-stride : tie.Need-add-stride Inv-loop μ-loop
-add-stride c = omega (arith, c .before .before .before .before .before .pre .1 .1 .1 .0 .most)
+add-stride c = omega (arith, c .before .before .before .before .before .pre .0 .roomy .most)
 
 loop-holds : tie.Need-loop-holds Inv-loop μ-loop
 loop-holds c = (omega arith, turned-none _ _ _ _ (c .before .before .before .before .before .args .up) _ _ _)
@@ -31,11 +29,10 @@ work-word-requires c κs =
     let a = c .before .before .before .before .before .before .before .before .before .before .args in
     let l = c .before .before .before .before .loop in
     let o = c .before .before .before .before .before .before .before .before .before .before .pre in
-    let w = l .inv .1 in
-    (o .0, ((o .1 .0, omega (arith, c .before .before .turned .ensures, turn-below (a .up) (per (a .count)) (l .i) (omega arith))), (o .1 .1 .0, (roomy-as (w .long) (o .1 .1 .1 .0), (sized-as (w .each (o .0 .program) (o .0 .codes) .infers .size) (o .1 .1 .1 .1 .0), works-inside _ _ _ _ _ (o .0) (o .1 .1 .1 .1 .1) w)))))
+    (works-workable _ _ _ _ _ (o .0) (l .inv .1), (o .1, omega (arith, c .before .before .turned .ensures, turn-below (a .up) (per (a .count)) (l .i) (omega arith))))
 
 add-i : tie.Need-add-i Inv-loop μ-loop
-add-i c = omega (arith, c .before .before .before .before .before .before .before .before .before .before .before .before .before .before .before .pre .1 .1 .1 .0 .most)
+add-i c = omega (arith, c .before .before .before .before .before .before .before .before .before .before .before .before .before .before .before .pre .0 .roomy .most)
 
 loop-less : tie.Need-loop-less Inv-loop μ-loop
 loop-less c = omega arith
@@ -49,7 +46,7 @@ same-length c = c .before .loop .inv .1 .long
 same-length-2 : tie.Need-same-length-2 Inv-loop μ-loop
 same-length-2 c =
     let o = c .before .before .before .before .before .before .before .pre in
-    c .before .loop .inv .1 .each (o .0 .program) (o .0 .codes) .infers .size
+    c .before .loop .inv .1 .each (o .0 .coded .program) (o .0 .coded .codes) .infers .size
 
 returns : tie.Need-returns Inv-loop μ-loop
 returns c =

@@ -2,10 +2,8 @@
 use native.Mathlib.Omega.{arith}
 use mathlib.Core.Path.{_≡_}
 use Prim.Native.Nat.{_-_, _≤_}
-use Rattle.close_rules.proofs.Decoding.{sized-as}
-use Rattle.close_list.proofs.Noting.{roomy-as}
 use Rattle.close_word.specs.Stretches.{Works}
-use Rattle.close_word.proofs.Working.{works-inside}
+use Rattle.close_word.proofs.Working.{works-workable}
 use Rattle.close_table.specs.Rounds.{InColumns}
 use Rattle.close_table.proofs.Turning.{columns-none, columns-more}
 use Rattle.close_table.proofs.rounds.work_round.Statement.{statement}
@@ -23,8 +21,7 @@ loop-holds c = (omega arith, columns-none _ _ _ _ _ _)
 work-column-requires : tie.Need-work-column-requires Inv-loop μ-loop
 work-column-requires c κs =
     let o = c .before .before .before .before .before .before .before .before .before .pre in
-    let w = c .before .before .before .loop .inv .1 in
-    (o .0, (omega arith, (o .1 .0, (roomy-as (w .long) (o .1 .1 .0), (sized-as (w .each (o .0 .program) (o .0 .codes) .infers .size) (o .1 .1 .1 .0), works-inside _ _ _ _ _ (o .0) (o .1 .1 .1 .1) w)))))
+    (works-workable _ _ _ _ _ o (c .before .before .before .loop .inv .1), omega arith)
 
 add-q : tie.Need-add-q Inv-loop μ-loop
 add-q c = omega arith
@@ -41,7 +38,7 @@ same-length c = c .before .loop .inv .1 .long
 same-length-2 : tie.Need-same-length-2 Inv-loop μ-loop
 same-length-2 c =
     let o = c .before .before .before .before .before .before .before .pre in
-    c .before .loop .inv .1 .each (o .0 .program) (o .0 .codes) .infers .size
+    c .before .loop .inv .1 .each (o .coded .program) (o .coded .codes) .infers .size
 
 returns : tie.Need-returns Inv-loop μ-loop
 returns c =
