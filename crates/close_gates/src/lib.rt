@@ -3,11 +3,15 @@
 // word in a row. Assumes that the words are a program's rows, that the lists of parents are theirs, and that the table and the list of work have them.
 use close_store::mark_child;
 use close_store::mark_own;
+use spec_limits::ABOVE;
+use spec_limits::KINDS;
+use spec_limits::NUMBERS;
 use table_words::Words;
 use table_words::words_at;
 ghost use mathlib.Core.Path.{_≡_};
 ghost use Prim.Native.Nat.{ℕ, _%_, _<_};
 ghost use lib.ListN.{getD};
+ghost use Rattle.spec_limits.specs.Limits.{codeKinds};
 ghost use Rattle.spec_tilco.specs.Inference.{notOf, gate};
 ghost use Rattle.table_words.specs.Gains.{HasRows};
 ghost use Rattle.close_list.specs.Workable.{Queueable, Workable};
@@ -103,12 +107,12 @@ pub fn visit(
     marks: &mut [u64],
 )
     requires { ⌜ Workable count n window (now rows) (now heads) (now nexts) (now todo) (now marks) ⌝ }
-    requires { ⌜ (w ≡ getD (now rows) r 0) × (w % 8 ≡ 3 → ⊥) × (q < n) ⌝ }
+    requires { ⌜ (w ≡ getD (now rows) r 0) × (w % codeKinds ≡ 3 → ⊥) × (q < n) ⌝ }
     ensures { λ _. ⌜ Visits count (now (rows .entry)) r q window n (now (marks .entry)) (now (marks .exit)) (now (todo .entry)) (now (todo .exit)) ⌝ }
 {
-    let kind = w % 8;
-    let a = (w / 8 % 65536) as usize;
-    let b = (w / 524288) as usize;
+    let kind = w % KINDS;
+    let a = (w / KINDS % NUMBERS) as usize;
+    let b = (w / ABOVE) as usize;
     match kind {
         0 => {}
         1 => visit_gate(rows, count, r, q, n, a, b, true, heads, nexts, todo, marks),

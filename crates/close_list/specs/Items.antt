@@ -6,6 +6,7 @@ use mathlib.Core.List.{List}
 use mathlib.Core.Logic.{_⊎_}
 use Prim.Native.Nat.{ℕ, _+_, _*_, _/_, _%_, _≤_, _<_}
 use lib.ListN.{length, getD}
+use Rattle.spec_limits.specs.Limits.{mostRows}
 use Rattle.spec_ticks.specs.Ticks.{Has}
 use Rattle.lower_rows.specs.Words.{rowAt}
 use Rattle.spec_tilco.specs.Inference.{Node, signal, notOf, gate, look, mark, Marks}
@@ -32,9 +33,9 @@ NoItem r q = ⊥
 abbrev pub OneItem : ℕ → ℕ → ℕ → ℕ → Type 0
 OneItem r q s p = (s ≡ r) × (p ≡ q)
 
--- The list has a bit for every item of at most 1,024 rows.
+-- The list has a bit for every item, and there are not too many rows.
 pub record Roomy (count n : ℕ) (D : List ℕ) : Type 0 where
-  pub most : count ≤ 1024
+  pub most : count ≤ mostRows
   pub long : per count * n ≤ length D
 
 -- Nothing is taken off the list, and it keeps its length.

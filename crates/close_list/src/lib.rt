@@ -1,6 +1,8 @@
 // The list of work: an item, a row and a word of 64 ticks, put on it, every item that rests on a word that changed, and all that it starts with.
 // The list has `stride` words for each word of ticks, one bit a row. Assumes that it has a bit for every item.
 use close_parents::index;
+use spec_limits::ABOVE;
+use spec_limits::KINDS;
 ghost use mathlib.Core.Path.{_≡_};
 ghost use Prim.Native.Nat.{ℕ, _+_, _*_, _/_, _<_, _≤_};
 ghost use lib.ListN.{length};
@@ -56,13 +58,13 @@ fn enter_own(rows: &[u64], count: usize, n: usize, q: usize, x: usize, todo: &mu
     ensures { λ _. ⌜ Enters (ItemsOf (per count) x (λ p. (p < n) × OwnItem (rowAt (now (rows .entry)) x) q p)) (now (todo .entry)) (now (todo .exit)) ⌝ }
 {
     let w = rows[x];
-    let kind = w % 8;
+    let kind = w % KINDS;
     let stride = (count + 63) / 64;
     if kind == 0 {
         return;
     }
     if kind == 3 {
-        let seen = q + (w / 524288 / 64) as usize;
+        let seen = q + (w / ABOVE / 64) as usize;
         enter_before(todo, stride, n, seen, x);
         enter_before(todo, stride, n, seen + 1, x);
         return;

@@ -7,11 +7,12 @@ use Prim.Native.Nat.{ℕ, zero, suc, _+_, _-_, _*_, _/_, _%_, _≤_, _<_}
 use native.Mathlib.Nat.{mul-le-mul-right}
 use native.Mathlib.Omega.{arith}
 use lib.ListN.{length, getD, List·getD-eq-default}
+use Rattle.spec_limits.specs.Limits.{codeKinds, codeNumbers}
 use Rattle.spec_ticks.proofs.Bits.{lt-or-ge}
 use Rattle.spec_tilco.specs.Inference.{Node, signal, notOf, gate, look, Program, node}
 use Rattle.spec_tilco.specs.Table.{words}
 use Rattle.lower_rows.specs.Words.{unpacked, rowAt}
-use Rattle.close_rules.specs.Codes.{Codes, Coded}
+use Rattle.close_rules.specs.Codes.{Codes, Coded, LooksAt}
 use Rattle.table_words.specs.Gains.{HasRow, HasRows}
 use Rattle.close_rules.specs.Moves.{Sized}
 
@@ -50,19 +51,19 @@ signal-kind (suc (suc (suc zero))) a b e = absurd (subst Ruled e tt)
 signal-kind (suc (suc (suc (suc k)))) a b e = absurd (subst Ruled e tt)
 
 -- A look's word starts with its kind and its child.
-pub look-start : (w : ℕ) → w % 8 ≡ 3 → w % 524288 ≡ 8 * (w % 524288 / 8) + 3
-look-start w e = omega arith
+pub look-start : (B : List ℕ) (r : ℕ) → getD B r 0 % codeKinds ≡ 3 → LooksAt B r (getD B r 0 % (codeKinds * codeNumbers) / codeKinds)
+look-start B r e = omega arith
 
 module _ (count : ℕ) (B : List ℕ) (r : ℕ) where
   -- the kind and the two numbers of the row's word
   abbrev pub kind : ℕ
-  kind = getD B r 0 % 8
+  kind = getD B r 0 % codeKinds
 
   abbrev pub left : ℕ
-  left = getD B r 0 / 8 % 65536
+  left = getD B r 0 / codeKinds % codeNumbers
 
   abbrev pub right : ℕ
-  right = getD B r 0 / 524288
+  right = getD B r 0 / (codeKinds * codeNumbers)
 
   -- a kind past a look's: a not-row's
   abbrev pub past : ℕ
@@ -80,7 +81,7 @@ module _ (count : ℕ) (B : List ℕ) (r : ℕ) where
       past-rows l = List·getD-eq-default (c .program .rows) signal (omega (arith, c .codes .rows-are))
 
   -- A look at row c, told by the start of its word: its kind and its child.
-  module _ (c : ℕ) (e : getD B r 0 % 524288 ≡ 8 * c + 3) where
+  module _ (c : ℕ) (e : LooksAt B r c) where
     pub look-kind : kind ≡ 3
     look-kind = omega arith
 

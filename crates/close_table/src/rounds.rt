@@ -1,8 +1,10 @@
 // Closes a table: items of the list are visited, word of ticks by word of ticks, until none is left.
 // Assumes that the words are a program's rows, that the table has them, and that no mark is outside the window.
 use close_list::start;
+use close_parents::EDGES;
 use close_parents::link_rows;
 use close_word::work_word;
+use spec_limits::ROWS;
 ghost use mathlib.Core.Path.{_≡_};
 ghost use mathlib.Core.Bool.{false};
 ghost use mathlib.Core.Logic.{_↔_};
@@ -127,8 +129,8 @@ pub fn close(
     requires { ⌜ Closable count n window (now rows) (now todo) (now marks) ⌝ }
     ensures { λ _. ⌜ ClosesAll count (now (rows .entry)) window n (now (marks .entry)) (now (marks .exit)) ⌝ }
 {
-    let mut heads = [0u16; 1024];
-    let mut nexts = [1u16; 2048];
+    let mut heads = [0u16; ROWS];
+    let mut nexts = [1u16; EDGES];
     link_rows(rows, count, &mut heads, &mut nexts);
     start(rows, count, n, &heads, &nexts, todo, marks);
     work_off(rows, count, n, window, &heads, &nexts, todo, marks);

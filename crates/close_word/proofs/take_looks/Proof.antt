@@ -4,7 +4,9 @@ use native.Mathlib.Omega.{arith}
 use mathlib.Core.Path.{_≡_, refl, _∙_}
 use Prim.Native.Nat.{_+_, _*_, _/_, _%_, _^_, _<_}
 use lib.ListN.{getD}
+use Rattle.spec_limits.specs.Limits.{codeKinds, codeNumbers}
 use Rattle.table_words.specs.Gains.{room}
+use Rattle.close_rules.specs.Codes.{LooksAt}
 use Rattle.close_rules.specs.Moves.{Gathered}
 use Rattle.close_rules.proofs.Decoding.{look-start, look-in}
 use Rattle.close_parents.proofs.Children.{look-below}
@@ -21,7 +23,7 @@ abbrev Inv-loop : tie.InvT-loop
 Inv-loop rows count i j first q n window heads nexts todo₀ marks₀ start kind c child given₀ k₀ todo marks given k =
     Gathering count rows window n j (k ≡ first) (Gathered (child .row) (child .q) (given .this) (given .other)) marks₀ marks todo₀ todo
     × Sees n window marks (child .row) (child .q) (child .words .this) (child .words .other) (child .here)
-    × (k < 64 → ItemAt count n (child .q) i j k todo × (getD rows (64 * i + k) 0 % 524288 ≡ 8 * child .row + 3))
+    × (k < 64 → ItemAt count n (child .q) i j k todo × LooksAt rows (64 * i + k) (child .row))
 
 abbrev μ-loop : tie.MeasureT-loop
 μ-loop rows count i j first q n window heads nexts todo₀ marks₀ start kind c child given₀ k₀ todo marks given k =
@@ -45,8 +47,8 @@ child-at-requires c κs =
     let given = c .before .before .before .before .before .before .before .pre .0 in
     let o = c .before .before .before .before .before .before .before .pre .1 in
     let r = 64 * a .i + a .first in
-    let y = getD (a .rows .now) r 0 % 524288 / 8 in
-    let starts = look-start (getD (a .rows .now) r 0) (o .1) in
+    let y = getD (a .rows .now) r 0 % (codeKinds * codeNumbers) / codeKinds in
+    let starts = look-start (a .rows .now) r (o .1) in
     let l : y < a .count = omega (arith, look-below (a .count) (a .rows .now) r y starts (given .coded), look-in (a .count) (a .rows .now) r y starts (given .coded)) in
     (o .0 .word, row-there given y l, given .sized .words-are)
 
@@ -55,7 +57,7 @@ loop-holds c =
     let a = c .before .before .before .before .before .before .before .before .args in
     let o = c .before .before .before .before .before .before .before .before .pre .1 in
     let s = c .child-at .ensures in
-    (gathering-none _ _ _ _ _ refl _ _ _ _, s .2, λ l. (rw (s .1) (o .0), rw (s .0) (look-start (getD (a .rows .now) (64 * a .i + a .first) 0) (o .1))))
+    (gathering-none _ _ _ _ _ refl _ _ _ _, s .2, λ l. (rw (s .1) (o .0), rw (s .0) (look-start (a .rows .now) (64 * a .i + a .first) (o .1))))
 
 take-look-requires : tie.Need-take-look-requires Inv-loop μ-loop
 take-look-requires c κs =
@@ -83,7 +85,7 @@ loop-again c =
     let a = c .before .before .before .before .before .before .before .before .before .before .before .before .before .before .before .before .before .before .before .args in
     let o = c .before .before .before .before .before .before .before .before .before .before .before .before .before .before .before .before .before .before .before .pre .1 in
     let s = c .before .before .before .before .before .before .before .before .before .before .before .child-at .ensures in
-    let starts = look-start (getD (a .rows .now) (64 * a .i + a .first) 0) (o .1) in
+    let starts = look-start (a .rows .now) (64 * a .i + a .first) (o .1) in
     (gathering-more _ _ _ _ _ _ (c .before .before .before .before .before .before .before .before .before .before .loop .inv .0) (c .before .before .before .before .before .before .take-look .ensures .0), c .before .before .before .before .before .before .take-look .ensures .1, λ l. let k = c .next-look .ensures l in (item-next (c .before .before .before .before .before .before .before .before .before .before .loop .inv .2 (omega arith) .0) l (k .0), rw (s .0) (k .1 ∙ starts)))
 
 mark-child-requires : tie.Need-mark-child-requires Inv-loop μ-loop
@@ -92,8 +94,8 @@ mark-child-requires c κs =
     let o = c .before .before .before .before .before .before .before .before .before .before .before .before .pre .1 in
     let given = gathering-workable _ _ _ _ _ (c .before .before .before .before .before .before .before .before .before .before .before .before .pre .0) (c .before .before .before .loop .inv .0) in
     let r = 64 * a .i + a .first in
-    let y = getD (a .rows .now) r 0 % 524288 / 8 in
-    let starts = look-start (getD (a .rows .now) r 0) (o .1) in
+    let y = getD (a .rows .now) r 0 % (codeKinds * codeNumbers) / codeKinds in
+    let starts = look-start (a .rows .now) r (o .1) in
     let l : y < a .count = omega (arith, look-below (a .count) (a .rows .now) r y starts (given .coded), look-in (a .count) (a .rows .now) r y starts (given .coded)) in
     (queueable given, (l, o .0 .word, row-there given y l))
 

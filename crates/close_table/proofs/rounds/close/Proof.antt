@@ -1,6 +1,7 @@
 -- `close` meets its contract. Assumes nothing.
 use borrow.Author.Needs.{needs}
 use native.Mathlib.Omega.{arith}
+use Rattle.spec_limits.specs.Limits.{mostRows}
 use Rattle.close_parents.proofs.Linking.{no-lists}
 use Rattle.close_list.proofs.Noting.{roomy-as}
 use Rattle.close_table.proofs.rounds.close.Statement.{statement}
@@ -15,7 +16,7 @@ slice-aggregate-link-rows-2 c = search needs
 link-rows-requires : tie.Need-link-rows-requires
 link-rows-requires c κs =
     let o = c .before .before .before .before .before .pre in
-    ((o .coded, o .roomy .most), (omega (arith, o .roomy .most), omega (arith, o .roomy .most), λ x l. no-lists 1024 x))
+    ((o .coded, o .roomy .most), (omega (arith, o .roomy .most), omega (arith, o .roomy .most), λ x l. no-lists mostRows x))
 
 slice-aggregate-start : tie.Need-slice-aggregate-start
 slice-aggregate-start c = search needs
