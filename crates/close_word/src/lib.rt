@@ -14,8 +14,7 @@ ghost use lib.ListN.{length, getD, set};
 ghost use Rattle.spec_limits.specs.Limits.{codeKinds, codeNumbers};
 ghost use Rattle.spec_ticks.specs.Ticks.{Has};
 ghost use Rattle.close_rules.specs.Codes.{LooksAt};
-ghost use Rattle.close_rules.specs.Moves.{Gathered};
-ghost use Rattle.close_looks.specs.Parts.{Sees};
+ghost use Rattle.close_looks.specs.Parts.{Sees, GatheredFor};
 ghost use Rattle.close_list.specs.Items.{per};
 ghost use Rattle.close_list.specs.Workable.{Workable};
 ghost use Rattle.close_word.specs.Stretches.{ItemAt, Works, OneWord, Taken, TakenLook};
@@ -77,9 +76,9 @@ fn take_look(
 ) -> Words
     requires { ⌜ Workable count n window (now rows) (now heads) (now nexts) (now todo) (now marks) ⌝ }
     requires { ⌜ ItemAt count n (child .q) i j k (now todo) × LooksAt (now rows) (64 * i + k) (child .row) ⌝ }
-    requires { ⌜ Sees n window (now marks) (child .row) (child .q) (child .words .this) (child .words .other) (child .here) ⌝ }
-    ensures { λ g. ⌜ TakenLook count (now (rows .entry)) window n j (Gathered (child .row) (child .q) (given .this) (given .other)) (Gathered (child .row) (child .q) (g .this) (g .other)) (now (marks .entry)) (now (marks .exit)) (now (todo .entry)) (now (todo .exit)) ⌝ }
-    ensures { λ _. ⌜ Sees n window (now (marks .exit)) (child .row) (child .q) (child .words .this) (child .words .other) (child .here) ⌝ }
+    requires { ⌜ Sees n window (now marks) child ⌝ }
+    ensures { λ g. ⌜ TakenLook count (now (rows .entry)) window n j (GatheredFor child given) (GatheredFor child g) (now (marks .entry)) (now (marks .exit)) (now (todo .entry)) (now (todo .exit)) ⌝ }
+    ensures { λ _. ⌜ Sees n window (now (marks .exit)) child ⌝ }
 {
     let row = 64 * i + (k as usize);
     let offset = rows[row] / ABOVE;

@@ -7,10 +7,9 @@ use lib.ListN.{getD}
 use Rattle.spec_limits.specs.Limits.{codeKinds, codeNumbers}
 use Rattle.table_words.specs.Gains.{room}
 use Rattle.close_rules.specs.Codes.{LooksAt}
-use Rattle.close_rules.specs.Moves.{Gathered}
 use Rattle.close_rules.proofs.Decoding.{look-start, look-in}
 use Rattle.close_parents.proofs.Children.{look-below}
-use Rattle.close_looks.specs.Parts.{Sees}
+use Rattle.close_looks.specs.Parts.{Sees, GatheredFor}
 use Rattle.close_list.proofs.Workable.{queueable, row-there}
 use Rattle.close_word.specs.Stretches.{ItemAt}
 use Rattle.close_word.proofs.Taking.{item-inside, item-next}
@@ -21,8 +20,8 @@ use Rattle.close_word.proofs.take_looks.Tie as tie
 
 abbrev Inv-loop : tie.InvT-loop
 Inv-loop rows count i j first q n window heads nexts todo₀ marks₀ start kind c child given₀ k₀ todo marks given k =
-    Gathering count rows window n j (k ≡ first) (Gathered (child .row) (child .q) (given .this) (given .other)) marks₀ marks todo₀ todo
-    × Sees n window marks (child .row) (child .q) (child .words .this) (child .words .other) (child .here)
+    Gathering count rows window n j (k ≡ first) (GatheredFor child given) marks₀ marks todo₀ todo
+    × Sees n window marks child
     × (k < 64 → ItemAt count n (child .q) i j k todo × LooksAt rows (64 * i + k) (child .row))
 
 abbrev μ-loop : tie.MeasureT-loop
