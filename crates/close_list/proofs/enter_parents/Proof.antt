@@ -12,7 +12,9 @@ abbrev μ-loop : tie.MeasureT-loop
 μ-loop count head nexts todo₀ i h₀ todo h = h
 
 loop-holds : tie.Need-loop-holds Inv-loop μ-loop
-loop-holds c = walk-start _ _ _ _ _ (c .before .before .pre .0)
+loop-holds c =
+    let asked = c .before .before .pre in
+    walk-start _ _ _ _ _ (asked .0)
 
 enter-requires : tie.Need-enter-requires Inv-loop μ-loop
 enter-requires c κs =
@@ -42,8 +44,9 @@ loop-less c =
 
 loop-again : tie.Need-loop-again Inv-loop μ-loop
 loop-again c =
+    let enter = c .before .before .before .before .enter in
     let l = c .before .before .before .before .before .before .before .loop in
-    walk-more _ _ _ _ _ _ _ _ _ (omega arith) (c .index .ensures) (l .inv) (c .before .before .before .before .enter .ensures)
+    walk-more _ _ _ _ _ _ _ _ _ (omega arith) (c .index .ensures) (l .inv) (enter .ensures)
 
 same-length : tie.Need-same-length Inv-loop μ-loop
 same-length c = c .before .loop .inv .keeps .size

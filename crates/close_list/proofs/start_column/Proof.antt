@@ -93,10 +93,11 @@ loop-less c = omega arith
 
 loop-again : tie.Need-loop-again Inv-loop μ-loop
 loop-again c =
+    let loop = c .before .before .before .before .loop in
     let a = c .before .before .before .before .before .before .before .before .before .before .args in
     let o = c .before .before .before .before .before .before .before .before .before .before .pre in
-    let l = c .before .before .before .before .loop .inv in
-    let x = c .before .before .before .before .loop .x in
+    let l = loop .inv in
+    let x = loop .x in
     let yes = ap (λ (i : ℕ). getD (a .marks .now) i 0) (l .1 ∙ first-block (a .n) x (a .q) true refl) in
     let no = ap (λ (i : ℕ). getD (a .marks .now) i 0) (ap (λ (i : ℕ). i + a .n) (l .1) ∙ second-block (a .n) x (a .q) false refl) in (
       omega arith,

@@ -12,16 +12,19 @@ enter-own-requires c κs =
 
 touch-parents-requires : tie.Need-touch-parents-requires
 touch-parents-requires c κs =
+    let enter-own = c .before .before .before .enter-own in
     let o = c .before .before .before .before .before .before .before .before .before .pre in
-    (o .1, (ended (o .0 .linked), roomy-as (c .before .before .before .enter-own .ensures .keeps .size) (o .0 .roomy)))
+    (o .1, (ended (o .0 .linked), roomy-as (enter-own .ensures .keeps .size) (o .0 .roomy)))
 
 same-length : tie.Need-same-length
 same-length c = search needs
 
 returns : tie.Need-returns
 returns c =
+    let enter-own = c .before .before .before .before .before .before .enter-own in
+    let touch-parents = c .before .before .touch-parents in
     let o = c .before .before .before .before .before .before .before .before .before .before .before .before .pre in
-    touched _ _ _ _ _ _ _ _ _ _ (o .1 .0) (o .0 .linked) (c .before .before .before .before .before .before .enter-own .ensures) (c .before .before .touch-parents .ensures)
+    touched _ _ _ _ _ _ _ _ _ _ (o .1 .0) (o .0 .linked) (enter-own .ensures) (touch-parents .ensures)
 
 pub touch-spec : {M : Type 1} → statement M
 touch-spec = tie.close (tie.spec enter-own-requires touch-parents-requires same-length returns)

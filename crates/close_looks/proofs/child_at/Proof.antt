@@ -14,7 +14,9 @@ window-word-requires c κs =
     word-in-window _ _ _ (o .2) (o .0)
 
 returns : tie.Need-returns
-returns c = (refl, refl, record { within = c .before .before .before .pre .0; window = c .window-word .ensures; reads = c .before .words-at .ensures })
+returns c =
+    let asked = c .before .before .before .pre in
+    (refl, refl, record { within = asked .0; window = c .window-word .ensures; reads = c .before .words-at .ensures })
 
 pub child-at-spec : {M : Type 1} → statement M
 child-at-spec = tie.close (tie.spec words-at-requires window-word-requires returns)

@@ -14,18 +14,21 @@ use Rattle.close_looks.proofs.visit_look.Tie as tie
 
 look-part-requires : tie.Need-look-part-requires
 look-part-requires c κs =
+    let asked = c .before .before .before .before .before .before .before .pre in
     let a = c .before .before .before .before .before .before .before .args in
-    let given = c .before .before .before .before .before .before .before .pre .0 in
-    let o = c .before .before .before .before .before .before .before .pre .1 in
+    let given = asked .0 in
+    let o = asked .1 in
     ((o .0 .0, row-there given (a .row) (o .0 .0), o .0 .1, given .sized .words-are), (o .1, (ended (given .linked), given .roomy)))
 
 look-part-requires-2 : tie.Need-look-part-requires-2
 look-part-requires-2 c κs =
+    let look-part = c .before .before .before .before .before .before .look-part in
+    let asked = c .before .before .before .before .before .before .before .before .before .before .before .before .before .before .pre in
     let a = c .before .before .before .before .before .before .before .before .before .before .before .before .before .before .args in
-    let given = c .before .before .before .before .before .before .before .before .before .before .before .before .before .before .pre .0 in
-    let o = c .before .before .before .before .before .before .before .before .before .before .before .before .before .before .pre .1 in
-    let first = c .before .before .before .before .before .before .look-part .ensures in
-    ((o .0 .0, omega (arith, row-there given (a .row) (o .0 .0), c .before .before .before .before .before .before .look-part), o .0 .1, given .sized .words-are), (first .1, (ended (given .linked), roomy-as (first .0 .enters .enters .keeps .size) (given .roomy))))
+    let given = asked .0 in
+    let o = asked .1 in
+    let first = look-part .ensures in
+    ((o .0 .0, omega (arith, row-there given (a .row) (o .0 .0), look-part), o .0 .1, given .sized .words-are), (first .1, (ended (given .linked), roomy-as (first .0 .enters .enters .keeps .size) (given .roomy))))
 
 same-length : tie.Need-same-length
 same-length c = search needs
@@ -35,6 +38,7 @@ same-length-2 c = search needs
 
 returns : tie.Need-returns
 returns c =
+    let look-part2 = c .before .before .before .before .look-part2 in
     let a = c .before .before .before .before .before .before .before .before .before .before .before .before .before .before .before .before .before .before .before .args in
     let q = a .child .q in
     let o = c .before .before .before .before .before .before .before .before .before .before .before .before .before .before .before .before .before .before .before .pre in
@@ -47,7 +51,7 @@ returns c =
           (λ e. notes-then _ _ _
           (notes-look _ _ _ _ _ k _ _ (q - a .offset / 64) _ l _ _ q q below e (λ z. omega (arith, lower .word z)) (λ w h. h) (lower .enters))
           (notes-look _ _ _ _ _ k _ _ (q + 1 - a .offset / 64) _ l _ _ (q + 1) (q + 2) below e (λ z. omega (arith, upper .word z)) (λ w. ⊎-elim (λ (h : w ≡ q + 1). inr (omega arith)) (λ h. inl (omega arith))) (upper .enters))),
-      c .before .before .before .before .look-part2 .ensures .1,
+      look-part2 .ensures .1,
     )
 
 pub visit-look-spec : {M : Type 1} → statement M

@@ -19,7 +19,9 @@ shared-slice-read-w : tie.Need-shared-slice-read-w
 shared-slice-read-w c = search needs
 
 take-looks-requires : tie.Need-take-looks-requires
-take-looks-requires c κs = (c .before .before .before .before .before .before .before .before .before .pre .0, (c .before .before .before .before .before .before .before .before .before .pre .1, omega arith))
+take-looks-requires c κs =
+    let asked = c .before .before .before .before .before .before .before .before .before .pre in
+    (asked .0, (asked .1, omega arith))
 
 same-length : tie.Need-same-length
 same-length c = search needs
@@ -31,13 +33,18 @@ returns : tie.Need-returns
 returns c = search needs
 
 visit-requires : tie.Need-visit-requires
-visit-requires c κs = (c .before .before .before .before .before .before .before .before .before .pre .0, (refl, (λ e. c .before .before .if1 .left e), c .before .before .before .before .before .before .before .before .before .pre .1 .word))
+visit-requires c κs =
+    let asked = c .before .before .before .before .before .before .before .before .before .pre in
+    let if1 = c .before .before .if1 in
+    (asked .0, (refl, (λ e. if1 .left e), asked .1 .word))
 
 clear-bit-requires : tie.Need-clear-bit-requires
 clear-bit-requires c κs =
-    let given = c .before .before .before .before .before .before .before .before .before .before .before .before .before .before .before .pre .0 in
-    let at = item-kept (c .before .before .before .before .before .before .before .before .before .before .before .before .before .before .before .pre .1) (visit-keeps (given .coded) (c .before .before .before .before .before .visit .ensures)) in
-    (omega (arith, item-inside (c .before .before .before .before .before .before .before .before .before .before .before .before .before .before .before .pre .1) (given .roomy)), at .bit, at .on-list)
+    let asked = c .before .before .before .before .before .before .before .before .before .before .before .before .before .before .before .pre in
+    let visit = c .before .before .before .before .before .visit in
+    let given = asked .0 in
+    let at = item-kept (asked .1) (visit-keeps (given .coded) (visit .ensures)) in
+    (omega (arith, item-inside (asked .1) (given .roomy)), at .bit, at .on-list)
 
 same-length-3 : tie.Need-same-length-3
 same-length-3 c = search needs
@@ -47,9 +54,12 @@ same-length-4 c = search needs
 
 returns-2 : tie.Need-returns-2
 returns-2 c =
-    let given = c .before .before .before .before .before .before .before .before .before .before .before .before .before .before .before .before .before .before .pre .0 in
-    let at = item-kept (c .before .before .before .before .before .before .before .before .before .before .before .before .before .before .before .before .before .before .pre .1) (visit-keeps (given .coded) (c .before .before .before .before .before .before .before .before .visit .ensures)) in
-    taken _ _ _ _ _ _ _ at (omega (arith, item-inside (c .before .before .before .before .before .before .before .before .before .before .before .before .before .before .before .before .before .before .pre .1) (given .roomy))) (c .before .before .clear-bit .ensures) (given .coded) (c .before .before .before .before .before .before .before .before .visit .ensures)
+    let asked = c .before .before .before .before .before .before .before .before .before .before .before .before .before .before .before .before .before .before .pre in
+    let visit = c .before .before .before .before .before .before .before .before .visit in
+    let clear-bit = c .before .before .clear-bit in
+    let given = asked .0 in
+    let at = item-kept (asked .1) (visit-keeps (given .coded) (visit .ensures)) in
+    taken _ _ _ _ _ _ _ at (omega (arith, item-inside (asked .1) (given .roomy))) (clear-bit .ensures) (given .coded) (visit .ensures)
 
 pub take-spec : {M : Type 1} → statement M
 take-spec =

@@ -22,20 +22,23 @@ shared-slice-read-offset c = search needs
 
 visit-look-requires : tie.Need-visit-look-requires
 visit-look-requires c κs =
+    let asked = c .before .before .before .before .before .before .before .before .pre in
     let a = c .before .before .before .before .before .before .before .before .args in
-    let given = c .before .before .before .before .before .before .before .before .pre .0 in
-    let o = c .before .before .before .before .before .before .before .before .pre .1 in
+    let given = asked .0 in
+    let o = asked .1 in
     let r = 64 * a .i + a .k in
     let starts = o .0 .1 in
     (given, ((look-in (a .count) (a .rows .now) r (a .child .row) starts (given .coded), look-below (a .count) (a .rows .now) r (a .child .row) starts (given .coded)), o .1))
 
 clear-bit-requires : tie.Need-clear-bit-requires
 clear-bit-requires c κs =
+    let asked = c .before .before .before .before .before .before .before .before .before .before .before .before .before .before .pre in
+    let visit-look = c .before .before .before .before .before .visit-look in
     let a = c .before .before .before .before .before .before .before .before .before .before .before .before .before .before .args in
-    let given = c .before .before .before .before .before .before .before .before .before .before .before .before .before .before .pre .0 in
-    let o = c .before .before .before .before .before .before .before .before .before .before .before .before .before .before .pre .1 in
+    let given = asked .0 in
+    let o = asked .1 in
     let y = look-row (a .count) (a .rows .now) (64 * a .i + a .k) (a .child .row) (o .0 .1) in
-    let at = item-kept (o .0 .0) (look-keeps (given .coded) y (c .before .before .before .before .before .visit-look .ensures .0)) in
+    let at = item-kept (o .0 .0) (look-keeps (given .coded) y (visit-look .ensures .0)) in
     (omega (arith, item-inside (o .0 .0) (given .roomy)), at .bit, at .on-list)
 
 same-length : tie.Need-same-length
@@ -46,13 +49,15 @@ same-length-2 c = search needs
 
 returns : tie.Need-returns
 returns c =
+    let asked = c .before .before .before .before .before .before .before .before .before .before .before .before .before .before .before .before .before .pre in
+    let clear-bit = c .before .before .clear-bit in
     let a = c .before .before .before .before .before .before .before .before .before .before .before .before .before .before .before .before .before .args in
-    let given = c .before .before .before .before .before .before .before .before .before .before .before .before .before .before .before .before .before .pre .0 in
-    let o = c .before .before .before .before .before .before .before .before .before .before .before .before .before .before .before .before .before .pre .1 in
+    let given = asked .0 in
+    let o = asked .1 in
     let y = look-row (a .count) (a .rows .now) (64 * a .i + a .k) (a .child .row) (o .0 .1) in
     let f = c .before .before .before .before .before .before .before .before .visit-look .ensures in
     let at = item-kept (o .0 .0) (look-keeps (given .coded) y (f .0)) in
-    (looked _ _ _ _ _ _ _ at (omega (arith, item-inside (o .0 .0) (given .roomy))) (c .before .before .clear-bit .ensures) (given .coded) _ _ _ _ y (f .0), f .1)
+    (looked _ _ _ _ _ _ _ at (omega (arith, item-inside (o .0 .0) (given .roomy))) (clear-bit .ensures) (given .coded) _ _ _ _ y (f .0), f .1)
 
 pub take-look-spec : {M : Type 1} → statement M
 take-look-spec =

@@ -29,22 +29,31 @@ abbrev μ-loop : tie.MeasureT-loop
     room marks * 2 ^ 64 + getD todo j 0
 
 mul-start : tie.Need-mul-start Inv-loop μ-loop
-mul-start c = omega (arith, c .before .before .before .before .before .pre .1 .0 .column, c .before .before .before .before .before .pre .1 .0 .bit, c .before .before .before .before .before .pre .0 .coded .codes .long)
+mul-start c =
+    let asked = c .before .before .before .before .before .pre in
+    omega (arith, asked .1 .0 .column, asked .1 .0 .bit, asked .0 .coded .codes .long)
 
 add-kind : tie.Need-add-kind Inv-loop μ-loop
-add-kind c = omega (arith, c .before .before .before .before .before .pre .1 .0 .column, c .before .before .before .before .before .pre .1 .0 .bit, c .before .before .before .before .before .pre .0 .coded .codes .long)
+add-kind c =
+    let asked = c .before .before .before .before .before .pre in
+    omega (arith, asked .1 .0 .column, asked .1 .0 .bit, asked .0 .coded .codes .long)
 
 mul-kind : tie.Need-mul-kind Inv-loop μ-loop
-mul-kind c = omega (arith, c .before .before .before .before .before .pre .1 .0 .column, c .before .before .before .before .before .pre .1 .0 .bit, c .before .before .before .before .before .pre .0 .coded .codes .long)
+mul-kind c =
+    let asked = c .before .before .before .before .before .pre in
+    omega (arith, asked .1 .0 .column, asked .1 .0 .bit, asked .0 .coded .codes .long)
 
 shared-slice-read-kind : tie.Need-shared-slice-read-kind Inv-loop μ-loop
-shared-slice-read-kind c = omega (arith, c .before .before .before .before .before .before .pre .1 .0 .column, c .before .before .before .before .before .before .pre .1 .0 .bit, c .before .before .before .before .before .before .pre .0 .coded .codes .long)
+shared-slice-read-kind c =
+    let asked = c .before .before .before .before .before .before .pre in
+    omega (arith, asked .1 .0 .column, asked .1 .0 .bit, asked .0 .coded .codes .long)
 
 child-at-requires : tie.Need-child-at-requires Inv-loop μ-loop
 child-at-requires c κs =
+    let asked = c .before .before .before .before .before .before .before .pre in
     let a = c .before .before .before .before .before .before .before .args in
-    let given = c .before .before .before .before .before .before .before .pre .0 in
-    let o = c .before .before .before .before .before .before .before .pre .1 in
+    let given = asked .0 in
+    let o = asked .1 in
     let r = 64 * a .i + a .first in
     let y = getD (a .rows .now) r 0 % (codeKinds * codeNumbers) / codeKinds in
     let starts = look-start (a .rows .now) r (o .1) in
@@ -60,38 +69,56 @@ loop-holds c =
 
 take-look-requires : tie.Need-take-look-requires Inv-loop μ-loop
 take-look-requires c κs =
+    let asked = c .before .before .before .before .before .before .before .before .before .before .before .before .pre in
     let v = c .before .before .before .loop .inv in
-    (gathering-workable _ _ _ _ _ (c .before .before .before .before .before .before .before .before .before .before .before .before .pre .0) (v .0), (v .2 (omega arith), v .1))
+    (gathering-workable _ _ _ _ _ (asked .0) (v .0), (v .2 (omega arith), v .1))
 
 mul-next-look : tie.Need-mul-next-look Inv-loop μ-loop
-mul-next-look c = omega (arith, item-inside (c .before .before .before .before .before .before .before .before .before .before .before .before .before .before .before .before .before .pre .1 .0) (c .before .before .before .before .before .before .before .before .before .before .before .before .before .before .before .before .before .pre .0 .roomy), c .before .before .before .before .before .before .before .before .loop .inv .0 .long, c .before .before .before .before .take-look .ensures .0 .long, c .before .before .before .before .before .before .before .before .before .before .before .before .before .before .before .before .before .good)
+mul-next-look c =
+    let asked = c .before .before .before .before .before .before .before .before .before .before .before .before .before .before .before .before .before .pre in
+    let good = c .before .before .before .before .before .before .before .before .before .before .before .before .before .before .before .before .before .good in
+    let loop = c .before .before .before .before .before .before .before .before .loop in
+    let take-look = c .before .before .before .before .take-look in
+    omega (arith, item-inside (asked .1 .0) (asked .0 .roomy), loop .inv .0 .long, take-look .ensures .0 .long, good)
 
 slice-read-next-look : tie.Need-slice-read-next-look Inv-loop μ-loop
-slice-read-next-look c = omega (arith, item-inside (c .before .before .before .before .before .before .before .before .before .before .before .before .before .before .before .before .before .before .pre .1 .0) (c .before .before .before .before .before .before .before .before .before .before .before .before .before .before .before .before .before .before .pre .0 .roomy), c .before .before .before .before .before .before .before .before .before .loop .inv .0 .long, c .before .before .before .before .before .take-look .ensures .0 .long, c .before .before .before .before .before .before .before .before .before .before .before .before .before .before .before .before .before .before .good)
+slice-read-next-look c =
+    let asked = c .before .before .before .before .before .before .before .before .before .before .before .before .before .before .before .before .before .before .pre in
+    let good = c .before .before .before .before .before .before .before .before .before .before .before .before .before .before .before .before .before .before .good in
+    let loop = c .before .before .before .before .before .before .before .before .before .loop in
+    let take-look = c .before .before .before .before .before .take-look in
+    omega (arith, item-inside (asked .1 .0) (asked .0 .roomy), loop .inv .0 .long, take-look .ensures .0 .long, good)
 
 next-look-requires : tie.Need-next-look-requires Inv-loop μ-loop
-next-look-requires c κs = (omega arith, omega (arith, c .before .before .before .before .before .before .before .before .before .before .before .before .before .before .before .before .before .before .pre .1 .0 .column, c .before .before .before .before .before .before .before .before .before .before .before .before .before .before .before .before .before .before .pre .0 .coded .codes .long))
+next-look-requires c κs =
+    let asked = c .before .before .before .before .before .before .before .before .before .before .before .before .before .before .before .before .before .before .pre in
+    (omega arith, omega (arith, asked .1 .0 .column, asked .0 .coded .codes .long))
 
 loop-less : tie.Need-loop-less Inv-loop μ-loop
 loop-less c =
+    let slice-known3 = c .before .before .before .before .slice-known3 in
     let a = c .before .before .before .before .before .before .before .before .before .before .before .before .before .before .before .before .before .before .before .args in
     let k = c .before .before .before .before .before .before .before .before .before .before .before .before .before .before .before .before .before .before .before .pre .0 .coded in
     let look = c .before .before .before .before .before .before .take-look .ensures .0 in
-    stretch-less (a .j) (look .each (k .program) (k .codes) .0) (look .less) (omega (arith, c .before .before .before .before .slice-known3 .given (a .j)))
+    stretch-less (a .j) (look .each (k .program) (k .codes) .0) (look .less) (omega (arith, slice-known3 .given (a .j)))
 
 loop-again : tie.Need-loop-again Inv-loop μ-loop
 loop-again c =
+    let loop = c .before .before .before .before .before .before .before .before .before .before .loop in
+    let take-look = c .before .before .before .before .before .before .take-look in
     let a = c .before .before .before .before .before .before .before .before .before .before .before .before .before .before .before .before .before .before .before .args in
     let o = c .before .before .before .before .before .before .before .before .before .before .before .before .before .before .before .before .before .before .before .pre .1 in
     let s = c .before .before .before .before .before .before .before .before .before .before .before .child-at .ensures in
     let starts = look-start (a .rows .now) (64 * a .i + a .first) (o .1) in
-    (gathering-more _ _ _ _ _ _ (c .before .before .before .before .before .before .before .before .before .before .loop .inv .0) (c .before .before .before .before .before .before .take-look .ensures .0), c .before .before .before .before .before .before .take-look .ensures .1, λ l. let k = c .next-look .ensures l in (item-next (c .before .before .before .before .before .before .before .before .before .before .loop .inv .2 (omega arith) .0) l (k .0), rw (s .0) (k .1 ∙ starts)))
+    (gathering-more _ _ _ _ _ _ (loop .inv .0) (take-look .ensures .0), take-look .ensures .1, λ l. let k = c .next-look .ensures l in (item-next (loop .inv .2 (omega arith) .0) l (k .0), rw (s .0) (k .1 ∙ starts)))
 
 mark-child-requires : tie.Need-mark-child-requires Inv-loop μ-loop
 mark-child-requires c κs =
+    let asked = c .before .before .before .before .before .before .before .before .before .before .before .before .pre in
+    let loop = c .before .before .before .loop in
     let a = c .before .before .before .before .before .before .before .before .before .before .before .before .args in
-    let o = c .before .before .before .before .before .before .before .before .before .before .before .before .pre .1 in
-    let given = gathering-workable _ _ _ _ _ (c .before .before .before .before .before .before .before .before .before .before .before .before .pre .0) (c .before .before .before .loop .inv .0) in
+    let o = asked .1 in
+    let given = gathering-workable _ _ _ _ _ (asked .0) (loop .inv .0) in
     let r = 64 * a .i + a .first in
     let y = getD (a .rows .now) r 0 % (codeKinds * codeNumbers) / codeKinds in
     let starts = look-start (a .rows .now) r (o .1) in
@@ -99,17 +126,25 @@ mark-child-requires c κs =
     (queueable given, (l, o .0 .word, row-there given y l))
 
 same-length : tie.Need-same-length Inv-loop μ-loop
-same-length c = c .before .before .before .before .mark-child .ensures .notes .keeps .size ∙ c .before .before .before .before .before .before .before .before .loop .inv .0 .long
+same-length c =
+    let loop = c .before .before .before .before .before .before .before .before .loop in
+    let mark-child = c .before .before .before .before .mark-child in
+    mark-child .ensures .notes .keeps .size ∙ loop .inv .0 .long
 
 same-length-2 : tie.Need-same-length-2 Inv-loop μ-loop
 same-length-2 c =
+    let loop = c .before .before .before .before .before .before .before .before .loop in
+    let mark-child = c .before .before .before .before .mark-child in
     let k = c .before .before .before .before .before .before .before .before .before .before .before .before .before .before .before .before .before .pre .0 .coded in
-    c .before .before .before .before .mark-child .ensures .joins .gains .size ∙ c .before .before .before .before .before .before .before .before .loop .inv .0 .each (k .program) (k .codes) .infers .size
+    mark-child .ensures .joins .gains .size ∙ loop .inv .0 .each (k .program) (k .codes) .infers .size
 
 returns : tie.Need-returns Inv-loop μ-loop
 returns c =
+    let asked = c .before .before .before .before .before .before .before .before .before .before .before .before .before .before .before .before .before .pre in
+    let loop = c .before .before .before .before .before .before .before .before .loop in
+    let mark-child = c .before .before .before .before .mark-child in
     let s = c .before .before .before .before .before .before .before .before .before .child-at .ensures in
-    gathering-end _ _ _ _ _ _ _ _ _ (λ e. omega (arith, e, c .before .before .before .before .before .before .before .before .before .before .before .before .before .before .before .before .before .pre .1 .0 .bit)) (rw (s .0, s .1) at (c .before .before .before .before .before .before .before .before .loop .inv .0)) (c .before .before .before .before .mark-child .ensures)
+    gathering-end _ _ _ _ _ _ _ _ _ (λ e. omega (arith, e, asked .1 .0 .bit)) (rw (s .0, s .1) at (loop .inv .0)) (mark-child .ensures)
 
 pub take-looks-spec : {M : Type 1} → statement M
 take-looks-spec =

@@ -26,8 +26,9 @@ slice-aggregate-start-2 c = search needs
 
 start-requires : tie.Need-start-requires
 start-requires c κs =
+    let link-rows = c .before .before .before .before .before .before .link-rows in
     let o = c .before .before .before .before .before .before .before .before .before .before .before .before .pre in
-    (record { coded = o .coded; linked = c .before .before .before .before .before .before .link-rows .ensures; roomy = o .roomy }, o .sized .long)
+    (record { coded = o .coded; linked = link-rows .ensures; roomy = o .roomy }, o .sized .long)
 
 slice-aggregate-work-off : tie.Need-slice-aggregate-work-off
 slice-aggregate-work-off c = search needs
@@ -37,8 +38,10 @@ slice-aggregate-work-off-2 c = search needs
 
 work-off-requires : tie.Need-work-off-requires
 work-off-requires c κs =
+    let link-rows = c .before .before .before .before .before .before .before .before .before .before .before .before .before .link-rows in
+    let start = c .before .before .before .before .before .before .start in
     let o = c .before .before .before .before .before .before .before .before .before .before .before .before .before .before .before .before .before .before .before .pre in
-    (record { coded = o .coded; linked = c .before .before .before .before .before .before .before .before .before .before .before .before .before .link-rows .ensures; roomy = roomy-as (omega arith) (o .roomy); sized = o .sized; inside = o .inside }, c .before .before .before .before .before .before .start .ensures _)
+    (record { coded = o .coded; linked = link-rows .ensures; roomy = roomy-as (omega arith) (o .roomy); sized = o .sized; inside = o .inside }, start .ensures _)
 
 same-length : tie.Need-same-length
 same-length c = search needs

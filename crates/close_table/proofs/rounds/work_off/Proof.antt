@@ -17,10 +17,14 @@ abbrev μ-loop : tie.MeasureT-loop
 μ-loop rows count n window heads nexts todo₀ marks₀ m go₀ up₀ todo marks go up = room marks + another go
 
 add-m : tie.Need-add-m Inv-loop μ-loop
-add-m c = omega (arith, c .before .before .before .before .before .pre .0 .roomy .most)
+add-m c =
+    let asked = c .before .before .before .before .before .pre in
+    omega (arith, asked .0 .roomy .most)
 
 mul-m : tie.Need-mul-m Inv-loop μ-loop
-mul-m c = omega (arith, c .before .before .before .before .before .pre .0 .roomy .long)
+mul-m c =
+    let asked = c .before .before .before .before .before .pre in
+    omega (arith, asked .0 .roomy .long)
 
 loop-holds : tie.Need-loop-holds Inv-loop μ-loop
 loop-holds c =
@@ -34,17 +38,25 @@ work-round-requires c κs =
     toward-workable _ _ _ _ _ (o .0) (l .inv .1) (l .inv .2)
 
 items-left-requires : tie.Need-items-left-requires Inv-loop μ-loop
-items-left-requires c κs = omega (arith, c .before .before .before .before .before .before .before .before .before .before .before .before .before .before .before .pre .0 .roomy .long, c .before .before .before .before .before .before .before .before .before .loop .inv .1, c .before .before .before .before .before .work-round .ensures .long)
+items-left-requires c κs =
+    let asked = c .before .before .before .before .before .before .before .before .before .before .before .before .before .before .before .pre in
+    let loop = c .before .before .before .before .before .before .before .before .before .loop in
+    let work-round = c .before .before .before .before .before .work-round in
+    omega (arith, asked .0 .roomy .long, loop .inv .1, work-round .ensures .long)
 
 loop-less : tie.Need-loop-less Inv-loop μ-loop
 loop-less c =
+    let test = c .before .before .before .before .before .before .before .before .before .loop-test in
+    let work-round = c .before .before .before .before .before .before .work-round in
     let o = c .before .before .before .before .before .before .before .before .before .before .before .before .before .before .before .before .pre in
-    rw (c .before .before .before .before .before .before .before .before .before .loop-test .taken) (toward-less _ _ _ _ _ _ _ _ (c .items-left .result) (o .0 .coded) (c .before .before .before .before .before .before .work-round .ensures) (c .items-left .ensures .1))
+    rw (test .taken) (toward-less _ _ _ _ _ _ _ _ (c .items-left .result) (o .0 .coded) (work-round .ensures) (c .items-left .ensures .1))
 
 loop-again : tie.Need-loop-again Inv-loop μ-loop
 loop-again c =
+    let work-round = c .before .before .before .before .before .before .work-round in
+    let slice-known4 = c .before .before .slice-known4 in
     let l = c .before .before .before .before .before .before .before .before .before .before .loop in
-    (λ i. omega (arith, c .before .before .slice-known4 .given i), c .before .before .before .before .before .before .work-round .ensures .long ∙ l .inv .1, toward-more _ _ _ _ _ _ _ _ _ _ (l .inv .2) (c .before .before .before .before .before .before .work-round .ensures) (c .items-left .ensures .0))
+    (λ i. omega (arith, slice-known4 .given i), work-round .ensures .long ∙ l .inv .1, toward-more _ _ _ _ _ _ _ _ _ _ (l .inv .2) (work-round .ensures) (c .items-left .ensures .0))
 
 same-length : tie.Need-same-length Inv-loop μ-loop
 same-length c = c .before .loop .inv .1

@@ -20,8 +20,9 @@ loop-holds c = (omega arith, columns-none _ _ _ _ _ _)
 
 work-column-requires : tie.Need-work-column-requires Inv-loop μ-loop
 work-column-requires c κs =
+    let loop = c .before .before .before .loop in
     let o = c .before .before .before .before .before .before .before .before .before .pre in
-    (works-workable _ _ _ _ _ o (c .before .before .before .loop .inv .1), omega arith)
+    (works-workable _ _ _ _ _ o (loop .inv .1), omega arith)
 
 add-q : tie.Need-add-q Inv-loop μ-loop
 add-q c = omega arith
@@ -30,7 +31,10 @@ loop-less : tie.Need-loop-less Inv-loop μ-loop
 loop-less c = omega arith
 
 loop-again : tie.Need-loop-again Inv-loop μ-loop
-loop-again c = (omega arith, columns-more _ _ _ _ _ (c .before .before .before .before .before .before .before .before .loop .inv .1) (c .before .before .before .before .work-column .ensures))
+loop-again c =
+    let loop = c .before .before .before .before .before .before .before .before .loop in
+    let work-column = c .before .before .before .before .work-column in
+    (omega arith, columns-more _ _ _ _ _ (loop .inv .1) (work-column .ensures))
 
 same-length : tie.Need-same-length Inv-loop μ-loop
 same-length c = c .before .loop .inv .1 .long
@@ -42,8 +46,10 @@ same-length-2 c =
 
 returns : tie.Need-returns Inv-loop μ-loop
 returns c =
-    let e : c .before .loop .q ≡ c .before .before .before .before .before .before .before .args .n = omega arith in
-    rw e at (c .before .loop .inv .1)
+    let a = c .before .before .before .before .before .before .before .args in
+    let loop = c .before .loop in
+    let e : loop .q ≡ a .n = omega arith in
+    rw e at (loop .inv .1)
 
 pub work-round-spec : {M : Type 1} → statement M
 work-round-spec =
