@@ -7,13 +7,11 @@ use native.Mathlib.Omega.{arith}
 use lib.ListN.{length, getD}
 use Rattle.spec_limits.specs.Limits.{mostClosed}
 use Rattle.spec_tilco.specs.Lowering.{program}
-use Rattle.spec_tilco.specs.Table.{words, Stands, Inside}
+use Rattle.spec_tilco.specs.Table.{words}
 use Rattle.spec_tilco.proofs.Order.{row-count, top-is-row}
 use Rattle.read_sheet.specs.Sheet.{meant}
 use Rattle.read_sheet.proofs.Accepted.{sheet-declared}
-use Rattle.close_rules.specs.Codes.{Coded}
-use Rattle.close_rules.specs.Moves.{Sized}
-use Rattle.close_list.specs.Items.{Roomy}
+use Rattle.close_list.specs.Workable.{Closable}
 use Rattle.open_sheet.specs.Ready.{Ready}
 use Rattle.open_table.proofs.Tables.{in-sheet, row-range}
 use Rattle.bench_closing.specs.Prepared.{Prepared, Lent}
@@ -40,14 +38,13 @@ words-64 = omega arith
 
 -- Closing can be asked for. No mark is outside a window that ends with the last word.
 pub settle-asks : {places B tops : List ℕ} {count t : ℕ} → Prepared places B tops count t → (D T : List ℕ) → Lent count D T
-    → Coded count B × (((t ≤ length tops) × ((i : ℕ) → i < t → getD tops i 0 < count)) × (Roomy count 64 D × (Sized 64 count mostClosed T × Inside mostClosed (Stands 64 T))))
+    → Closable count 64 mostClosed B D T × ((t ≤ length tops) × ((i : ℕ) → i < t → getD tops i 0 < count))
 settle-asks k D T l = (
-  k .coded,
-  (
-    (k .few, k .tops-are-rows),
-    (
-      record { most = k .most; long = omega (arith, k .most, l .list) },
-      (record { some = omega arith; most = omega arith; words-are = words-64; long = omega (arith, l .table) }, λ r t v i. omega (arith, i .within)),
-    ),
-  ),
+  record {
+    coded = k .coded;
+    roomy = record { most = k .most; long = omega (arith, k .most, l .list) };
+    sized = record { some = omega arith; most = omega arith; words-are = words-64; long = omega (arith, l .table) };
+    inside = λ r t v i. omega (arith, i .within);
+  },
+  (k .few, k .tops-are-rows),
 )

@@ -33,7 +33,7 @@ module _ (count : ℕ) (B : List ℕ) (n r q W : ℕ) where
   pub visits-signal : (T D : List ℕ) → kind count B r ≡ 0 → Visits count B r q W n T T D D
   visits-signal T D e = record {
     changed = 0;
-    each = λ P c inside. visited count B n r q W (Stands n T) P (idle n P W None T) (notes-none count B n (OneItem r q) None D 0 (λ x t v a. a))
+    each = λ P c. visited count B n r q W (Stands n T) P (idle n P W None T) (notes-none count B n (OneItem r q) None D 0 (λ x t v a. a))
         (subst (SettledIn q W (Stands n T) r) (sym (node-as count B r 0 e P c)) tt);
     past = λ h. refl;
   }

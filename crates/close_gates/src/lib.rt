@@ -3,17 +3,18 @@
 // word in a row. Assumes that the words are a program's rows, that the lists of parents are theirs, and that the table and the list of work have them.
 use close_store::mark_child;
 use close_store::mark_own;
+use spec_limits::ABOVE;
+use spec_limits::KINDS;
+use spec_limits::NUMBERS;
 use table_words::Words;
 use table_words::words_at;
 ghost use mathlib.Core.Path.{_≡_};
 ghost use Prim.Native.Nat.{ℕ, _%_, _<_};
 ghost use lib.ListN.{getD};
+ghost use Rattle.spec_limits.specs.Limits.{codeKinds};
 ghost use Rattle.spec_tilco.specs.Inference.{notOf, gate};
-ghost use Rattle.table_words.specs.Gains.{HasRow};
-ghost use Rattle.close_rules.specs.Codes.{Coded};
-ghost use Rattle.close_rules.specs.Moves.{Sized};
-ghost use Rattle.close_parents.specs.Links.{Linked};
-ghost use Rattle.close_list.specs.Items.{Roomy};
+ghost use Rattle.table_words.specs.Gains.{HasRows};
+ghost use Rattle.close_list.specs.Workable.{Queueable, Workable};
 ghost use Rattle.close_store.specs.Visits.{VisitsBy, Visits};
 
 // A visit to a row that is an And (u is true) or an Or of the rows a and b.
@@ -31,11 +32,8 @@ pub fn visit_gate(
     todo: &mut [u64],
     marks: &mut [u64],
 )
-    requires { ⌜ Coded count (now rows) ⌝ }
-    requires { ⌜ row < count ⌝ }
-    requires { ⌜ (q < n) × HasRow n (now marks) row × HasRow n (now marks) a × HasRow n (now marks) b × (a < row) × (b < row) ⌝ }
-    requires { ⌜ Linked count (now rows) (now heads) (now nexts) ⌝ }
-    requires { ⌜ Roomy count n (now todo) ⌝ }
+    requires { ⌜ Queueable count n (now rows) (now heads) (now nexts) (now todo) ⌝ }
+    requires { ⌜ HasRows n (now marks) count × (row < count) × (q < n) × (a < row) × (b < row) ⌝ }
     ensures { λ _. ⌜ ((W : ℕ) → VisitsBy (gate u a b) count (now (rows .entry)) row q W n (now (marks .entry)) (now (marks .exit)) (now (todo .entry)) (now (todo .exit))) ⌝ }
 {
     let r = words_at(marks, n, q, row, u);
@@ -75,11 +73,8 @@ pub fn visit_not(
     todo: &mut [u64],
     marks: &mut [u64],
 )
-    requires { ⌜ Coded count (now rows) ⌝ }
-    requires { ⌜ row < count ⌝ }
-    requires { ⌜ (q < n) × HasRow n (now marks) row × HasRow n (now marks) x × (x < row) ⌝ }
-    requires { ⌜ Linked count (now rows) (now heads) (now nexts) ⌝ }
-    requires { ⌜ Roomy count n (now todo) ⌝ }
+    requires { ⌜ Queueable count n (now rows) (now heads) (now nexts) (now todo) ⌝ }
+    requires { ⌜ HasRows n (now marks) count × (row < count) × (q < n) × (x < row) ⌝ }
     ensures { λ _. ⌜ ((W : ℕ) → VisitsBy (notOf x) count (now (rows .entry)) row q W n (now (marks .entry)) (now (marks .exit)) (now (todo .entry)) (now (todo .exit))) ⌝ }
 {
     let r = words_at(marks, n, q, row, true);
@@ -111,16 +106,13 @@ pub fn visit(
     todo: &mut [u64],
     marks: &mut [u64],
 )
-    requires { ⌜ Coded count (now rows) ⌝ }
-    requires { ⌜ (w ≡ getD (now rows) r 0) × (w % 8 ≡ 3 → ⊥) × (q < n) ⌝ }
-    requires { ⌜ Linked count (now rows) (now heads) (now nexts) ⌝ }
-    requires { ⌜ Roomy count n (now todo) ⌝ }
-    requires { ⌜ Sized n count window (now marks) ⌝ }
+    requires { ⌜ Workable count n window (now rows) (now heads) (now nexts) (now todo) (now marks) ⌝ }
+    requires { ⌜ (w ≡ getD (now rows) r 0) × (w % codeKinds ≡ 3 → ⊥) × (q < n) ⌝ }
     ensures { λ _. ⌜ Visits count (now (rows .entry)) r q window n (now (marks .entry)) (now (marks .exit)) (now (todo .entry)) (now (todo .exit)) ⌝ }
 {
-    let kind = w % 8;
-    let a = (w / 8 % 65536) as usize;
-    let b = (w / 524288) as usize;
+    let kind = w % KINDS;
+    let a = (w / KINDS % NUMBERS) as usize;
+    let b = (w / ABOVE) as usize;
     match kind {
         0 => {}
         1 => visit_gate(rows, count, r, q, n, a, b, true, heads, nexts, todo, marks),

@@ -15,7 +15,7 @@ use Rattle.spec_ticks.proofs.Bits.{or-left, or-right}
 use Rattle.spec_ticks.proofs.Shifts.{one-has}
 use Rattle.table_marks.proofs.Marks.{one-word}
 use Rattle.lower_rows.specs.Words.{rowAt}
-use Rattle.close_list.specs.Items.{per, Bit, Roomy, Enters, OwnItem, ItemsOf, ParentsAt, Touched}
+use Rattle.close_list.specs.Items.{per, Bit, ToDo, Roomy, Keeps, Enters, OwnItem, ItemsOf, ParentsAt, Touched}
 use Rattle.close_parents.specs.Links.{Reach, Falls, Linked}
 use Rattle.close_parents.proofs.Linking.{reach-next, reach-end, falls-next}
 use Rattle.close_list.proofs.ByKind.{rests-split}
@@ -36,19 +36,29 @@ words-few count n q D some l h =
     let b : 1 * n ≤ per count * n = mul-le-mul-right n (omega arith) in
     omega (arith, h .long)
 
+-- ---- nothing taken off
+pub keeps-none : (D : List ℕ) → Keeps D D
+keeps-none D = record { size = refl; kept = λ j b h. h }
+
+pub keeps-then : {D D′ D″ : List ℕ} → Keeps D D′ → Keeps D′ D″ → Keeps D D″
+keeps-then a b = record { size = b .size ∙ a .size; kept = λ j t h. b .kept j t (a .kept j t h) }
+
+-- An item that is to do stays to do.
+pub still-to-do : (count : ℕ) {D D′ : List ℕ} (r q : ℕ) → Keeps D D′ → ToDo count D r q → ToDo count D′ r q
+still-to-do count r q a = a .kept (q * per count + r / 64) (r % 64)
+
 -- ---- bits set
 pub enters-none : (Y : ℕ → ℕ → Type 0) (D : List ℕ) → ((i y : ℕ) → Y i y → ⊥) → Enters Y D D
-enters-none Y D f = record { size = refl; kept = λ j b h. h; each = λ i y h. absurd (f i y h) }
+enters-none Y D f = record { keeps = keeps-none D; each = λ i y h. absurd (f i y h) }
 
 pub enters-then : (Y Z : ℕ → ℕ → Type 0) {D D′ D″ : List ℕ} → Enters Y D D′ → Enters Z D′ D″ → Enters (λ i y. Y i y ⊎ Z i y) D D″
 enters-then Y Z a b = record {
-  size = b .size ∙ a .size;
-  kept = λ j t h. b .kept j t (a .kept j t h);
-  each = λ i y. ⊎-elim (λ h. b .kept (i + y / 64) (y % 64) (a .each i y h)) (b .each i y);
+  keeps = keeps-then (a .keeps) (b .keeps);
+  each = λ i y. ⊎-elim (λ h. b .keeps .kept (i + y / 64) (y % 64) (a .each i y h)) (b .each i y);
 }
 
 pub enters-as : (Y Z : ℕ → ℕ → Type 0) {D D′ : List ℕ} → ((i y : ℕ) → Z i y → Y i y) → Enters Y D D′ → Enters Z D D′
-enters-as Y Z f a = record { size = a .size; kept = a .kept; each = λ i y h. a .each i y (f i y h) }
+enters-as Y Z f a = record { keeps = a .keeps; each = λ i y h. a .each i y (f i y h) }
 
 -- The word joined with the bit of row y, as the code does it.
 module _ (D : List ℕ) (i y : ℕ) (inside : i + y / 64 < length D) where
@@ -75,8 +85,7 @@ module _ (D : List ℕ) (i y : ℕ) (inside : i + y / 64 < length D) where
 
   pub enters-one : Enters (λ j z. (j ≡ i) × (z ≡ y)) D (set D (i + y / 64) joined)
   enters-one = record {
-    size = length-set D (i + y / 64) joined;
-    kept = bit-kept;
+    keeps = record { size = length-set D (i + y / 64) joined; kept = bit-kept };
     each = λ j z h. rw (h .0, h .1) bit-set;
   }
 
@@ -100,22 +109,20 @@ module _ (stride n x : ℕ) (Q : ℕ → Type 0) where
 
 -- ---- along a list of parents: on the way from the list's start `head` to h
 pub record Walking (N : List ℕ) (count head h i : ℕ) (D D′ : List ℕ) : Type 0 where
-  pub size : length D′ ≡ length D
-  pub kept : (j b : ℕ) → Has (getD D j 0) b → Has (getD D′ j 0) b
+  pub keeps : Keeps D D′
   pub falls : Falls N (2 * count) h
   pub left : (y : ℕ) → Reach N head y → Bit D′ i y ⊎ Reach N h y
 
 module _ (N : List ℕ) (count head i : ℕ) (D : List ℕ) where
   pub walk-start : Falls N (2 * count) head → Walking N count head head i D D
-  walk-start f = record { size = refl; kept = λ j b h. h; falls = f; left = λ y r. inr r }
+  walk-start f = record { keeps = keeps-none D; falls = f; left = λ y r. inr r }
 
   pub walk-more : (h h′ : ℕ) (D′ D″ : List ℕ) → 0 < h → h′ ≡ getD N h 0 → Walking N count head h i D D′ → Enters (λ j z. (j ≡ i) × (z ≡ h / 2)) D′ D″
       → Walking N count head h′ i D D″
   walk-more h h′ D′ D″ some to w a = record {
-    size = a .size ∙ w .size;
-    kept = λ j b k. a .kept j b (w .kept j b k);
+    keeps = keeps-then (w .keeps) (a .keeps);
     falls = subst (Falls N (2 * count)) (sym to) (falls-next some (w .falls) .2);
-    left = λ y r. ⊎-elim (λ k. inl (a .kept (i + y / 64) (y % 64) k)) (λ k. next y k) (w .left y r);
+    left = λ y r. ⊎-elim (λ k. inl (a .keeps .kept (i + y / 64) (y % 64) k)) (λ k. next y k) (w .left y r);
   }
     where
       next : (y : ℕ) → Reach N h y → Bit D″ i y ⊎ Reach N h′ y
@@ -127,8 +134,7 @@ module _ (N : List ℕ) (count head i : ℕ) (D : List ℕ) where
 
   pub walk-end : (h : ℕ) (D′ : List ℕ) → h ≡ 0 → Walking N count head h i D D′ → Enters (λ j y. (j ≡ i) × Reach N head y) D D′
   walk-end h D′ e w = record {
-    size = w .size;
-    kept = w .kept;
+    keeps = w .keeps;
     each = λ j y k. rw (k .0) (⊎-elim (λ b. b) (λ b. absurd (reach-end N h y e b)) (w .left y (k .1)));
   }
 
@@ -138,10 +144,9 @@ pub touched : (count : ℕ) (B H N : List ℕ) (n x p : ℕ) (D D′ D″ : List
     → Enters (ParentsAt (per count) H N x p) D′ D″
     → Touched count B n x p D D″
 touched count B H N n x p D D′ D″ l k a b = record {
-  size = b .size ∙ a .size;
-  kept = λ r q g h i. b .kept (q * per count + r / 64) (r % 64) (a .kept (q * per count + r / 64) (r % 64) i);
+  keeps = keeps-then (a .keeps) (b .keeps);
   noted = λ r q g h s. ⊎-elim
       (λ e. subst (λ (v : ℕ). Bit D″ (v * per count) r) (e .1) (b .each (p * per count) r (refl, k .reach x r l g (e .0))))
-      (λ e. b .kept (q * per count + r / 64) (r % 64) (a .each (q * per count) r (sym (e .0), (q, (h, subst (λ (v : ℕ). OwnItem (rowAt B v) p q) (sym (e .0)) (e .1)), refl))))
+      (λ e. still-to-do count r q (b .keeps) (a .each (q * per count) r (sym (e .0), (q, (h, subst (λ (v : ℕ). OwnItem (rowAt B v) p q) (sym (e .0)) (e .1)), refl))))
       (rests-split (rowAt B r) r q x p s);
 }

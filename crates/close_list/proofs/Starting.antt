@@ -1,6 +1,6 @@
 -- The list started from the marks that stand: an item all of whose words are bare is settled, for every rule has a premise.
 -- Assumes nothing.
-use mathlib.Core.Path.{_≡_, refl, sym, _∙_, subst}
+use mathlib.Core.Path.{_≡_, refl, sym, subst}
 use mathlib.Core.Bool.{Bool, true, false, not}
 use mathlib.Core.List.{List}
 use mathlib.Core.Logic.{_⊎_, inl, inr, ⊎-elim}
@@ -19,6 +19,7 @@ use Rattle.close_rules.specs.Codes.{Coded}
 use Rattle.close_rules.specs.Settled.{SettledIn, Rests}
 use Rattle.close_list.specs.Items.{Touched, Starts, Done}
 use Rattle.close_list.proofs.ByKind.{rests-below}
+use Rattle.close_list.proofs.Noting.{keeps-none, keeps-then, still-to-do}
 
 -- Word p of row x has no mark.
 abbrev Bare : ℕ → List ℕ → ℕ → ℕ → Type 0
@@ -74,28 +75,25 @@ joined-bare n T x q z t v e i =
 module _ (count : ℕ) (B : List ℕ) (n : ℕ) (T D : List ℕ) where
   -- No word yet.
   pub starts-none : (X : ℕ → ℕ → Type 0) → ((x p : ℕ) → X x p → ⊥) → Starts count B n X T D D
-  starts-none X f = record { size = refl; kept = λ r q l h i. i; noted = λ x t v k i. absurd (f x (t / 64) k) }
+  starts-none X f = record { keeps = keeps-none D; noted = λ x t v k i. absurd (f x (t / 64) k) }
 
   -- The words X, and then the words Y.
   starts-then : (X Y Z : ℕ → ℕ → Type 0) {D′ D″ : List ℕ} → ((x p : ℕ) → Z x p → X x p ⊎ Y x p) → Starts count B n X T D D′ → Starts count B n Y T D′ D″ → Starts count B n Z T D D″
   starts-then X Y Z f a b = record {
-    size = b .size ∙ a .size;
-    kept = λ r q l h i. b .kept r q l h (a .kept r q l h i);
-    noted = λ x t v k i. ⊎-elim (λ g r q l h s. b .kept r q l h (a .noted x t v g i r q l h s)) (λ g. b .noted x t v g i) (f x (t / 64) k);
+    keeps = keeps-then (a .keeps) (b .keeps);
+    noted = λ x t v k i. ⊎-elim (λ g r q l h s. still-to-do count r q (b .keeps) (a .noted x t v g i r q l h s)) (λ g. b .noted x t v g i) (f x (t / 64) k);
   }
 
   -- A row's word q, with a mark or without.
   pub starts-touched : (x q : ℕ) (D′ D″ : List ℕ) → D″ ≡ D′ → Touched count B n x q D D′ → Starts count B n (λ y p. (y ≡ x) × (p ≡ q)) T D D″
   starts-touched x q D′ D″ is a = subst (Starts count B n (λ y p. (y ≡ x) × (p ≡ q)) T D) (sym is) (record {
-    size = a .size;
-    kept = a .kept;
+    keeps = a .keeps;
     noted = λ y t v k i r w l h s. a .noted r w l h (subst (λ (z : ℕ). Rests (rowAt B r) r w z q) (k .0) (subst (λ (z : ℕ). Rests (rowAt B r) r w y z) (k .1) s));
   })
 
   pub starts-bare : (x q : ℕ) (D′ : List ℕ) → D′ ≡ D → bitOr (word n T x q true) (word n T x q false) ≡ 0 → Starts count B n (λ y p. (y ≡ x) × (p ≡ q)) T D D′
   starts-bare x q D′ is z = subst (Starts count B n (λ y p. (y ≡ x) × (p ≡ q)) T D) (sym is) (record {
-    size = refl;
-    kept = λ r w l h i. i;
+    keeps = keeps-none D;
     noted = λ y t v k i. absurd (joined-bare n T x q z t v (k .1) (subst (λ (w : ℕ). Stands n T (mark w t v)) (k .0) i));
   })
 
@@ -110,7 +108,7 @@ module _ (count : ℕ) (B : List ℕ) (n : ℕ) (T D : List ℕ) where
 
   -- Fewer words.
   pub starts-as : (X Y : ℕ → ℕ → Type 0) (D′ : List ℕ) → ((x p : ℕ) → Y x p → X x p) → Starts count B n X T D D′ → Starts count B n Y T D D′
-  starts-as X Y D′ f a = record { size = a .size; kept = a .kept; noted = λ x t v k i. a .noted x t v (f x (t / 64) k) i }
+  starts-as X Y D′ f a = record { keeps = a .keeps; noted = λ x t v k i. a .noted x t v (f x (t / 64) k) i }
 
   -- Every word done: what is not on the list is settled.
   pub starts-done : (D′ : List ℕ) → Coded count B → Starts count B n (λ x p. (x < count) × (p < n)) T D D′ → (W : ℕ) → Done count B W n T D′

@@ -6,6 +6,7 @@ use mathlib.Core.List.{List}
 use mathlib.Core.Logic.{_⊎_}
 use Prim.Native.Nat.{ℕ, _+_, _*_, _/_, _%_, _≤_, _<_}
 use lib.ListN.{length, getD}
+use Rattle.spec_limits.specs.Limits.{mostRows}
 use Rattle.spec_ticks.specs.Ticks.{Has}
 use Rattle.lower_rows.specs.Words.{rowAt}
 use Rattle.spec_tilco.specs.Inference.{Node, signal, notOf, gate, look, mark, Marks}
@@ -32,15 +33,19 @@ NoItem r q = ⊥
 abbrev pub OneItem : ℕ → ℕ → ℕ → ℕ → Type 0
 OneItem r q s p = (s ≡ r) × (p ≡ q)
 
--- The list has a bit for every item of at most 1,024 rows.
+-- The list has a bit for every item, and there are not too many rows.
 pub record Roomy (count n : ℕ) (D : List ℕ) : Type 0 where
-  pub most : count ≤ 1024
+  pub most : count ≤ mostRows
   pub long : per count * n ≤ length D
+
+-- Nothing is taken off the list, and it keeps its length.
+pub record Keeps (D D′ : List ℕ) : Type 0 where
+  pub size : length D′ ≡ length D
+  pub kept : (j b : ℕ) → Has (getD D j 0) b → Has (getD D′ j 0) b
 
 -- Nothing is taken off the list, and for each i and y of Y row y's bit in the words from place i on is set.
 pub record Enters (Y : ℕ → ℕ → Type 0) (D D′ : List ℕ) : Type 0 where
-  pub size : length D′ ≡ length D
-  pub kept : (j b : ℕ) → Has (getD D j 0) b → Has (getD D′ j 0) b
+  pub keeps : Keeps D D′
   pub each : (i y : ℕ) → Y i y → Bit D′ i y
 
 -- The items of a row itself that rest on its word p, by its node: word q of them.
@@ -64,14 +69,12 @@ Noted count B n D x p = (r q : ℕ) → r < count → q < n → Rests (rowAt B r
 
 -- Nothing is taken off the list, and every item that rests on word p of row x is on it.
 pub record Touched (count : ℕ) (B : List ℕ) (n x p : ℕ) (D D′ : List ℕ) : Type 0 where
-  pub size : length D′ ≡ length D
-  pub kept : (r q : ℕ) → r < count → q < n → ToDo count D r q → ToDo count D′ r q
+  pub keeps : Keeps D D′
   pub noted : Noted count B n D′ x p
 
 -- Nothing is taken off the list, and every item that rests on a mark in one of the words X is on it: X has rows with a word of theirs.
 pub record Starts (count : ℕ) (B : List ℕ) (n : ℕ) (X : ℕ → ℕ → Type 0) (T D D′ : List ℕ) : Type 0 where
-  pub size : length D′ ≡ length D
-  pub kept : (r q : ℕ) → r < count → q < n → ToDo count D r q → ToDo count D′ r q
+  pub keeps : Keeps D D′
   pub noted : (x t : ℕ) (v : Bool) → X x (t / 64) → Stands n T (mark x t v) → Noted count B n D′ x (t / 64)
 
 -- Every item that is not on the list is settled, where what a look gives its child is among C.

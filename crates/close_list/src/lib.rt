@@ -1,13 +1,17 @@
 // The list of work: an item, a row and a word of 64 ticks, put on it, every item that rests on a word that changed, and all that it starts with.
 // The list has `stride` words for each word of ticks, one bit a row. Assumes that it has a bit for every item.
 use close_parents::index;
+use spec_limits::ABOVE;
+use spec_limits::KINDS;
 ghost use mathlib.Core.Path.{_≡_};
 ghost use Prim.Native.Nat.{ℕ, _+_, _*_, _/_, _<_, _≤_};
 ghost use lib.ListN.{length};
+ghost use Rattle.table_words.specs.Gains.{HasRows};
 ghost use Rattle.lower_rows.specs.Words.{rowAt};
 ghost use Rattle.close_rules.specs.Codes.{Coded};
-ghost use Rattle.close_parents.specs.Links.{Reach, Falls, Ended, Linked};
+ghost use Rattle.close_parents.specs.Links.{Reach, Falls, Ended};
 ghost use Rattle.close_list.specs.Items.{per, Roomy, Enters, OwnItem, ItemsOf, ParentsAt, Touched, Starts, Done};
+ghost use Rattle.close_list.specs.Workable.{Queueable};
 
 // Sets row y's bit in the words of the list from place i on.
 fn enter(todo: &mut [u64], i: usize, y: usize)
@@ -54,13 +58,13 @@ fn enter_own(rows: &[u64], count: usize, n: usize, q: usize, x: usize, todo: &mu
     ensures { λ _. ⌜ Enters (ItemsOf (per count) x (λ p. (p < n) × OwnItem (rowAt (now (rows .entry)) x) q p)) (now (todo .entry)) (now (todo .exit)) ⌝ }
 {
     let w = rows[x];
-    let kind = w % 8;
+    let kind = w % KINDS;
     let stride = (count + 63) / 64;
     if kind == 0 {
         return;
     }
     if kind == 3 {
-        let seen = q + (w / 524288 / 64) as usize;
+        let seen = q + (w / ABOVE / 64) as usize;
         enter_before(todo, stride, n, seen, x);
         enter_before(todo, stride, n, seen + 1, x);
         return;
@@ -99,10 +103,8 @@ pub fn touch(
     nexts: &[u16],
     todo: &mut [u64],
 )
-    requires { ⌜ Coded count (now rows) ⌝ }
+    requires { ⌜ Queueable count n (now rows) (now heads) (now nexts) (now todo) ⌝ }
     requires { ⌜ (x < count) × (q < n) ⌝ }
-    requires { ⌜ Linked count (now rows) (now heads) (now nexts) ⌝ }
-    requires { ⌜ Roomy count n (now todo) ⌝ }
     ensures { λ _. ⌜ Touched count (now (rows .entry)) n x q (now (todo .entry)) (now (todo .exit)) ⌝ }
 {
     enter_own(rows, count, n, q, x, todo);
@@ -120,10 +122,8 @@ fn start_column(
     todo: &mut [u64],
     marks: &[u64],
 )
-    requires { ⌜ Coded count (now rows) ⌝ }
-    requires { ⌜ (q < n) × (2 * count * n ≤ length (now marks)) ⌝ }
-    requires { ⌜ Linked count (now rows) (now heads) (now nexts) ⌝ }
-    requires { ⌜ Roomy count n (now todo) ⌝ }
+    requires { ⌜ Queueable count n (now rows) (now heads) (now nexts) (now todo) ⌝ }
+    requires { ⌜ (q < n) × HasRows n (now marks) count ⌝ }
     ensures { λ _. ⌜ Starts count (now (rows .entry)) n (λ x p. (x < count) × (p ≡ q)) (now (marks .entry)) (now (todo .entry)) (now (todo .exit)) ⌝ }
 {
     let mut x: usize = 0;
@@ -149,10 +149,8 @@ pub fn start(
     todo: &mut [u64],
     marks: &[u64],
 )
-    requires { ⌜ Coded count (now rows) ⌝ }
-    requires { ⌜ 2 * count * n ≤ length (now marks) ⌝ }
-    requires { ⌜ Linked count (now rows) (now heads) (now nexts) ⌝ }
-    requires { ⌜ Roomy count n (now todo) ⌝ }
+    requires { ⌜ Queueable count n (now rows) (now heads) (now nexts) (now todo) ⌝ }
+    requires { ⌜ HasRows n (now marks) count ⌝ }
     ensures { λ _. ⌜ ((W : ℕ) → Done count (now (rows .entry)) W n (now (marks .entry)) (now (todo .exit))) ⌝ }
 {
     let mut q: usize = 0;

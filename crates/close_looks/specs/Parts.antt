@@ -6,13 +6,21 @@ use Prim.Native.Nat.{ℕ, _+_, _-_, _/_, _≤_, _<_}
 use Rattle.spec_tilco.specs.Inference.{Marks}
 use Rattle.table_words.specs.Gains.{Ticks, Reads}
 use Rattle.close_rules.specs.Settled.{LookTo}
-use Rattle.close_rules.specs.Moves.{WroteBefore, ByLook}
+use Rattle.close_rules.specs.Moves.{WroteBefore, Gathered, ByLook}
 use Rattle.close_list.specs.Items.{per}
 use Rattle.close_store.specs.Visits.{EntersIf, LookItems}
+use Rattle.table_words.specs.declared.Words.{Words}
+use Rattle.close_looks.specs.declared.Child.{Child}
 
--- Word q of row c is at hand: its marks of true and of false are v and w, and `here` are the window's ticks in it.
-abbrev pub Sees : ℕ → ℕ → List ℕ → ℕ → ℕ → ℕ → ℕ → ℕ → Type 0
-Sees n W T c q v w here = (q < n) × Ticks q here (λ t. t < W) × Reads n T q c true v w
+-- The child's word is at hand: its marks of true and of false are as they stand in the table, and so are the window's ticks in it.
+pub record Sees (n W : ℕ) (T : List ℕ) (c : Child) : Type 0 where
+  pub within : c .q < n
+  pub window : Ticks (c .q) (c .here) (λ t. t < W)
+  pub reads : Reads n T (c .q) (c .row) true (c .words .this) (c .words .other)
+
+-- The marks gathered for the child's word.
+abbrev pub GatheredFor : Child → Words → Marks
+GatheredFor c g = Gathered (c .row) (c .q) (g .this) (g .other)
 
 -- Where a look's rules about the lower ticks of its child's word q (true), or about the upper ones, change its row's word, the other item of the row that rests on
 -- that word is the one before this.

@@ -13,11 +13,11 @@ ghost use Prim.Native.Nat.{_+_, _^_, _<_};
 ghost use Rattle.spec_tilco.specs.Table.{words};
 ghost use Rattle.table_words.specs.Gains.{HasRow};
 ghost use Rattle.close_shift.specs.Moved.{endOf, apart};
-ghost use Rattle.close_rules.specs.Moves.{Gathered};
-ghost use Rattle.close_parents.specs.Links.{Ended, Linked};
+ghost use Rattle.close_parents.specs.Links.{Ended};
 ghost use Rattle.close_list.specs.Items.{Roomy};
+ghost use Rattle.close_list.specs.Workable.{Workable};
 ghost use Rattle.close_store.specs.Visits.{Looks};
-ghost use Rattle.close_looks.specs.Parts.{Sees, nextOf, LooksFrom};
+ghost use Rattle.close_looks.specs.Parts.{Sees, GatheredFor, nextOf, LooksFrom};
 
 // A row that looks see: the number of a word of it, its marks there, and the window's ticks there.
 pub struct Child {
@@ -30,7 +30,7 @@ pub struct Child {
 // Word q of a row, for looks at it.
 pub fn child_at(marks: &[u64], n: usize, q: usize, row: usize, window: usize) -> Child
     requires { ⌜ (q < n) × HasRow n (now marks) row × (n ≡ words window) ⌝ }
-    ensures { λ c. ⌜ (c .row ≡ row) × (c .q ≡ q) × Sees n window (now (marks .entry)) (c .row) (c .q) (c .words .this) (c .words .other) (c .here) ⌝ }
+    ensures { λ c. ⌜ (c .row ≡ row) × (c .q ≡ q) × Sees n window (now (marks .entry)) c ⌝ }
 {
     let words = words_at(marks, n, q, row, true);
     let here = window_word(window, q);
@@ -86,11 +86,11 @@ fn look_part(
     marks: &mut [u64],
 ) -> Words
     requires { ⌜ (row < count) × HasRow n (now marks) row × (child .row < row) × (n ≡ words window) ⌝ }
-    requires { ⌜ Sees n window (now marks) (child .row) (child .q) (child .words .this) (child .words .other) (child .here) ⌝ }
+    requires { ⌜ Sees n window (now marks) child ⌝ }
     requires { ⌜ Ended count (now heads) (now nexts) ⌝ }
     requires { ⌜ Roomy count n (now todo) ⌝ }
-    ensures { λ g. ⌜ LooksFrom (endOf up (child .q)) (nextOf up (child .q)) count (now (heads .entry)) (now (nexts .entry)) row offset (child .row) (child .q) window n (Gathered (child .row) (child .q) (given .this) (given .other)) (Gathered (child .row) (child .q) (g .this) (g .other)) (now (marks .entry)) (now (marks .exit)) (now (todo .entry)) (now (todo .exit)) ⌝ }
-    ensures { λ _. ⌜ Sees n window (now (marks .exit)) (child .row) (child .q) (child .words .this) (child .words .other) (child .here) ⌝ }
+    ensures { λ g. ⌜ LooksFrom (endOf up (child .q)) (nextOf up (child .q)) count (now (heads .entry)) (now (nexts .entry)) row offset (child .row) (child .q) window n (GatheredFor child given) (GatheredFor child g) (now (marks .entry)) (now (marks .exit)) (now (todo .entry)) (now (todo .exit)) ⌝ }
+    ensures { λ _. ⌜ Sees n window (now (marks .exit)) child ⌝ }
 {
     let q = child.q;
     let part = part_of(q, offset, up);
@@ -130,12 +130,11 @@ pub fn visit_look(
     todo: &mut [u64],
     marks: &mut [u64],
 ) -> Words
-    requires { ⌜ (row < count) × HasRow n (now marks) row × (child .row < row) × (n ≡ words window) ⌝ }
-    requires { ⌜ Sees n window (now marks) (child .row) (child .q) (child .words .this) (child .words .other) (child .here) ⌝ }
-    requires { ⌜ Linked count (now rows) (now heads) (now nexts) ⌝ }
-    requires { ⌜ Roomy count n (now todo) ⌝ }
-    ensures { λ g. ⌜ Looks offset (child .row) count (now (rows .entry)) row (child .q) window n (Gathered (child .row) (child .q) (given .this) (given .other)) (Gathered (child .row) (child .q) (g .this) (g .other)) (now (marks .entry)) (now (marks .exit)) (now (todo .entry)) (now (todo .exit)) ⌝ }
-    ensures { λ _. ⌜ Sees n window (now (marks .exit)) (child .row) (child .q) (child .words .this) (child .words .other) (child .here) ⌝ }
+    requires { ⌜ Workable count n window (now rows) (now heads) (now nexts) (now todo) (now marks) ⌝ }
+    requires { ⌜ (row < count) × (child .row < row) ⌝ }
+    requires { ⌜ Sees n window (now marks) child ⌝ }
+    ensures { λ g. ⌜ Looks offset (child .row) count (now (rows .entry)) row (child .q) window n (GatheredFor child given) (GatheredFor child g) (now (marks .entry)) (now (marks .exit)) (now (todo .entry)) (now (todo .exit)) ⌝ }
+    ensures { λ _. ⌜ Sees n window (now (marks .exit)) child ⌝ }
 {
     let g = look_part(
         count,

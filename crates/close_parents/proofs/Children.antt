@@ -6,8 +6,8 @@ use Prim.Native.Nat.{ℕ, zero, suc, _≤_, _<_}
 use native.Mathlib.Omega.{arith}
 use Rattle.lower_rows.specs.Words.{unpacked, rowAt}
 use Rattle.spec_tilco.specs.Inference.{Node, signal, notOf, gate, look}
-use Rattle.close_rules.specs.Codes.{Fine, Coded}
-use Rattle.close_rules.proofs.Decoding.{kind, left, right}
+use Rattle.close_rules.specs.Codes.{Fine, Coded, LooksAt}
+use Rattle.close_rules.proofs.Decoding.{kind, left, right, look-kind, look-child}
 use Rattle.close_parents.specs.Links.{Child}
 
 -- A row's node is as codes say.
@@ -60,6 +60,10 @@ module _ (count : ℕ) (B : List ℕ) (r : ℕ) where
 
     pub right-below : kind count B r ≤ 2 → right count B r < r
     right-below l = second-below (kind count B r) (left count B r) (right count B r) r some l (fine-row count B r c)
+
+  -- A look's child, told by the start of the look's word.
+  pub look-below : (c : ℕ) → LooksAt B r c → Coded count B → c < r
+  look-below c e k = omega (arith, look-child count B r c e, left-below k (λ z. omega (arith, z, look-kind count B r c e)))
 
   pub row-no-child : kind count B r ≡ 0 → (x : ℕ) → Child (rowAt B r) x → ⊥
   row-no-child e x h = no-child (kind count B r) (left count B r) (right count B r) x e h

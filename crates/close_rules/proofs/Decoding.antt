@@ -1,4 +1,4 @@
--- A row of the program by its word: its node, and what the table has for its rules.
+-- A row of the program by its word, and the words of a table that has the rows.
 -- Assumes nothing.
 use mathlib.Core.Path.{_≡_, refl, sym, ap, _∙_, subst}
 use mathlib.Core.List.{List}
@@ -7,12 +7,13 @@ use Prim.Native.Nat.{ℕ, zero, suc, _+_, _-_, _*_, _/_, _%_, _≤_, _<_}
 use native.Mathlib.Nat.{mul-le-mul-right}
 use native.Mathlib.Omega.{arith}
 use lib.ListN.{length, getD, List·getD-eq-default}
+use Rattle.spec_limits.specs.Limits.{codeKinds, codeNumbers}
 use Rattle.spec_ticks.proofs.Bits.{lt-or-ge}
 use Rattle.spec_tilco.specs.Inference.{Node, signal, notOf, gate, look, Program, node}
 use Rattle.spec_tilco.specs.Table.{words}
 use Rattle.lower_rows.specs.Words.{unpacked, rowAt}
-use Rattle.close_rules.specs.Codes.{Fine, Codes, Coded}
-use Rattle.table_words.specs.Gains.{HasRow}
+use Rattle.close_rules.specs.Codes.{Codes, Coded, LooksAt}
+use Rattle.table_words.specs.Gains.{HasRow, HasRows}
 use Rattle.close_rules.specs.Moves.{Sized}
 
 -- A word of a row lies in the window.
@@ -25,11 +26,11 @@ pub words-cover : (W n : ℕ) → n ≡ words W → W ≤ n * 64
 unfolding words
 words-cover W n e = omega arith
 
--- The table has every row of the program.
-pub has-row : (n count W : ℕ) (T : List ℕ) (x : ℕ) → Sized n count W T → x < count → HasRow n T x
-has-row n count W T x s l =
+-- A table that has the rows has each of them.
+pub has-row : (n count : ℕ) (T : List ℕ) (x : ℕ) → HasRows n T count → x < count → HasRow n T x
+has-row n count T x s l =
     let b : 2 * (x + 1) * n ≤ 2 * count * n = mul-le-mul-right n (omega arith) in
-    omega (arith, s .long)
+    omega arith
 
 -- A table of the same length is as large.
 pub sized-as : {n count W : ℕ} {T T′ : List ℕ} → length T′ ≡ length T → Sized n count W T → Sized n count W T′
@@ -50,19 +51,19 @@ signal-kind (suc (suc (suc zero))) a b e = absurd (subst Ruled e tt)
 signal-kind (suc (suc (suc (suc k)))) a b e = absurd (subst Ruled e tt)
 
 -- A look's word starts with its kind and its child.
-pub look-start : (w : ℕ) → w % 8 ≡ 3 → w % 524288 ≡ 8 * (w % 524288 / 8) + 3
-look-start w e = omega arith
+pub look-start : (B : List ℕ) (r : ℕ) → getD B r 0 % codeKinds ≡ 3 → LooksAt B r (getD B r 0 % (codeKinds * codeNumbers) / codeKinds)
+look-start B r e = omega arith
 
 module _ (count : ℕ) (B : List ℕ) (r : ℕ) where
   -- the kind and the two numbers of the row's word
   abbrev pub kind : ℕ
-  kind = getD B r 0 % 8
+  kind = getD B r 0 % codeKinds
 
   abbrev pub left : ℕ
-  left = getD B r 0 / 8 % 65536
+  left = getD B r 0 / codeKinds % codeNumbers
 
   abbrev pub right : ℕ
-  right = getD B r 0 / 524288
+  right = getD B r 0 / (codeKinds * codeNumbers)
 
   -- a kind past a look's: a not-row's
   abbrev pub past : ℕ
@@ -80,7 +81,7 @@ module _ (count : ℕ) (B : List ℕ) (r : ℕ) where
       past-rows l = List·getD-eq-default (c .program .rows) signal (omega (arith, c .codes .rows-are))
 
   -- A look at row c, told by the start of its word: its kind and its child.
-  module _ (c : ℕ) (e : getD B r 0 % 524288 ≡ 8 * c + 3) where
+  module _ (c : ℕ) (e : LooksAt B r c) where
     pub look-kind : kind ≡ 3
     look-kind = omega arith
 
@@ -92,24 +93,3 @@ module _ (count : ℕ) (B : List ℕ) (r : ℕ) where
 
     pub look-in : Coded count B → r < count
     look-in k = row-in k (λ z. omega (arith, z, look-kind))
-
-  fine-as : (k : ℕ) → kind ≡ k → Coded count B → Fine r (unpacked k left right)
-  fine-as k e c = subst (Fine r) (node-as k e (c .program) (c .codes)) (c .codes .fine r)
-
-  module _ (hi : r < count) (n q W : ℕ) (T : List ℕ) (c : Coded count B) (s : Sized n count W T) (l : q < n) where
-    abbrev has : (x : ℕ) → x < count → HasRow n T x
-    has x h = has-row n count W T x s h
-
-    -- What the rules of each kind ask of the table.
-    pub gate-asks : (kind ≡ 1) ⊎ (kind ≡ 2) → (q < n) × HasRow n T r × HasRow n T left × HasRow n T right × (left < r) × (right < r)
-    gate-asks k =
-        let f = ⊎-elim (λ e. fine-as 1 e c) (λ e. fine-as 2 e c) k in
-        (l, has r hi, has left (omega (arith, f .0)), has right (omega (arith, f .1)), f .0, f .1)
-
-    pub look-asks : kind ≡ 3 → (q < n) × HasRow n T r × HasRow n T left × (left < r) × (right ≤ 127) × (n ≡ words W)
-    look-asks e =
-        let f = fine-as 3 e c in
-        (l, has r hi, has left (omega (arith, f .0)), f .0, f .2, s .words-are)
-
-    pub not-asks : 4 ≤ kind → (q < n) × HasRow n T r × HasRow n T left × (left < r)
-    not-asks h = let f = fine-as past (omega arith) c in (l, has r hi, has left (omega arith), f)

@@ -16,7 +16,7 @@ use Rattle.close_rules.specs.Settled.{SettledTo, SettledIn, LookTo, From
 use Rattle.close_rules.specs.Moves.{Moves, Wrote, WroteBefore, GateWrote, LookWrote, Gives, Gathered, ByNode, ByLook}
 use Rattle.table_words.proofs.OneWord.{both-ticks, either-ticks}
 use Rattle.table_words.proofs.Gaining.{here-as, sides-as}
-use Rattle.close_rules.proofs.Moving.{idle, weaker, then, keeps-inside, joins-move}
+use Rattle.close_rules.proofs.Moving.{infers-inside, idle, weaker, then, joins-move}
 use Rattle.close_rules.proofs.Settling.{ran, turned, Whole, Part, gate-in, by-value, not-in, look-in}
 
 -- A row's children are other rows.
@@ -84,10 +84,10 @@ module _ (n q : ℕ) (T₀ T₁ T₂ T₃ : List ℕ) (r a b : ℕ) (u : Bool) (
   right-joins = sides-as b u q right (bitAnd part left) Right (λ t. Any t × Left t) rights (both-ticks q part left Any Left parts lefts) k
 
   pub gate-steps : (W : ℕ) → ByNode (gate u a b) r (GateWrote r a b q x y z) (λ S. SettledIn q W S r (gate u a b)) W n T₀ T₃ (x + (y + z))
-  gate-steps W P e inside =
+  gate-steps W P e =
       let m₁ = word-moves n P W q T₀ r u (λ t. Left t × Right t) Any (λ m h. h) row-joins (λ t h. two (up-both e) (of-left t (h .0)) (of-right t (h .1))) of-any in
-      let m₂ = word-moves n P W q T₀ a u Left (λ t. Any t × Right t) (m₁ .grows) left-joins of-left (λ t h. two (rest-left e) (of-any t (h .0)) (of-right t (h .1))) in
-      let m₃ = word-moves n P W q T₀ b u Right (λ t. Any t × Left t) (λ m h. m₂ .grows m (m₁ .grows m h)) right-joins of-right (λ t h. two (rest-right e) (of-any t (h .0)) (of-left t (h .1))) in (
+      let m₂ = word-moves n P W q T₀ a u Left (λ t. Any t × Right t) (m₁ .infers .grows) left-joins of-left (λ t h. two (rest-left e) (of-any t (h .0)) (of-right t (h .1))) in
+      let m₃ = word-moves n P W q T₀ b u Right (λ t. Any t × Left t) (λ m h. m₂ .infers .grows m (m₁ .infers .grows m h)) right-joins of-right (λ t h. two (rest-right e) (of-any t (h .0)) (of-left t (h .1))) in (
         then n P W m₁ (then n P W m₂ m₃),
         gate-in (above la) (above lb) (ran n T₀ T₁ q r u (λ t. Left t × Right t) Any x row-joins) (ran n T₁ T₂ q a u Left (λ t. Any t × Right t) y left-joins)
             (ran n T₂ T₃ q b u Right (λ t. Any t × Left t) z right-joins),
@@ -118,9 +118,9 @@ module _ (n q : ℕ) (T₀ T₁ T₂ : List ℕ) (r c x y : ℕ) (l : c < r) {r�
   child-joins = sides-as c true q r₀ r₁ (Is r false) (Is r true) (own .other) (own .this) j
 
   pub not-steps : (W : ℕ) → ByNode (notOf c) r (_or_ (Wrote r q x) (Wrote c q y)) (λ S. SettledIn q W S r (notOf c)) W n T₀ T₂ (x + y)
-  not-steps W P e inside =
+  not-steps W P e =
       let m = word-moves n P W q T₀ r true (Is c false) (Is c true) (λ m h. h) own-joins (λ t h. one (not-up {v = false} e) (start h)) (λ t h. one (not-up {v = true} e) (start h)) in
-      let k = word-moves n P W q T₀ c true (Is r false) (Is r true) (m .grows) child-joins (λ t h. one (not-down {v = false} e) (start h)) (λ t h. one (not-down {v = true} e) (start h)) in
+      let k = word-moves n P W q T₀ c true (Is r false) (Is r true) (m .infers .grows) child-joins (λ t h. one (not-down {v = false} e) (start h)) (λ t h. one (not-down {v = true} e) (start h)) in
       let f = ran n T₀ T₁ q r true (Is c false) (Is c true) x own-joins in
       let g = ran n T₁ T₂ q c true (Is r false) (Is r true) y child-joins in
       (then n P W m k, λ t v o. by-value (Opposite t) (not-in (above l) f g t o) (not-in (above l) (turned f) (turned g) t o) v)
@@ -183,7 +183,7 @@ module _ (n q e p r c o W : ℕ) (T T′ : List ℕ) (x : ℕ) (l : c < r) (at :
           as-mark y k i = subst₂ (λ (a : ℕ) (b : Bool). Derives P W (Stands n T) (mark a s b)) (sym y) (sym k) i
 
           down : (w : Bool) → Down w s → Derives P W (Stands n T) (mark c s w)
-          down w h = one (look-down {t = h .1 .0} {s = s} d (h .1 .2) (keeps-inside n P W m inside r (h .1 .0) w (h .1 .3)) (h .0)) (m .sound (mark r (h .1 .0) w) (h .1 .3))
+          down w h = one (look-down {t = h .1 .0} {s = s} d (h .1 .2) (infers-inside (m .infers) inside r (h .1 .0) w (h .1 .3)) (h .0)) (m .infers .sound (mark r (h .1 .0) w) (h .1 .3))
 
 -- No tick of the child's word q is looked at from the word e - o / 64.
 pub no-steps : (n q : ℕ) (T : List ℕ) (r c o W e : ℕ) (G : Marks) → ((t s : ℕ) → Shifted t o s → t < W → s / 64 ≡ q → e ≡ t / 64 + o / 64 → ⊥)
@@ -198,15 +198,15 @@ pub look-steps : (n q : ℕ) (T₀ T₁ T₂ : List ℕ) (r c o W x y : ℕ) (G 
     → ByLook o c r (LookWrote r (o / 64) q x y) (λ S. SettledTo G″ q W S r (look o c)) G G″ W n T₀ T₂ (x + y)
 look-steps n q T₀ T₁ T₂ r c o W x y G G′ G″ l f g P e inside =
     let m = f P e inside in
-    let k = g P e (keeps-inside n P W (m .0) inside) in (
+    let k = g P e (infers-inside (m .0 .infers) inside) in (
       then n P W (m .0) (k .0),
       λ t s v d a b h. ⊎-elim (λ i. let z = m .1 t s v d a b h i in (
         λ j. k .2 .grows (mark c s v) (z .0 (⊎-elim (λ u. u) (λ u. absurd (omega (arith, u .1))) (k .0 .only (mark r t v) j))),
-        λ j. k .0 .grows (mark r t v) (z .1 (⊎-elim (λ u. u) (λ u. absurd (above l (sym (u .0)))) (k .0 .only (mark c s v) j))),
+        λ j. k .0 .infers .grows (mark r t v) (z .1 (⊎-elim (λ u. u) (λ u. absurd (above l (sym (u .0)))) (k .0 .only (mark c s v) j))),
       )) (λ i. k .1 t s v d a b h i) (word t s d h),
       record {
         grows = λ i j. k .2 .grows i (m .2 .grows i j);
-        sound = λ i j. ⊎-elim (m .2 .sound i) (λ u. inr (cut (m .0 .sound) u)) (k .2 .sound i j);
+        sound = λ i j. ⊎-elim (m .2 .sound i) (λ u. inr (cut (m .0 .infers .sound) u)) (k .2 .sound i j);
       },
     )
   where

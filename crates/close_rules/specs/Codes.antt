@@ -2,8 +2,9 @@
 -- Assumes nothing. A buffer's index is the row's number.
 use mathlib.Core.Path.{_≡_}
 use mathlib.Core.List.{List, List·Memᴰ}
-use Prim.Native.Nat.{ℕ, _+_, _*_, _/_, _≤_, _<_}
+use Prim.Native.Nat.{ℕ, _+_, _*_, _/_, _%_, _≤_, _<_}
 use lib.ListN.{length, getD}
+use Rattle.spec_limits.specs.Limits.{codeKinds, codeNumbers}
 use Rattle.lower_rows.specs.Words.{rowAt}
 use Rattle.spec_tilco.specs.Inference.{Node, signal, notOf, gate, look, Program, node}
 
@@ -25,6 +26,10 @@ pub record Codes (P : Program) (count : ℕ) (B : List ℕ) : Type 0 where
 pub record Coded (count : ℕ) (B : List ℕ) : Type 0 where
   pub program : Program
   pub codes : Codes program count B
+
+-- The word of row r starts as that of a look at row c: with its kind and its child.
+abbrev pub LooksAt : List ℕ → ℕ → ℕ → Type 0
+LooksAt B r c = getD B r 0 % (codeKinds * codeNumbers) ≡ codeKinds * c + 3
 
 -- The first k words in B are the top rows of P.
 pub record TopsAre (P : Program) (B : List ℕ) (k : ℕ) : Type 0 where

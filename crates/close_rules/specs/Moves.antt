@@ -5,21 +5,24 @@ use mathlib.Core.Path.{_≡_}
 use mathlib.Core.Bool.{Bool, true, false}
 use mathlib.Core.List.{List}
 use mathlib.Core.Logic.{_⊎_}
-use Prim.Native.Nat.{ℕ, _+_, _*_, _/_, _≤_, _<_}
+use Prim.Native.Nat.{ℕ, _+_, _/_, _≤_, _<_}
 use lib.ListN.{length}
+use Rattle.spec_limits.specs.Limits.{mostClosed}
 use Rattle.spec_tilco.specs.Inference.{Node, look, Program, node, Mark, mark, Marks, Derives, _or_}
 use Rattle.spec_tilco.specs.Table.{words, Stands, Inside}
-use Rattle.table_words.specs.Gains.{Ticks, Sides, Bits, room}
+use Rattle.table_words.specs.Gains.{HasRows, Ticks, Sides, Bits, Tells}
 
--- Nothing is lost, all that is new follows and is among the marks A; if nothing changed the table is the same, else its words have less
--- room to grow.
-pub record Moves (n : ℕ) (P : Program) (W : ℕ) (A : Marks) (T T′ : List ℕ) (changed : ℕ) : Type 0 where
+-- Inference leads from T to T′: no mark is lost, every new mark follows, and the length stays.
+pub record Infers (n : ℕ) (P : Program) (W : ℕ) (T T′ : List ℕ) : Type 0 where
   pub size : length T′ ≡ length T
   pub grows : (m : Mark) → Stands n T m → Stands n T′ m
   pub sound : (m : Mark) → Stands n T′ m → Derives P W (Stands n T) m
+
+-- Inference in which only marks of A are new; the number tells whether the table changed.
+pub record Moves (n : ℕ) (P : Program) (W : ℕ) (A : Marks) (T T′ : List ℕ) (changed : ℕ) : Type 0 where
+  pub infers : Infers n P W T T′
   pub only : (m : Mark) → Stands n T′ m → (_or_ (Stands n T) A) m
-  pub still : changed ≡ 0 → T′ ≡ T
-  pub moved : 0 < changed → room T′ < room T
+  pub tells : Tells T T′ changed
 
 -- The marks of row x's word q, if it is told that this word changed.
 abbrev pub Wrote : ℕ → ℕ → ℕ → Marks
@@ -59,11 +62,11 @@ ByLook k c r A C G G′ W n T T′ changed =
 
 -- What a function does for every program in which row r is the node d: only the marks A are new, and C holds of the marks then.
 abbrev pub ByNode : Node → ℕ → Marks → (Marks → Type 0) → ℕ → ℕ → List ℕ → List ℕ → ℕ → Type 0
-ByNode d r A C W n T T′ changed = (P : Program) → node P r ≡ d → Inside W (Stands n T) → Moves n P W A T T′ changed × C (Stands n T′)
+ByNode d r A C W n T T′ changed = (P : Program) → node P r ≡ d → Moves n P W A T T′ changed × C (Stands n T′)
 
 -- The table has n words for each value of `count` rows, and they cover the window.
 pub record Sized (n count W : ℕ) (T : List ℕ) : Type 0 where
   pub some : 1 ≤ W
-  pub most : W ≤ 4096
+  pub most : W ≤ mostClosed
   pub words-are : n ≡ words W
-  pub long : 2 * count * n ≤ length T
+  pub long : HasRows n T count

@@ -5,9 +5,8 @@ use mathlib.Core.Bool.{Bool, not}
 use mathlib.Core.List.{List}
 use mathlib.Core.Logic.{_⊎_}
 use Prim.Native.Nat.{ℕ, _+_, _/_, _<_}
-use Rattle.spec_tilco.specs.Inference.{Node, signal, notOf, gate, look, mark, Marks, Shifted}
+use Rattle.spec_tilco.specs.Inference.{Node, signal, notOf, gate, look, mark, Marks, Shifted, GateSettled}
 use Rattle.spec_tilco.specs.Table.{Stands}
-use Rattle.spec_tilco.proofs.Closing.{GateSettled}
 
 -- The rules of row r, by its node, add nothing to the ticks of word q, and what a look gives its child is among C; a look's ticks are its child's.
 abbrev pub SettledTo : Marks → ℕ → ℕ → Marks → ℕ → Node → Type 0

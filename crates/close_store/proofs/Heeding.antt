@@ -3,22 +3,22 @@ use mathlib.Core.Path.{_≡_, refl, sym, _∙_, subst}
 use mathlib.Core.Bool.{Bool}
 use mathlib.Core.List.{List}
 use mathlib.Core.Logic.{_⊎_, inl, inr, ⊎-elim}
-use Prim.Native.Nat.{ℕ, _+_, _*_, _/_, _%_, _<_}
+use Prim.Native.Nat.{ℕ, _+_, _*_, _/_, _<_}
 use native.Mathlib.Omega.{arith}
 use Rattle.lower_rows.specs.Words.{rowAt}
 use Rattle.spec_tilco.specs.Inference.{Node, look, Program, node, mark, Marks, _or_}
-use Rattle.spec_tilco.specs.Table.{Stands}
+use Rattle.spec_tilco.specs.Table.{Stands, Inside}
 use Rattle.close_rules.specs.Settled.{SettledTo, SettledIn, Rests}
 use Rattle.close_rules.specs.Moves.{Moves, Wrote, WroteBefore, ByNode, ByLook}
 use Rattle.close_parents.specs.Links.{Linked}
 use Rattle.close_list.specs.Items.{per, Bit, ToDo, NoItem, OneItem, Enters, ItemsOf, ParentsAt, Touched}
 use Rattle.close_list.proofs.ByKind.{rests-split}
-use Rattle.close_list.proofs.Noting.{enters-as, enters-then}
+use Rattle.close_list.proofs.Noting.{keeps-none, keeps-then, still-to-do, enters-as, enters-then}
 use Rattle.close_store.specs.Visits.{Visited, VisitsBy, Looks, Notes, EntersIf, LookItems}
 
 -- ---- bits set if something changed
 pub enters-if-not : (Y : ℕ → ℕ → Type 0) (D : List ℕ) (told : ℕ) → told ≡ 0 → EntersIf Y D D told
-enters-if-not Y D told z = record { enters = record { size = refl; kept = λ j b h. h; each = λ i y h. absurd (omega (arith, h .0)) }; still = λ e. refl }
+enters-if-not Y D told z = record { enters = record { keeps = keeps-none D; each = λ i y h. absurd (omega (arith, h .0)) }; still = λ e. refl }
 
 pub enters-if : (Y : ℕ → ℕ → Type 0) {D D′ : List ℕ} (told : ℕ) → 0 < told → Enters Y D D′ → EntersIf Y D D′ told
 enters-if Y told l a = record { enters = enters-as Y (λ i y. (0 < told) × Y i y) (λ i y h. h .1) a; still = λ z. absurd (omega arith) }
@@ -37,14 +37,14 @@ enters-look stride H N n x p m told l a b =
 module _ (count : ℕ) (B : List ℕ) (n : ℕ) where
   -- No mark, no item.
   pub notes-none : (E : ℕ → ℕ → Type 0) (A : Marks) (D : List ℕ) (told : ℕ) → ((x t : ℕ) (v : Bool) → A (mark x t v) → ⊥) → Notes E count B n A D D told
-  notes-none E A D told f = record { size = refl; kept = λ s p l h i. i; noted = λ x t v a. absurd (f x t v a); still = λ e. refl }
+  notes-none E A D told f = record { keeps = keeps-none D; noted = λ x t v a. absurd (f x t v a); still = λ e. refl }
 
   -- A child's word that did not change, or did.
   pub notes-still : (x q told : ℕ) (D : List ℕ) → told ≡ 0 → Notes NoItem count B n (Wrote x q told) D D told
   notes-still x q told D z = notes-none NoItem (Wrote x q told) D told (λ y t v a. omega (arith, a .2))
 
   pub notes-touched : (x q told : ℕ) (D D′ : List ℕ) → 0 < told → Touched count B n x q D D′ → Notes NoItem count B n (Wrote x q told) D D′ told
-  notes-touched x q told D D′ l f = record { size = f .size; kept = f .kept; noted = each; still = λ z. absurd (omega arith) }
+  notes-touched x q told D D′ l f = record { keeps = f .keeps; noted = each; still = λ z. absurd (omega arith) }
     where
       each : (y t : ℕ) (v : Bool) → Wrote x q told (mark y t v) → (s p : ℕ) → s < count → p < n → (NoItem s p → ⊥) → Rests (rowAt B s) s p y (t / 64) → ToDo count D′ s p
       each y t v a s p g h off rests =
@@ -52,15 +52,14 @@ module _ (count : ℕ) (B : List ℕ) (n : ℕ) where
 
   -- More items left out.
   pub notes-but : {F : ℕ → ℕ → Type 0} {A : Marks} {D D′ : List ℕ} {told : ℕ} → Notes NoItem count B n A D D′ told → Notes F count B n A D D′ told
-  notes-but f = record { size = f .size; kept = f .kept; noted = λ x t v a s p l h off. f .noted x t v a s p l h (λ z. z); still = f .still }
+  notes-but f = record { keeps = f .keeps; noted = λ x t v a s p l h off. f .noted x t v a s p l h (λ z. z); still = f .still }
 
   -- One after another.
   pub notes-then : {E : ℕ → ℕ → Type 0} {A C : Marks} {D D′ D″ : List ℕ} {x y : ℕ} → Notes E count B n A D D′ x → Notes E count B n C D′ D″ y
       → Notes E count B n (_or_ A C) D D″ (x + y)
   notes-then f g = record {
-    size = g .size ∙ f .size;
-    kept = λ s p l h i. g .kept s p l h (f .kept s p l h i);
-    noted = λ x t v. ⊎-elim (λ a s p l h off rests. g .kept s p l h (f .noted x t v a s p l h off rests)) (λ a. g .noted x t v a);
+    keeps = keeps-then (f .keeps) (g .keeps);
+    noted = λ x t v. ⊎-elim (λ a s p l h off rests. still-to-do count s p (g .keeps) (f .noted x t v a s p l h off rests)) (λ a. g .noted x t v a);
     still = λ e. g .still (omega arith) ∙ f .still (omega arith);
   }
 
@@ -70,7 +69,7 @@ module _ (count : ℕ) (B : List ℕ) (n : ℕ) where
         → (0 < told → (w : ℕ) → Rests (rowAt B r) r w r p → (w ≡ q) ⊎ Q w)
         → EntersIf (λ i y. ParentsAt (per count) H N r p i y ⊎ ItemsOf (per count) r (λ w. (w < n) × Q w) i y) D D′ told → Notes (OneItem r q) count B n A D D′ told
     notes-own {A} {D} {D′} Q word own f =
-        record { size = f .enters .size; kept = λ s w g h i. f .enters .kept (w * per count + s / 64) (s % 64) i; noted = each; still = f .still }
+        record { keeps = f .enters .keeps; noted = each; still = f .still }
       where
         each : (x t : ℕ) (v : Bool) → A (mark x t v) → (s w : ℕ) → s < count → w < n → (OneItem r q s w → ⊥) → Rests (rowAt B s) s w x (t / 64) → ToDo count D′ s w
         each x t v a s w g h off rests =
@@ -105,15 +104,12 @@ module _ (count : ℕ) (B : List ℕ) (n : ℕ) where
   pub visited : (r q W : ℕ) (C : Marks) {A : Marks} {T T′ D D′ : List ℕ} {x : ℕ} (P : Program) → Moves n P W A T T′ x → Notes (OneItem r q) count B n A D D′ x
       → SettledTo C q W (Stands n T′) r (node P r) → Visited count B n P W r q C T T′ D D′ x
   visited r q W C P m k s = record {
-    size = m .size;
-    grows = m .grows;
-    sound = m .sound;
-    still = λ e. (m .still e, k .still e);
-    moved = m .moved;
+    infers = m .infers;
+    tells = m .tells;
+    same-list = k .still;
     settled = s;
     heeds = record {
-      size = k .size;
-      kept = k .kept;
+      keeps = k .keeps;
       noted = λ s p l h off this y u rests t v g i. ⊎-elim (λ j. j)
           (λ a. absurd (off (k .noted y t v a s p l h this (subst (λ (w : ℕ). Rests (rowAt B s) s p y w) (sym g) rests)))) (m .only (mark y t v) i);
     };
@@ -123,14 +119,14 @@ module _ (count : ℕ) (B : List ℕ) (n : ℕ) where
       → ByNode d r A (λ S. SettledIn q W S r d) W n T T′ x → (rowAt B r ≡ d → Notes (OneItem r q) count B n A D D′ x) → VisitsBy d count B r q W n T T′ D D′
   visits-by d r q W A T T′ D D′ x f k = record {
     changed = x;
-    each = λ P e is inside. let m = f P e inside in visited r q W (Stands n T′) P (m .0) (k is) (subst (SettledIn q W (Stands n T′) r) (sym e) (m .1));
+    each = λ P e is. let m = f P e in visited r q W (Stands n T′) P (m .0) (k is) (subst (SettledIn q W (Stands n T′) r) (sym e) (m .1));
   }
 
-  pub looks-by : (o c r q W : ℕ) (A G G′ : Marks) (T T′ D D′ : List ℕ) (x : ℕ)
+  pub looks-by : (o c r q W : ℕ) (A G G′ : Marks) (T T′ D D′ : List ℕ) (x : ℕ) → Inside W (Stands n T)
       → ByLook o c r A (λ S. SettledTo G′ q W S r (look o c)) G G′ W n T T′ x → (rowAt B r ≡ look o c → Notes (OneItem r q) count B n A D D′ x) → Looks o c count B r q W n G G′ T T′ D D′
-  looks-by o c r q W A G G′ T T′ D D′ x f k = record {
+  looks-by o c r q W A G G′ T T′ D D′ x inside f k = record {
     changed = x;
-    each = λ P e is inside. let m = f P e inside in (visited r q W G′ P (m .0) (k is) (subst (SettledTo G′ q W (Stands n T′) r) (sym e) (m .1)), m .2);
+    each = λ P e is. let m = f P e inside in (visited r q W G′ P (m .0) (k is) (subst (SettledTo G′ q W (Stands n T′) r) (sym e) (m .1)), m .2);
   }
 
 -- A row whose items rest, by its node, on the same word of the row itself: a gate or a not-row.

@@ -10,9 +10,9 @@ use table_words::add_words;
 ghost use mathlib.Core.Bool.{true};
 ghost use Prim.Native.Nat.{_<_};
 ghost use Rattle.table_words.specs.Gains.{HasRow, Sides, Bits, Reads, Joins};
-ghost use Rattle.close_rules.specs.Codes.{Coded};
-ghost use Rattle.close_parents.specs.Links.{Ended, Linked};
+ghost use Rattle.close_parents.specs.Links.{Ended};
 ghost use Rattle.close_list.specs.Items.{per, ParentsAt, Roomy};
+ghost use Rattle.close_list.specs.Workable.{Queueable};
 ghost use Rattle.close_store.specs.Visits.{Marked, EntersIf, LookItems};
 
 // Word q of a child's row x: ticks of value u and of the other value.
@@ -29,10 +29,8 @@ pub fn mark_child(
     todo: &mut [u64],
     marks: &mut [u64],
 )
-    requires { ⌜ Coded count (now rows) ⌝ }
+    requires { ⌜ Queueable count n (now rows) (now heads) (now nexts) (now todo) ⌝ }
     requires { ⌜ (x < count) × (q < n) × HasRow n (now marks) x ⌝ }
-    requires { ⌜ Linked count (now rows) (now heads) (now nexts) ⌝ }
-    requires { ⌜ Roomy count n (now todo) ⌝ }
     ensures { λ _. ⌜ Marked count (now (rows .entry)) n q x u (ticks .this) (ticks .other) (now (marks .entry)) (now (marks .exit)) (now (todo .entry)) (now (todo .exit)) ⌝ }
 {
     let j = add_words(marks, n, q, x, u, ticks);

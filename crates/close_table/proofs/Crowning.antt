@@ -9,13 +9,15 @@ use native.Mathlib.Omega.{arith}
 use lib.ListN.{length, getD}
 use Rattle.spec_ticks.proofs.Bits.{lt-or-ge}
 use Rattle.spec_tilco.specs.Inference.{Mark, mark, Marks, Derives, start, top, _or_}
-use Rattle.spec_tilco.specs.Table.{words, Stands, Inside}
+use Rattle.spec_tilco.specs.Table.{words, Stands}
 use Rattle.spec_tilco.proofs.Derives.{cut, monotone}
 use Rattle.table_marks.specs.Puts.{Gains}
 use Rattle.table_marks.proofs.Marks.{gains-none, gains-then}
 use Rattle.table_words.specs.Gains.{HasRow, Ticks, Here, Bits, Joins}
 use Rattle.close_table.specs.Closes.{Settles, RowTrue, TopMarks, ClosesAll, SettlesAll}
 use Rattle.table_words.proofs.Gaining.{joins-as}
+use Rattle.close_rules.proofs.Decoding.{sized-as}
+use Rattle.close_list.specs.Workable.{Closable}
 
 -- ---- one row
 module _ (n W r : ℕ) where
@@ -70,9 +72,14 @@ module _ (n W : ℕ) (B : List ℕ) where
         λ h. ⊎-elim (λ l. inl (h .0, h .1, l)) (λ l. inr (h .0, h .1, l)) (last x (h .2 .0) (h .2 .1) (h .2 .2)),
       )
 
-  -- The tops' marks are in the window.
-  pub crown-inside : (k : ℕ) (T T′ : List ℕ) → Gains n (TopMarks W B k) T T′ → Inside W (Stands n T) → Inside W (Stands n T′)
-  crown-inside k T T′ a inside r t v i = ⊎-elim (inside r t v) (λ h. h .0) (a .exactly (mark r t v) .0 i)
+  -- The tops' marks are in the window, so the table can be closed still.
+  pub crown-closable : (k : ℕ) {count : ℕ} {R D T T′ : List ℕ} → Gains n (TopMarks W B k) T T′ → Closable count n W R D T → Closable count n W R D T′
+  crown-closable k a c = record {
+    coded = c .coded;
+    roomy = c .roomy;
+    sized = sized-as (a .size) (c .sized);
+    inside = λ r t v i. ⊎-elim (c .inside r t v) (λ h. h .0) (a .exactly (mark r t v) .0 i);
+  }
 
   -- The tops marked and then the table closed: it has exactly what the rules lead to from the tops and its marks.
   pub crown-then-close : (count : ℕ) (R : List ℕ) (k : ℕ) (T T′ T″ : List ℕ) → Gains n (TopMarks W B k) T T′ → ClosesAll count R W n T′ T″

@@ -1,6 +1,6 @@
 -- Rounds until no item is left: the table has every consequence of its marks then, and nothing else.
 -- Assumes that no mark is outside the window at the start.
-use mathlib.Core.Path.{_≡_, refl, sym, ap, _∙_, subst}
+use mathlib.Core.Path.{_≡_, sym, ap, subst}
 use mathlib.Core.Bool.{Bool, true, false}
 use mathlib.Core.List.{List}
 use mathlib.Core.Logic.{inr, ⊎-elim}
@@ -11,18 +11,21 @@ use lib.ListN.{length, getD}
 use Rattle.spec_ticks.specs.Ticks.{Has, Small}
 use Rattle.spec_ticks.proofs.Bits.{lt-or-ge, no-ticks}
 use Rattle.lower_rows.specs.Words.{rowAt}
-use Rattle.spec_tilco.specs.Inference.{Node, Program, node, Mark, mark, Derives, start}
-use Rattle.spec_tilco.specs.Table.{words, Stands, Inside}
+use Rattle.spec_tilco.specs.Inference.{Node, Program, node, mark}
+use Rattle.spec_tilco.specs.Table.{words, Stands}
 use Rattle.spec_tilco.proofs.Closing.{SettledAt, finished}
-use Rattle.spec_tilco.proofs.Derives.{cut, stays-inside}
 use Rattle.close_rules.specs.Codes.{Codes, Coded}
+use Rattle.close_rules.specs.Moves.{Infers}
 use Rattle.table_words.specs.Gains.{room}
 use Rattle.close_list.specs.Items.{per, ToDo, Done}
+use Rattle.close_list.specs.Workable.{Workable}
 use Rattle.close_list.proofs.Noting.{column-in}
+use Rattle.close_list.proofs.Workable.{workable-after}
 use Rattle.close_word.specs.Stretches.{Stretch, Works}
 use Rattle.close_table.specs.Closes.{ClosesAll}
 use Rattle.close_table.specs.Rounds.{InColumns}
 use Rattle.close_rules.proofs.Decoding.{words-cover}
+use Rattle.close_rules.proofs.Moving.{infers-none, infers-then}
 use Rattle.close_word.proofs.Local.{settled-all}
 
 -- 1 if there is another round, and else 0.
@@ -32,9 +35,7 @@ another false = 0
 
 -- On the way from T to the closed table: what is not on the list is settled, and when there is no other round nothing is on it.
 pub record Nearing (n : ℕ) (P : Program) (W count : ℕ) (B T T′ D : List ℕ) (go : Bool) : Type 0 where
-  pub size : length T′ ≡ length T
-  pub grows : (m : Mark) → Stands n T m → Stands n T′ m
-  pub sound : (m : Mark) → Stands n T′ m → Derives P W (Stands n T) m
+  pub infers : Infers n P W T T′
   pub done : Done count B W n T′ D
   pub clear : go ≡ false → (j : ℕ) → j < per count * n → getD D j 0 ≡ 0
 
@@ -53,7 +54,7 @@ in-columns count n = divided (per count)
 -- A round that changes something leaves less room, and one that changes nothing is the last.
 pub toward-less : (count : ℕ) (B : List ℕ) (W n : ℕ) (T T′ D D′ : List ℕ) (go : Bool) → Coded count B → Works count B W n (InColumns count n) T T′ D D′
     → (((j : ℕ) → j < per count * n → getD D′ j 0 ≡ 0) → go ≡ false) → room T′ + another go < room T + 1
-toward-less count B W n T T′ D D′ go k g last = ⊎-elim (λ h. falls go (m .moved h)) (λ h. ends h) (lt-or-ge 0 (g .changed))
+toward-less count B W n T T′ D D′ go k g last = ⊎-elim (λ h. falls go (m .tells .less-room h)) (λ h. ends h) (lt-or-ge 0 (g .changed))
   where
     m : Stretch (Done count B W n) (Done count B W n) n (k .program) W (InColumns count n) T T′ D D′ (g .changed)
     m = g .each (k .program) (k .codes)
@@ -66,7 +67,7 @@ toward-less count B W n T T′ D D′ go k g last = ⊎-elim (λ h. falls go (m 
     ends h =
         let z : g .changed ≡ 0 = omega arith in
         let e = last (λ j l. m .empty z j (inr (in-columns count n j l))) in
-        omega (arith, ap room (m .still z), ap another e)
+        omega (arith, ap room (m .tells .still z), ap another e)
 
 module _ (count : ℕ) (B : List ℕ) (W n : ℕ) (T : List ℕ) where
   -- The same for every program with these rows.
@@ -75,16 +76,14 @@ module _ (count : ℕ) (B : List ℕ) (W n : ℕ) (T : List ℕ) where
 
   pub toward-start : (D : List ℕ) → Done count B W n T D → Toward T D true
   toward-start D f P c = record {
-    size = refl;
-    grows = λ m i. i;
-    sound = λ m i. start i;
+    infers = infers-none T;
     done = f;
     clear = λ e. absurd (omega (arith, ap another e));
   }
 
-  -- No mark is outside the window on the way.
-  pub toward-inside : {T′ D : List ℕ} {go : Bool} → Coded count B → Inside W (Stands n T) → Toward T′ D go → Inside W (Stands n T′)
-  toward-inside k inside f r t v i = stays-inside inside r t v (f (k .program) (k .codes) .sound (mark r t v) i)
+  -- Items can be visited on the way.
+  pub toward-workable : {H N D₀ T′ D : List ℕ} {go : Bool} → Workable count n W B H N D₀ T → length D ≡ length D₀ → Toward T′ D go → Workable count n W B H N D T′
+  toward-workable k e f = workable-after k e (f (k .coded .program) (k .coded .codes) .infers)
 
   pub toward-more : (T′ T″ D D′ : List ℕ) {x : Bool} (y : Bool) → Toward T′ D x → Works count B W n (InColumns count n) T′ T″ D D′
       → (y ≡ false → (j : ℕ) → j < per count * n → getD D′ j 0 ≡ 0) → Toward T″ D′ y
@@ -92,9 +91,7 @@ module _ (count : ℕ) (B : List ℕ) (W n : ℕ) (T : List ℕ) where
       let a = f P c in
       let m = g .each P c in
       record {
-        size = m .size ∙ a .size;
-        grows = λ p i. m .grows p (a .grows p i);
-        sound = λ p i. cut (a .sound) (m .sound p i);
+        infers = infers-then (a .infers) (m .infers);
         done = m .rests (a .done);
         clear = last;
       }
@@ -102,10 +99,11 @@ module _ (count : ℕ) (B : List ℕ) (W n : ℕ) (T : List ℕ) where
   pub toward-end : (T′ D : List ℕ) (go : Bool) → go ≡ false → n ≡ words W → Small 64 T′ → Toward T′ D go → ClosesAll count B W n T T′
   toward-end T′ D go z e small f P c tops =
       let a = f P c in
+      let g = a .infers in
       record {
-        size = a .size;
+        size = g .size;
         small = small;
-        exactly = finished P W (Stands n T′) (Stands n T) (a .sound) (a .grows) (λ r i t l. a .grows (mark r t true) (tops r i t l)) (λ r l. settled a r (omega (arith, c .rows-are)));
+        exactly = finished P W (Stands n T′) (Stands n T) (g .sound) (g .grows) (λ r i t l. g .grows (mark r t true) (tops r i t l)) (λ r l. settled a r (omega (arith, c .rows-are)));
       }
     where
       settled : Nearing n P W count B T T′ D go → (r : ℕ) → r < count → SettledAt W (Stands n T′) r (node P r)

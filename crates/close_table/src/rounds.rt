@@ -1,21 +1,20 @@
 // Closes a table: items of the list are visited, word of ticks by word of ticks, until none is left.
 // Assumes that the words are a program's rows, that the table has them, and that no mark is outside the window.
 use close_list::start;
+use close_parents::EDGES;
 use close_parents::link_rows;
 use close_word::work_word;
+use spec_limits::ROWS;
 ghost use mathlib.Core.Path.{_≡_};
 ghost use mathlib.Core.Bool.{false};
 ghost use mathlib.Core.Logic.{_↔_};
 ghost use Prim.Native.Nat.{ℕ, _+_, _-_, _/_, _≤_, _<_};
 ghost use lib.ListN.{length, getD};
-ghost use Rattle.spec_tilco.specs.Table.{Stands, Inside};
-ghost use Rattle.close_rules.specs.Codes.{Coded};
-ghost use Rattle.close_rules.specs.Moves.{Sized};
 ghost use Rattle.close_table.specs.Closes.{ClosesAll};
 ghost use Rattle.close_table.specs.Rounds.{InColumn, InColumns, turn};
-ghost use Rattle.close_list.specs.Items.{Roomy, Done};
+ghost use Rattle.close_list.specs.Items.{Done};
+ghost use Rattle.close_list.specs.Workable.{Workable, Closable};
 ghost use Rattle.close_word.specs.Stretches.{Works};
-ghost use Rattle.close_parents.specs.Links.{Linked};
 
 // The i-th of m words from below or, if not `up`, from above.
 fn turned(up: bool, m: usize, i: usize) -> usize
@@ -41,12 +40,8 @@ fn work_column(
     todo: &mut [u64],
     marks: &mut [u64],
 )
-    requires { ⌜ Coded count (now rows) ⌝ }
+    requires { ⌜ Workable count n window (now rows) (now heads) (now nexts) (now todo) (now marks) ⌝ }
     requires { ⌜ q < n ⌝ }
-    requires { ⌜ Linked count (now rows) (now heads) (now nexts) ⌝ }
-    requires { ⌜ Roomy count n (now todo) ⌝ }
-    requires { ⌜ Sized n count window (now marks) ⌝ }
-    requires { ⌜ Inside window (Stands n (now marks)) ⌝ }
     ensures { λ _. ⌜ Works count (now (rows .entry)) window n (InColumn count q) (now (marks .entry)) (now (marks .exit)) (now (todo .entry)) (now (todo .exit)) ⌝ }
 {
     let stride = (count + 63) / 64;
@@ -70,11 +65,7 @@ fn work_round(
     todo: &mut [u64],
     marks: &mut [u64],
 )
-    requires { ⌜ Coded count (now rows) ⌝ }
-    requires { ⌜ Linked count (now rows) (now heads) (now nexts) ⌝ }
-    requires { ⌜ Roomy count n (now todo) ⌝ }
-    requires { ⌜ Sized n count window (now marks) ⌝ }
-    requires { ⌜ Inside window (Stands n (now marks)) ⌝ }
+    requires { ⌜ Workable count n window (now rows) (now heads) (now nexts) (now todo) (now marks) ⌝ }
     ensures { λ _. ⌜ Works count (now (rows .entry)) window n (InColumns count n) (now (marks .entry)) (now (marks .exit)) (now (todo .entry)) (now (todo .exit)) ⌝ }
 {
     let mut q: usize = 0;
@@ -111,11 +102,8 @@ fn work_off(
     todo: &mut [u64],
     marks: &mut [u64],
 )
-    requires { ⌜ Coded count (now rows) ⌝ }
-    requires { ⌜ Linked count (now rows) (now heads) (now nexts) ⌝ }
-    requires { ⌜ Roomy count n (now todo) × Done count (now rows) window n (now marks) (now todo) ⌝ }
-    requires { ⌜ Sized n count window (now marks) ⌝ }
-    requires { ⌜ Inside window (Stands n (now marks)) ⌝ }
+    requires { ⌜ Workable count n window (now rows) (now heads) (now nexts) (now todo) (now marks) ⌝ }
+    requires { ⌜ Done count (now rows) window n (now marks) (now todo) ⌝ }
     ensures { λ _. ⌜ ClosesAll count (now (rows .entry)) window n (now (marks .entry)) (now (marks .exit)) ⌝ }
 {
     let m = (count + 63) / 64 * n;
@@ -138,14 +126,11 @@ pub fn close(
     todo: &mut [u64],
     marks: &mut [u64],
 )
-    requires { ⌜ Coded count (now rows) ⌝ }
-    requires { ⌜ Roomy count n (now todo) ⌝ }
-    requires { ⌜ Sized n count window (now marks) ⌝ }
-    requires { ⌜ Inside window (Stands n (now marks)) ⌝ }
+    requires { ⌜ Closable count n window (now rows) (now todo) (now marks) ⌝ }
     ensures { λ _. ⌜ ClosesAll count (now (rows .entry)) window n (now (marks .entry)) (now (marks .exit)) ⌝ }
 {
-    let mut heads = [0u16; 1024];
-    let mut nexts = [1u16; 2048];
+    let mut heads = [0u16; ROWS];
+    let mut nexts = [1u16; EDGES];
     link_rows(rows, count, &mut heads, &mut nexts);
     start(rows, count, n, &heads, &nexts, todo, marks);
     work_off(rows, count, n, window, &heads, &nexts, todo, marks);

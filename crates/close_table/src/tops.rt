@@ -6,13 +6,11 @@ use table_words::window_word;
 ghost use mathlib.Core.Path.{_≡_};
 ghost use Prim.Native.Nat.{ℕ, _<_, _≤_};
 ghost use lib.ListN.{length, getD};
-ghost use Rattle.spec_tilco.specs.Table.{words, Stands, Inside};
-ghost use Rattle.close_rules.specs.Codes.{Coded};
+ghost use Rattle.spec_tilco.specs.Table.{words};
 ghost use Rattle.table_marks.specs.Puts.{Gains};
 ghost use Rattle.table_words.specs.Gains.{HasRow};
-ghost use Rattle.close_rules.specs.Moves.{Sized};
 ghost use Rattle.close_table.specs.Closes.{RowTrue, TopMarks, SettlesAll};
-ghost use Rattle.close_list.specs.Items.{Roomy};
+ghost use Rattle.close_list.specs.Workable.{Closable};
 
 // Marks a row true at every tick of the window.
 fn mark_true(marks: &mut [u64], n: usize, row: usize, window: usize)
@@ -52,11 +50,8 @@ pub fn settle(
     todo: &mut [u64],
     marks: &mut [u64],
 )
-    requires { ⌜ Coded count (now rows) ⌝ }
+    requires { ⌜ Closable count n window (now rows) (now todo) (now marks) ⌝ }
     requires { ⌜ (k ≤ length (now tops)) × ((i : ℕ) → i < k → getD (now tops) i 0 < count) ⌝ }
-    requires { ⌜ Roomy count n (now todo) ⌝ }
-    requires { ⌜ Sized n count window (now marks) ⌝ }
-    requires { ⌜ Inside window (Stands n (now marks)) ⌝ }
     ensures { λ _. ⌜ SettlesAll count (now (rows .entry)) (now (tops .entry)) k window n (now (marks .entry)) (now (marks .exit)) ⌝ }
 {
     crown(tops, k, n, window, marks);

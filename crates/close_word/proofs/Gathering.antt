@@ -8,14 +8,18 @@ use native.Mathlib.Omega.{arith}
 use lib.ListN.{length, getD}
 use Rattle.spec_ticks.proofs.Bits.{no-ticks}
 use Rattle.lower_rows.specs.Words.{rowAt}
-use Rattle.spec_tilco.specs.Inference.{Program, Mark, mark, Marks, Derives, start, _or_}
-use Rattle.spec_tilco.specs.Table.{Stands, Inside}
-use Rattle.spec_tilco.proofs.Derives.{cut, stays-inside}
-use Rattle.close_rules.specs.Codes.{Codes, Coded}
+use Rattle.spec_tilco.specs.Inference.{Program, Mark, mark, Marks, Derives, _or_}
+use Rattle.spec_tilco.specs.Table.{Stands}
+use Rattle.spec_tilco.proofs.Derives.{cut}
+use Rattle.close_rules.specs.Codes.{Codes}
 use Rattle.close_rules.specs.Settled.{Rests, SameWord}
 use Rattle.close_rules.specs.Moves.{Moves, Gathered}
-use Rattle.close_rules.proofs.Moving.{joins-move}
+use Rattle.table_words.proofs.Telling.{tells-none}
+use Rattle.close_rules.proofs.Moving.{infers-none, joins-move}
 use Rattle.close_list.specs.Items.{ToDo, Done}
+use Rattle.close_list.proofs.Noting.{still-to-do}
+use Rattle.close_list.specs.Workable.{Workable}
+use Rattle.close_list.proofs.Workable.{workable-after}
 use Rattle.close_store.specs.Visits.{Marked}
 use Rattle.close_word.specs.Stretches.{Stretch, NoWord, Taken, DoneBut, TakenLook}
 use Rattle.close_word.proofs.Local.{settled-more, settled-local}
@@ -36,11 +40,8 @@ module _ (count : ℕ) (B : List ℕ) (W n j : ℕ) where
     changed = 0;
     long = refl;
     each = λ P a. record {
-      size = refl;
-      grows = λ m i. i;
-      sound = λ m i. start i;
-      moved = λ l. absurd (omega arith);
-      still = λ e. refl;
+      infers = infers-none T;
+      tells = tells-none T;
       empty = λ e j. ⊎-elim (λ z. z) (λ z. absurd z);
       rests = λ d r p l h off. settled-more (Stands n T) (_or_ (Stands n T) (Gathered c q 0 0)) p W (Stands n T) r (rowAt B r) (λ m i. inl i) (d r p l h off);
     };
@@ -58,7 +59,7 @@ module _ (count : ℕ) (B : List ℕ) (W n j : ℕ) where
     changed = a .changed + b .changed;
     long = b .long ∙ a .long;
     each = λ P k. stretch-then NoWord (λ i z. absurd z) (a .each P k) (b .each P k .0);
-    follow = λ P k m g. ⊎-elim (a .follow P k m) (λ d. cut (a .each P k .sound) d) (b .each P k .1 .sound m g);
+    follow = λ P k m g. ⊎-elim (a .follow P k m) (λ d. cut (a .each P k .infers .sound) d) (b .each P k .1 .sound m g);
     less = λ e. inl (⊎-elim (λ h. omega (arith, h, b .less (omega arith))) (λ h. omega (arith, h .0, b .less (omega arith))) (a .less (omega arith)));
   }
 
@@ -68,7 +69,7 @@ module _ (count : ℕ) (B : List ℕ) (W n j : ℕ) where
   gathering-end c q v w {T} {T′} {T″} {D} {D′} {D″} some a b = record {
     works = record {
       changed = a .changed + b .changed;
-      long = b .notes .size ∙ a .long;
+      long = b .notes .keeps .size ∙ a .long;
       each = λ P k. stretch-then NoWord (λ i z. absurd z) (a .each P k) (end P k);
     };
     less = λ e. subst (λ (X : List ℕ). getD X j 0 < getD D j 0) (sym (b .notes .still (omega arith))) (⊎-elim (λ h. h) (λ h. absurd (some (h .1))) (a .less (omega arith)));
@@ -76,18 +77,15 @@ module _ (count : ℕ) (B : List ℕ) (W n j : ℕ) where
     where
       end : (P : Program) → Codes P count B → Stretch (DoneBut (Gathered c q v w) count B W n) (Done count B W n) n P W NoWord T′ T″ D′ D″ (b .changed)
       end P k = record {
-        size = m .size;
-        grows = m .grows;
-        sound = m .sound;
-        moved = m .moved;
-        still = m .still;
+        infers = m .infers;
+        tells = m .tells;
         empty = λ e i. ⊎-elim (λ z. subst (λ (X : List ℕ). getD X i 0 ≡ 0) (sym (b .notes .still e)) z) (λ z. absurd z);
         rests = λ d r p l h off. settled-more (_or_ (Stands n T′) (Gathered c q v w)) (Stands n T″) p W (Stands n T″) r (rowAt B r) there
-            (settled-local n W T′ T″ (m .grows) (_or_ (Stands n T′) (Gathered c q v w)) r p (rowAt B r) (same r p l h off) (d r p l h (λ t. off (b .notes .kept r p l h t))));
+            (settled-local n W T′ T″ (m .infers .grows) (_or_ (Stands n T′) (Gathered c q v w)) r p (rowAt B r) (same r p l h off) (d r p l h (λ t. off (still-to-do count r p (b .notes .keeps) t))));
       }
         where
           m : Moves n P W (λ m. Gathered c q v w m × (0 < b .changed)) T′ T″ (b .changed)
-          m = joins-move n P W T (Gathered c q v w) (a .each P k .grows) (b .joins) (a .follow P k)
+          m = joins-move n P W T (Gathered c q v w) (a .each P k .infers .grows) (b .joins) (a .follow P k)
 
           there : (i : Mark) → (_or_ (Stands n T′) (Gathered c q v w)) i → Stands n T″ i
           there i = b .joins .gains .exactly i .1
@@ -98,6 +96,7 @@ module _ (count : ℕ) (B : List ℕ) (W n j : ℕ) where
               (λ y. absurd (off (b .notes .noted x t z (⊎-elim (λ g. (g .0, g .2, y .1)) (λ g. (g .0, g .2, y .1)) (y .0)) r p l h (λ none. none) (subst (λ (s : ℕ). Rests (rowAt B r) r p x s) (sym e) rests))))
               (m .only (mark x t z) i)
 
-  -- No mark leaves the window.
-  pub gathering-inside : {K : Type 0} {G : Marks} {T T′ D D′ : List ℕ} → Coded count B → Inside W (Stands n T) → Gathering count B W n j K G T T′ D D′ → Inside W (Stands n T′)
-  gathering-inside k w a r t v i = stays-inside w r t v (a .each (k .program) (k .codes) .sound (mark r t v) i)
+  -- Items can be visited still.
+  pub gathering-workable : {K : Type 0} {G : Marks} {H N T T′ D D′ : List ℕ} → Workable count n W B H N D T → Gathering count B W n j K G T T′ D D′
+      → Workable count n W B H N D′ T′
+  gathering-workable k a = workable-after k (a .long) (a .each (k .coded .program) (k .coded .codes) .infers)

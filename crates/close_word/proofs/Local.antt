@@ -6,9 +6,9 @@ use mathlib.Core.List.{List}
 use mathlib.Core.Logic.{inl, inr}
 use Prim.Native.Nat.{ℕ, _*_, _/_, _≤_, _<_}
 use native.Mathlib.Omega.{arith}
-use Rattle.spec_tilco.specs.Inference.{Node, signal, notOf, gate, look, Mark, mark, Marks}
+use Rattle.spec_tilco.specs.Inference.{Node, signal, notOf, gate, look, Mark, mark, Marks, GateSettled}
 use Rattle.spec_tilco.specs.Table.{Stands}
-use Rattle.spec_tilco.proofs.Closing.{GateSettled, SettledAt}
+use Rattle.spec_tilco.proofs.Closing.{SettledAt}
 use Rattle.close_rules.specs.Settled.{SettledTo, SettledIn, Rests, SameWord}
 use Rattle.close_list.proofs.Starting.{seen-from}
 

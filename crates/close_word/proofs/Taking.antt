@@ -15,13 +15,14 @@ use Rattle.spec_ticks.specs.Ticks.{bit, Has}
 use Rattle.spec_ticks.proofs.Bits.{lt-or-ge, bit-shr, bit-past, bit-low}
 use Rattle.lower_rows.specs.Words.{rowAt}
 use Rattle.spec_tilco.specs.Inference.{look, Program, Mark, Marks, _or_}
-use Rattle.spec_tilco.specs.Table.{Stands, Inside}
+use Rattle.spec_tilco.specs.Table.{Stands}
 use Rattle.close_rules.specs.Codes.{Codes, Coded}
 use Rattle.close_rules.specs.Settled.{SettledTo}
 use Rattle.close_rules.specs.Moves.{Gathers}
-use Rattle.close_list.specs.Items.{per, ToDo, OneItem, DoneTo}
-use Rattle.close_store.specs.Visits.{Heeds, Visited, Visits, Looks}
-use Rattle.close_word.specs.Stretches.{Stretch, NoWord, Taken, TakenLook}
+use Rattle.close_list.specs.Items.{per, ToDo, OneItem, Roomy, Keeps, DoneTo}
+use Rattle.close_list.proofs.Noting.{column-in, still-to-do}
+use Rattle.close_store.specs.Visits.{Visited, Visits, Looks}
+use Rattle.close_word.specs.Stretches.{ItemAt, Stretch, NoWord, Taken, TakenLook}
 use Rattle.close_word.proofs.Local.{settled-more, settled-local}
 
 -- ---- a bit of a word cleared
@@ -50,30 +51,28 @@ module _ (x k : ℕ) (has : Has x k) where
           ∙ ap (λ (a : ℕ). bit a j) (half ((x - 2 ^ k) / 2 ^ k) (x / 2 ^ k) (div-eq-sub-div (pow-pos k) bit-le) odd)
           ∙ bit-shr (x / 2 ^ k) 1 j ∙ bit-shr x k (1 + j) ∙ ap (bit x) (sym e)
 
--- ---- item (64 i + k, q) taken off the list D
-module _ (count : ℕ) (D : List ℕ) (i k q : ℕ) (l : i < per count) (m : k < 64) (inside : q * per count + i < length D)
-    (has : Has (getD D (q * per count + i) 0) k) where
-  -- its place in the list
-  abbrev place : ℕ
-  place = q * per count + i
+-- ---- the item at bit k of word j taken off the list D
+pub item-inside : {count n q i j k : ℕ} {D : List ℕ} → ItemAt count n q i j k D → Roomy count n D → j < length D
+item-inside {count} {n} {q} {D = D} at h = omega (arith, at .place, at .column, column-in (per count) n q (length D) (at .word) (h .long))
 
+module _ {count n q i j k : ℕ} {D : List ℕ} (at : ItemAt count n q i j k D) (inside : j < length D) where
   abbrev pub without : List ℕ
-  without = set D (q * per count + i) (getD D (q * per count + i) 0 - 2 ^ k)
+  without = set D j (getD D j 0 - 2 ^ k)
 
-  bit-other : (j b : ℕ) → (j ≡ place → b ≡ k → ⊥) → bit (getD without j 0) b ≡ bit (getD D j 0) b
-  bit-other j b f = go (ℕ-discrete j place)
+  bit-other : (w b : ℕ) → (w ≡ j → b ≡ k → ⊥) → bit (getD without w 0) b ≡ bit (getD D w 0) b
+  bit-other w b f = go (ℕ-discrete w j)
     where
-      go : Dec (j ≡ place) → bit (getD without j 0) b ≡ bit (getD D j 0) b
+      go : Dec (w ≡ j) → bit (getD without w 0) b ≡ bit (getD D w 0) b
       go (yes e) =
-          ap (λ (v : ℕ). bit (getD without v 0) b) e ∙ ap (λ (w : ℕ). bit w b) (getD-set-same D place (getD D place 0 - 2 ^ k) 0 inside)
-          ∙ cleared-same (getD D place 0) k has b (f e) ∙ ap (λ (v : ℕ). bit (getD D v 0) b) (sym e)
-      go (no g) = ap (λ (w : ℕ). bit w b) (getD-set-other D place j (getD D place 0 - 2 ^ k) 0 g)
+          ap (λ (v : ℕ). bit (getD without v 0) b) e ∙ ap (λ (v : ℕ). bit v b) (getD-set-same D j (getD D j 0 - 2 ^ k) 0 inside)
+          ∙ cleared-same (getD D j 0) k (at .on-list) b (f e) ∙ ap (λ (v : ℕ). bit (getD D v 0) b) (sym e)
+      go (no g) = ap (λ (v : ℕ). bit v b) (getD-set-other D j w (getD D j 0 - 2 ^ k) 0 g)
 
   -- An item is where its word and its row say.
-  item-at : (r p : ℕ) → r < count → p * per count + r / 64 ≡ place → (p ≡ q) × (r / 64 ≡ i)
+  item-at : (r p : ℕ) → r < count → p * per count + r / 64 ≡ j → (p ≡ q) × (r / 64 ≡ i)
   item-at r p h e = (
-    sym (digits-div p (omega arith)) ∙ ap (λ (v : ℕ). v / per count) e ∙ digits-div q l,
-    sym (digits-mod p (omega arith)) ∙ ap (λ (v : ℕ). v % per count) e ∙ digits-mod q l,
+    sym (digits-div p (omega arith)) ∙ ap (λ (v : ℕ). v / per count) (e ∙ at .place) ∙ digits-div q (at .column),
+    sym (digits-mod p (omega arith)) ∙ ap (λ (v : ℕ). v % per count) (e ∙ at .place) ∙ digits-mod q (at .column),
   )
 
   pub others-stay : (r p : ℕ) → r < count → (r ≡ 64 * i + k → p ≡ q → ⊥) → ToDo count D r p → ToDo count without r p
@@ -81,51 +80,46 @@ module _ (count : ℕ) (D : List ℕ) (i k q : ℕ) (l : i < per count) (m : k <
       bit-other (p * per count + r / 64) (r % 64) (λ e g. let z = item-at r p h e in f (omega (arith, z .1, g)) (z .0)) ∙ t
 
   -- No other word changes, and this one was not 0.
-  zero-stays : (j : ℕ) → getD D j 0 ≡ 0 → getD without j 0 ≡ 0
-  zero-stays j z = go (ℕ-discrete j place)
+  zero-stays : (w : ℕ) → getD D w 0 ≡ 0 → getD without w 0 ≡ 0
+  zero-stays w z = go (ℕ-discrete w j)
     where
-      go : Dec (j ≡ place) → getD without j 0 ≡ 0
-      go (yes e) = absurd (omega (arith, ap (λ (v : ℕ). getD D v 0) e, bit-le (getD D place 0) k has, pow-pos k))
-      go (no f) = getD-set-other D place j (getD D place 0 - 2 ^ k) 0 f ∙ z
+      go : Dec (w ≡ j) → getD without w 0 ≡ 0
+      go (yes e) = absurd (omega (arith, ap (λ (v : ℕ). getD D v 0) e, bit-le (getD D j 0) k (at .on-list), pow-pos k))
+      go (no f) = getD-set-other D j w (getD D j 0 - 2 ^ k) 0 f ∙ z
 
-  pub word-falls : getD without place 0 < getD D place 0
-  word-falls = omega (arith, getD-set-same D place (getD D place 0 - 2 ^ k) 0 inside, bit-le (getD D place 0) k has, pow-pos k)
+  pub word-falls : getD without j 0 < getD D j 0
+  word-falls = omega (arith, getD-set-same D j (getD D j 0 - 2 ^ k) 0 inside, bit-le (getD D j 0) k (at .on-list), pow-pos k)
 
--- ---- a visit to item (64 i + k, q)
-module _ (count : ℕ) (B : List ℕ) (n i k q : ℕ) {T T′ D D₁ : List ℕ} (l : q < n) (b : k < 64) (has : Has (getD D (q * per count + i) 0) k) where
-  -- The item is on the list after the visit too.
-  pub kept-item : 64 * i + k < count → Heeds count B n (64 * i + k) q T T′ D D₁ → Has (getD D₁ (q * per count + i) 0) k
-  kept-item g f = rw (word, tick) at (f .kept (64 * i + k) q g l (rw (word, tick) has))
-    where
-      word : (64 * i + k) / 64 ≡ i
-      word = omega arith
+-- ---- a visit to the item, row 64 i + k at word q, after which it is on the list still
+pub item-kept : {count n q i j k : ℕ} {D D′ : List ℕ} → ItemAt count n q i j k D → Keeps D D′ → ItemAt count n q i j k D′
+item-kept at k = record { word = at .word; column = at .column; place = at .place; bit = at .bit; on-list = k .kept _ _ (at .on-list) }
 
-      tick : (64 * i + k) % 64 ≡ k
-      tick = omega arith
+-- Another bit of the same word.
+pub item-next : {count n q i j k l : ℕ} {D D′ : List ℕ} → ItemAt count n q i j k D → l < 64 → Has (getD D′ j 0) l → ItemAt count n q i j l D′
+item-next at b h = record { word = at .word; column = at .column; place = at .place; bit = b; on-list = h }
 
-  pub kept-bit : (W : ℕ) → Coded count B → Inside W (Stands n T) → Visits count B (64 * i + k) q W n T T′ D D₁ → Has (getD D₁ (q * per count + i) 0) k
-  kept-bit W c w f =
-      ⊎-elim (λ g. kept-item g (v .heeds)) (λ g. subst (λ (X : List ℕ). Has (getD X (q * per count + i) 0) k) (sym (v .still (f .past g) .1)) has) (lt-or-ge (64 * i + k) count)
-    where
-      v : Visited count B n (c .program) W (64 * i + k) q (Stands n T′) T T′ D D₁ (f .changed)
-      v = f .each (c .program) (c .codes) w
+pub visit-keeps : {count : ℕ} {B : List ℕ} {r q W n : ℕ} {T T′ D D′ : List ℕ} → Coded count B → Visits count B r q W n T T′ D D′ → Keeps D D′
+visit-keeps c f = f .each (c .program) (c .codes) .heeds .keeps
 
-module _ (count : ℕ) (B : List ℕ) (W n i k q : ℕ) (T T′ D D₁ D′ : List ℕ) (l : i < per count) (m : k < 64)
-    (inside : q * per count + i < length D₁) (has : Has (getD D₁ (q * per count + i) 0) k)
-    (is : D′ ≡ set D₁ (q * per count + i) (getD D₁ (q * per count + i) 0 - 2 ^ k)) where
+pub look-keeps : {o c count : ℕ} {B : List ℕ} {r q W n : ℕ} {G G′ : Marks} {T T′ D D′ : List ℕ} → Coded count B → rowAt B r ≡ look o c
+    → Looks o c count B r q W n G G′ T T′ D D′ → Keeps D D′
+look-keeps {r = r} k e f = f .each (k .program) (k .codes .nodes r ∙ e) e .0 .heeds .keeps
+
+module _ {count n q i j k : ℕ} (B : List ℕ) (W : ℕ) (T T′ D D₁ D′ : List ℕ) (at : ItemAt count n q i j k D₁) (inside : j < length D₁)
+    (is : D′ ≡ set D₁ j (getD D₁ j 0 - 2 ^ k)) where
   -- What is not on the list at the end was not on it before, or is this item; X and X′ are what looks may give before and after.
   module _ (P : Program) (c : Codes P count B) (C X X′ : Marks) {x : ℕ} (more : (m : Mark) → X m → X′ m) (own : (m : Mark) → C m → X′ m)
       (v : Visited count B n P W (64 * i + k) q C T T′ D D₁ x) (done : DoneTo X count B W n T D) where
     still-settled : (r p : ℕ) → r < count → p < n → (ToDo count D₁ r p → ⊥) → (OneItem (64 * i + k) q r p → ⊥) → SettledTo X′ p W (Stands n T′) r (rowAt B r)
     still-settled r p h b f z =
         settled-more X X′ p W (Stands n T′) r (rowAt B r) more
-        (settled-local n W T T′ (v .grows) X r p (rowAt B r) (v .heeds .noted r p h b f z) (done r p h b (λ t. f (v .heeds .kept r p h b t))))
+        (settled-local n W T T′ (v .infers .grows) X r p (rowAt B r) (v .heeds .noted r p h b f z) (done r p h b (λ t. f (still-to-do count r p (v .heeds .keeps) t))))
 
     done-after : DoneTo X′ count B W n T′ D′
     done-after r p h b f = go (ℕ-discrete r (64 * i + k)) (ℕ-discrete p q)
       where
         gone : (r ≡ 64 * i + k → p ≡ q → ⊥) → ToDo count D₁ r p → ⊥
-        gone g t = f (subst (λ (X : List ℕ). ToDo count X r p) (sym is) (others-stay count D₁ i k q l m inside has r p h g t))
+        gone g t = f (subst (λ (X : List ℕ). ToDo count X r p) (sym is) (others-stay at inside r p h g t))
 
         go : Dec (r ≡ 64 * i + k) → Dec (p ≡ q) → SettledTo X′ p W (Stands n T′) r (rowAt B r)
         go (yes e) (yes g) =
@@ -139,46 +133,43 @@ module _ (count : ℕ) (B : List ℕ) (W n i k q : ℕ) (T T′ D D₁ D′ : Li
   module _ {P : Program} {C : Marks} {x : ℕ} (v : Visited count B n P W (64 * i + k) q C T T′ D D₁ x) where
     stretch : {F G : List ℕ → List ℕ → Type 0} → (F T D → G T′ D′) → Stretch F G n P W NoWord T T′ D D′ x
     stretch f = record {
-      size = v .size;
-      grows = v .grows;
-      sound = v .sound;
-      moved = v .moved;
-      still = λ e. v .still e .0;
-      empty = λ e j. ⊎-elim (λ z. subst (λ (X : List ℕ). getD X j 0 ≡ 0) (sym is) (zero-stays count D₁ i k q l m inside has j (subst (λ (X : List ℕ). getD X j 0 ≡ 0) (sym (v .still e .1)) z)))
+      infers = v .infers;
+      tells = v .tells;
+      empty = λ e w. ⊎-elim (λ z. subst (λ (X : List ℕ). getD X w 0 ≡ 0) (sym is) (zero-stays at inside w (subst (λ (X : List ℕ). getD X w 0 ≡ 0) (sym (v .same-list e)) z)))
           (λ z. absurd z);
       rests = f;
     }
 
-    falls : x ≡ 0 → getD D′ (q * per count + i) 0 < getD D (q * per count + i) 0
+    falls : x ≡ 0 → getD D′ j 0 < getD D j 0
     falls e =
-        subst (λ (X : List ℕ). getD X (q * per count + i) 0 < getD D (q * per count + i) 0) (sym is)
-        (subst (λ (X : List ℕ). getD (without count D₁ i k q l m inside has) (q * per count + i) 0 < getD X (q * per count + i) 0) (v .still e .1) (word-falls count D₁ i k q l m inside has))
+        subst (λ (X : List ℕ). getD X j 0 < getD D j 0) (sym is)
+        (subst (λ (X : List ℕ). getD (without at inside) j 0 < getD X j 0) (v .same-list e) (word-falls at inside))
 
     long : length D′ ≡ length D
-    long = ap length is ∙ length-set D₁ (q * per count + i) (getD D₁ (q * per count + i) 0 - 2 ^ k) ∙ v .heeds .size
+    long = ap length is ∙ length-set D₁ j (getD D₁ j 0 - 2 ^ k) ∙ v .heeds .keeps .size
 
-  module _ (coded : Coded count B) (w : Inside W (Stands n T)) where
-    pub taken : Visits count B (64 * i + k) q W n T T′ D D₁ → Taken count B W n (q * per count + i) T T′ D D′
+  module _ (coded : Coded count B) where
+    pub taken : Visits count B (64 * i + k) q W n T T′ D D₁ → Taken count B W n j T T′ D D′
     taken f = record {
       works = record {
         changed = f .changed;
-        long = long (f .each (coded .program) (coded .codes) w);
-        each = λ P c. let v = f .each P c w in stretch v (done-after P c (Stands n T′) (Stands n T) (Stands n T′) (v .grows) (λ m h. h) v);
+        long = long (f .each (coded .program) (coded .codes));
+        each = λ P c. let v = f .each P c in stretch v (done-after P c (Stands n T′) (Stands n T) (Stands n T′) (v .infers .grows) (λ m h. h) v);
       };
-      less = falls (f .each (coded .program) (coded .codes) w);
+      less = falls (f .each (coded .program) (coded .codes));
     }
 
     -- A look: what it gives its child is gathered.
-    pub looked : (o y : ℕ) (G G′ : Marks) → rowAt B (64 * i + k) ≡ look o y → Looks o y count B (64 * i + k) q W n G G′ T T′ D D₁ → TakenLook count B W n (q * per count + i) G G′ T T′ D D′
+    pub looked : (o y : ℕ) (G G′ : Marks) → rowAt B (64 * i + k) ≡ look o y → Looks o y count B (64 * i + k) q W n G G′ T T′ D D₁ → TakenLook count B W n j G G′ T T′ D D′
     looked o y G G′ e f = record {
       changed = f .changed;
       long = long (visit (coded .program) (coded .codes) .0);
       each = λ P c. let v = visit P c in (
-        stretch (v .0) (done-after P c G′ (_or_ (Stands n T) G) (_or_ (Stands n T′) G′) (λ m. ⊎-elim (λ h. inl (v .0 .grows m h)) (λ h. inr (v .1 .grows m h))) (λ m h. inr h) (v .0)),
+        stretch (v .0) (done-after P c G′ (_or_ (Stands n T) G) (_or_ (Stands n T′) G′) (λ m. ⊎-elim (λ h. inl (v .0 .infers .grows m h)) (λ h. inr (v .1 .grows m h))) (λ m h. inr h) (v .0)),
         v .1,
       );
       less = falls (visit (coded .program) (coded .codes) .0);
     }
       where
         visit : (P : Program) → Codes P count B → Visited count B n P W (64 * i + k) q G′ T T′ D D₁ (f .changed) × Gathers P W (Stands n T) G G′
-        visit P c = f .each P (c .nodes (64 * i + k) ∙ e) e w
+        visit P c = f .each P (c .nodes (64 * i + k) ∙ e) e

@@ -3,37 +3,29 @@
 use mathlib.Core.Path.{_≡_, refl, sym, ap, _∙_, subst}
 use mathlib.Core.List.{List}
 use mathlib.Core.Logic.{_⊎_, inl, inr, ⊎-elim}
-use Prim.Native.Nat.{ℕ, zero, suc, _+_, _*_, _/_, _^_, _≤_, _<_}
-use native.Mathlib.Nat.{le-of-eq, div-le-self}
+use Prim.Native.Nat.{ℕ, _+_, _*_, _/_, _^_, _<_}
+use native.Mathlib.Nat.{div-le-self}
 use native.Mathlib.Omega.{arith}
 use lib.Count.{trailingZeros}
 use lib.ListN.{getD}
 use Rattle.spec_ticks.specs.Ticks.{Has}
 use Rattle.spec_ticks.proofs.Bits.{bit-shr, has-below}
 use Rattle.spec_ticks.proofs.Counts.{first-has}
-use Rattle.spec_tilco.specs.Inference.{Program, mark, start}
-use Rattle.spec_tilco.specs.Table.{Stands, Inside}
-use Rattle.spec_tilco.proofs.Derives.{cut, stays-inside}
+use Rattle.spec_tilco.specs.Inference.{Program}
 use Rattle.close_rules.specs.Codes.{Coded}
 use Rattle.table_words.specs.Gains.{room}
+use Rattle.table_words.proofs.Telling.{some-or-none, tells-none, tells-then}
+use Rattle.close_rules.proofs.Moving.{infers-none, infers-then}
+use Rattle.close_list.specs.Workable.{Workable}
+use Rattle.close_list.proofs.Workable.{workable-after}
 use Rattle.close_word.specs.Stretches.{Stretch, Works, Taken, NoWord, OneWord}
-
-some-or-none : (k : ℕ) → (0 < k) ⊎ (k ≡ 0)
-some-or-none zero = inr refl
-some-or-none (suc k) = inl (omega arith)
-
-room-falls : {F G : List ℕ → List ℕ → Type 0} {n : ℕ} {P : Program} {W : ℕ} {Z : ℕ → Type 0} {T T′ D D′ : List ℕ} {x : ℕ} → Stretch F G n P W Z T T′ D D′ x → room T′ ≤ room T
-room-falls {x = x} m = ⊎-elim (λ l. omega (arith, m .moved l)) (λ e. le-of-eq (ap room (m .still e))) (some-or-none x)
 
 -- One stretch after another.
 pub stretch-then : {F G H : List ℕ → List ℕ → Type 0} {n : ℕ} {P : Program} {W : ℕ} {Y Z : ℕ → Type 0} (U : ℕ → Type 0) {T T′ T″ D D′ D″ : List ℕ} {x y : ℕ} → ((j : ℕ) → U j → Y j ⊎ Z j)
     → Stretch F G n P W Y T T′ D D′ x → Stretch G H n P W Z T′ T″ D′ D″ y → Stretch F H n P W U T T″ D D″ (x + y)
-stretch-then {Y = Y} {Z} U {D = D} {D′} {D″} {x} {y} among m k = record {
-  size = k .size ∙ m .size;
-  grows = λ p i. k .grows p (m .grows p i);
-  sound = λ p i. cut (m .sound) (k .sound p i);
-  moved = λ l. ⊎-elim (λ h. omega (arith, m .moved h, room-falls k)) (λ h. omega (arith, k .moved (omega arith), room-falls m)) (some-or-none x);
-  still = λ e. k .still (omega arith) ∙ m .still (omega arith);
+stretch-then U among m k = record {
+  infers = infers-then (m .infers) (k .infers);
+  tells = tells-then (m .tells) (k .tells);
   empty = λ e j. ⊎-elim (λ z. k .empty (omega arith) j (inl (m .empty (omega arith) j (inl z))))
       (λ u. ⊎-elim (λ h. k .empty (omega arith) j (inl (m .empty (omega arith) j (inr h)))) (λ h. k .empty (omega arith) j (inr h)) (among j u));
   rests = λ d. k .rests (m .rests d);
@@ -43,11 +35,8 @@ stretch-then {Y = Y} {Z} U {D = D} {D′} {D″} {x} {y} among m k = record {
 stretch-as : {F G : List ℕ → List ℕ → Type 0} {n : ℕ} {P : Program} {W : ℕ} {Y : ℕ → Type 0} (Z : ℕ → Type 0) {T T′ D D′ : List ℕ} {x : ℕ}
     → ((j : ℕ) → Z j → Y j ⊎ (getD D′ j 0 ≡ 0)) → Stretch F G n P W Y T T′ D D′ x → Stretch F G n P W Z T T′ D D′ x
 stretch-as Z f m = record {
-  size = m .size;
-  grows = m .grows;
-  sound = m .sound;
-  moved = m .moved;
-  still = m .still;
+  infers = m .infers;
+  tells = m .tells;
   empty = λ e j. ⊎-elim (λ z. m .empty e j (inl z)) (λ z. ⊎-elim (λ y. m .empty e j (inr y)) (λ y. y) (f j z));
   rests = m .rests;
 }
@@ -59,11 +48,8 @@ module _ (count : ℕ) (B : List ℕ) (W n : ℕ) where
     changed = 0;
     long = refl;
     each = λ P c. record {
-      size = refl;
-      grows = λ m i. i;
-      sound = λ m i. start i;
-      moved = λ l. absurd (omega arith);
-      still = λ e. refl;
+      infers = infers-none T;
+      tells = tells-none T;
       empty = λ e j. ⊎-elim (λ z. z) (λ z. absurd (f j z));
       rests = λ d. d;
     };
@@ -80,9 +66,9 @@ module _ (count : ℕ) (B : List ℕ) (W n : ℕ) where
     each = λ P c. stretch-as (OneWord j) (λ i e. inr (subst (λ (k : ℕ). getD D′ k 0 ≡ 0) (sym e) z)) (a .each P c);
   }
 
-  -- No mark leaves the window.
-  pub works-inside : (Z : ℕ → Type 0) {T T′ D D′ : List ℕ} → Coded count B → Inside W (Stands n T) → Works count B W n Z T T′ D D′ → Inside W (Stands n T′)
-  works-inside Z k w a r t v i = stays-inside w r t v (a .each (k .program) (k .codes) .sound (mark r t v) i)
+  -- Items can be visited still.
+  pub works-workable : (Z : ℕ → Type 0) {H N T T′ D D′ : List ℕ} → Workable count n W B H N D T → Works count B W n Z T T′ D D′ → Workable count n W B H N D′ T′
+  works-workable Z k a = workable-after k (a .long) (a .each (k .coded .program) (k .coded .codes) .infers)
 
   -- One stretch after another.
   pub works-then : (Y Z U : ℕ → Type 0) {T T′ T″ D D′ D″ : List ℕ} → ((j : ℕ) → U j → Y j ⊎ Z j) → Works count B W n Y T T′ D D′ → Works count B W n Z T′ T″ D′ D″ → Works count B W n U T T″ D D″
@@ -106,7 +92,7 @@ lowest-from x k small f =
 -- Visits to items of a word of the list leave the table less room, whatever the word is then, or the word smaller.
 pub stretch-less : {F G : List ℕ → List ℕ → Type 0} {n : ℕ} {P : Program} {W : ℕ} {Z : ℕ → Type 0} {T T′ D D′ : List ℕ} {x : ℕ} (j : ℕ) → Stretch F G n P W Z T T′ D D′ x
     → (x ≡ 0 → getD D′ j 0 < getD D j 0) → getD D′ j 0 < 2 ^ 64 → room T′ * 2 ^ 64 + getD D′ j 0 < room T * 2 ^ 64 + getD D j 0
-stretch-less {x = x} j m less small = ⊎-elim (λ l. omega (arith, m .moved l)) (λ e. omega (arith, less e, ap room (m .still e))) (some-or-none x)
+stretch-less {x = x} j m less small = ⊎-elim (λ l. omega (arith, m .tells .less-room l)) (λ e. omega (arith, less e, ap room (m .tells .still e))) (some-or-none x)
 
 pub taken-less : (count : ℕ) (B : List ℕ) (W n j : ℕ) {T T′ D D′ : List ℕ} → Coded count B → Taken count B W n j T T′ D D′ → getD D′ j 0 < 2 ^ 64
     → room T′ * 2 ^ 64 + getD D′ j 0 < room T * 2 ^ 64 + getD D j 0

@@ -4,23 +4,29 @@
 use mathlib.Core.Path.{_≡_}
 use mathlib.Core.List.{List}
 use mathlib.Core.Logic.{_⊎_}
-use Prim.Native.Nat.{ℕ, _<_}
+use Prim.Native.Nat.{ℕ, _+_, _*_, _<_}
 use lib.ListN.{length, getD}
-use Rattle.spec_tilco.specs.Inference.{Program, Mark, Marks, Derives, _or_}
+use Rattle.spec_ticks.specs.Ticks.{Has}
+use Rattle.spec_tilco.specs.Inference.{Program, Marks, _or_}
 use Rattle.spec_tilco.specs.Table.{Stands}
 use Rattle.close_rules.specs.Codes.{Codes}
-use Rattle.close_rules.specs.Moves.{Gathers}
-use Rattle.table_words.specs.Gains.{room}
-use Rattle.close_list.specs.Items.{DoneTo, Done}
+use Rattle.close_rules.specs.Moves.{Infers, Gathers}
+use Rattle.table_words.specs.Gains.{Tells}
+use Rattle.close_list.specs.Items.{per, DoneTo, Done}
 
--- What a stretch of visits does. Nothing is lost and what is new follows; if F holds of the table and the list before, G does after; and if
--- nothing changed the table is the same, and each word of the list that was 0, or is among Z, is 0.
+-- Bit k of word j of the list is set: an item of word q of ticks, of which this is the i-th word in the list.
+pub record ItemAt (count n q i j k : ℕ) (D : List ℕ) : Type 0 where
+  pub word : q < n
+  pub column : i < per count
+  pub place : j ≡ q * per count + i
+  pub bit : k < 64
+  pub on-list : Has (getD D j 0) k
+
+-- What a stretch of visits does. It infers marks; if F holds of the table and the list before, G does after; and if nothing changed, each word of the
+-- list that was 0, or is among Z, is 0.
 pub record Stretch (F G : List ℕ → List ℕ → Type 0) (n : ℕ) (P : Program) (W : ℕ) (Z : ℕ → Type 0) (T T′ D D′ : List ℕ) (changed : ℕ) : Type 0 where
-  pub size : length T′ ≡ length T
-  pub grows : (m : Mark) → Stands n T m → Stands n T′ m
-  pub sound : (m : Mark) → Stands n T′ m → Derives P W (Stands n T) m
-  pub moved : 0 < changed → room T′ < room T
-  pub still : changed ≡ 0 → T′ ≡ T
+  pub infers : Infers n P W T T′
+  pub tells : Tells T T′ changed
   pub empty : changed ≡ 0 → (j : ℕ) → (getD D j 0 ≡ 0) ⊎ Z j → getD D′ j 0 ≡ 0
   pub rests : F T D → G T′ D′
 

@@ -5,18 +5,19 @@ use close_looks::Child;
 use close_looks::child_at;
 use close_looks::visit_look;
 use close_store::mark_child;
+use spec_limits::ABOVE;
+use spec_limits::KINDS;
 use table_words::Words;
 ghost use mathlib.Core.Path.{_≡_};
 ghost use Prim.Native.Nat.{_+_, _-_, _*_, _/_, _%_, _^_, _<_, _≤_};
 ghost use lib.ListN.{length, getD, set};
+ghost use Rattle.spec_limits.specs.Limits.{codeKinds, codeNumbers};
 ghost use Rattle.spec_ticks.specs.Ticks.{Has};
-ghost use Rattle.spec_tilco.specs.Table.{Stands, Inside};
-ghost use Rattle.close_rules.specs.Codes.{Coded};
-ghost use Rattle.close_rules.specs.Moves.{Gathered, Sized};
-ghost use Rattle.close_looks.specs.Parts.{Sees};
-ghost use Rattle.close_parents.specs.Links.{Linked};
-ghost use Rattle.close_list.specs.Items.{per, Roomy};
-ghost use Rattle.close_word.specs.Stretches.{Works, OneWord, Taken, TakenLook};
+ghost use Rattle.close_rules.specs.Codes.{LooksAt};
+ghost use Rattle.close_looks.specs.Parts.{Sees, GatheredFor};
+ghost use Rattle.close_list.specs.Items.{per};
+ghost use Rattle.close_list.specs.Workable.{Workable};
+ghost use Rattle.close_word.specs.Stretches.{ItemAt, Works, OneWord, Taken, TakenLook};
 
 // Clears bit k, which is set, of word j of the list.
 fn clear_bit(todo: &mut [u64], j: usize, k: u64)
@@ -43,7 +44,7 @@ fn next_bit(word: u64, from: u64) -> u64
 // those of the rows from `start` on.
 fn next_look(rows: &[u64], start: usize, word: u64, from: u64, kind: u64) -> u64
     requires { ⌜ (from < 64) × (start + 64 ≤ length (now rows)) ⌝ }
-    ensures { λ k. ⌜ (k < 64 → Has word k × (getD (now (rows .entry)) (start + k) 0 % 524288 ≡ kind)) ⌝ }
+    ensures { λ k. ⌜ (k < 64 → Has word k × (getD (now (rows .entry)) (start + k) 0 % (codeKinds * codeNumbers) ≡ kind)) ⌝ }
 {
     let rest = word >> from;
     if rest == 0 {
@@ -51,7 +52,7 @@ fn next_look(rows: &[u64], start: usize, word: u64, from: u64, kind: u64) -> u64
     }
     let k = from + u64::trailing_zeros(rest) as u64;
     let w = rows[start + (k as usize)];
-    if w % 524288 != kind {
+    if w % ABOVE != kind {
         return 64;
     }
     k
@@ -73,18 +74,14 @@ fn take_look(
     todo: &mut [u64],
     marks: &mut [u64],
 ) -> Words
-    requires { ⌜ Coded count (now rows) ⌝ }
-    requires { ⌜ (i < per count) × (j ≡ child .q * per count + i) × (k < 64) × Has (getD (now todo) j 0) k × (getD (now rows) (64 * i + k) 0 % 524288 ≡ 8 * child .row + 3) ⌝ }
-    requires { ⌜ Sees n window (now marks) (child .row) (child .q) (child .words .this) (child .words .other) (child .here) ⌝ }
-    requires { ⌜ Linked count (now rows) (now heads) (now nexts) ⌝ }
-    requires { ⌜ Roomy count n (now todo) ⌝ }
-    requires { ⌜ Sized n count window (now marks) ⌝ }
-    requires { ⌜ Inside window (Stands n (now marks)) ⌝ }
-    ensures { λ g. ⌜ TakenLook count (now (rows .entry)) window n j (Gathered (child .row) (child .q) (given .this) (given .other)) (Gathered (child .row) (child .q) (g .this) (g .other)) (now (marks .entry)) (now (marks .exit)) (now (todo .entry)) (now (todo .exit)) ⌝ }
-    ensures { λ _. ⌜ Sees n window (now (marks .exit)) (child .row) (child .q) (child .words .this) (child .words .other) (child .here) ⌝ }
+    requires { ⌜ Workable count n window (now rows) (now heads) (now nexts) (now todo) (now marks) ⌝ }
+    requires { ⌜ ItemAt count n (child .q) i j k (now todo) × LooksAt (now rows) (64 * i + k) (child .row) ⌝ }
+    requires { ⌜ Sees n window (now marks) child ⌝ }
+    ensures { λ g. ⌜ TakenLook count (now (rows .entry)) window n j (GatheredFor child given) (GatheredFor child g) (now (marks .entry)) (now (marks .exit)) (now (todo .entry)) (now (todo .exit)) ⌝ }
+    ensures { λ _. ⌜ Sees n window (now (marks .exit)) child ⌝ }
 {
     let row = 64 * i + (k as usize);
-    let offset = rows[row] / 524288;
+    let offset = rows[row] / ABOVE;
     let g = visit_look(
         rows,
         count,
@@ -118,18 +115,13 @@ fn take_looks(
     todo: &mut [u64],
     marks: &mut [u64],
 )
-    requires { ⌜ Coded count (now rows) ⌝ }
-    requires { ⌜ (q < n) × (i < per count) × (j ≡ q * per count + i) × (first < 64) × Has (getD (now todo) j 0) first ⌝ }
-    requires { ⌜ getD (now rows) (64 * i + first) 0 % 8 ≡ 3 ⌝ }
-    requires { ⌜ Linked count (now rows) (now heads) (now nexts) ⌝ }
-    requires { ⌜ Roomy count n (now todo) ⌝ }
-    requires { ⌜ Sized n count window (now marks) ⌝ }
-    requires { ⌜ Inside window (Stands n (now marks)) ⌝ }
+    requires { ⌜ Workable count n window (now rows) (now heads) (now nexts) (now todo) (now marks) ⌝ }
+    requires { ⌜ ItemAt count n q i j first (now todo) × (getD (now rows) (64 * i + first) 0 % codeKinds ≡ 3) ⌝ }
     ensures { λ _. ⌜ Taken count (now (rows .entry)) window n j (now (marks .entry)) (now (marks .exit)) (now (todo .entry)) (now (todo .exit)) ⌝ }
 {
     let start = 64 * i;
-    let kind = rows[start + (first as usize)] % 524288;
-    let c = (kind / 8) as usize;
+    let kind = rows[start + (first as usize)] % ABOVE;
+    let c = (kind / KINDS) as usize;
     let child = child_at(marks, n, q, c, window);
     let mut given = Words { this: 0, other: 0 };
     let mut k = first;
@@ -169,17 +161,13 @@ fn take(
     todo: &mut [u64],
     marks: &mut [u64],
 )
-    requires { ⌜ Coded count (now rows) ⌝ }
-    requires { ⌜ (q < n) × (i < per count) × (j ≡ q * per count + i) × (k < 64) × Has (getD (now todo) j 0) k ⌝ }
-    requires { ⌜ Linked count (now rows) (now heads) (now nexts) ⌝ }
-    requires { ⌜ Roomy count n (now todo) ⌝ }
-    requires { ⌜ Sized n count window (now marks) ⌝ }
-    requires { ⌜ Inside window (Stands n (now marks)) ⌝ }
+    requires { ⌜ Workable count n window (now rows) (now heads) (now nexts) (now todo) (now marks) ⌝ }
+    requires { ⌜ ItemAt count n q i j k (now todo) ⌝ }
     ensures { λ _. ⌜ Taken count (now (rows .entry)) window n j (now (marks .entry)) (now (marks .exit)) (now (todo .entry)) (now (todo .exit)) ⌝ }
 {
     let row = 64 * i + (k as usize);
     let w = rows[row];
-    if w % 8 == 3 {
+    if w % KINDS == 3 {
         take_looks(
             rows,
             count,
@@ -213,12 +201,8 @@ pub fn work_word(
     todo: &mut [u64],
     marks: &mut [u64],
 )
-    requires { ⌜ Coded count (now rows) ⌝ }
+    requires { ⌜ Workable count n window (now rows) (now heads) (now nexts) (now todo) (now marks) ⌝ }
     requires { ⌜ (q < n) × (i < per count) ⌝ }
-    requires { ⌜ Linked count (now rows) (now heads) (now nexts) ⌝ }
-    requires { ⌜ Roomy count n (now todo) ⌝ }
-    requires { ⌜ Sized n count window (now marks) ⌝ }
-    requires { ⌜ Inside window (Stands n (now marks)) ⌝ }
     ensures { λ _. ⌜ Works count (now (rows .entry)) window n (OneWord (q * per count + i)) (now (marks .entry)) (now (marks .exit)) (now (todo .entry)) (now (todo .exit)) ⌝ }
 {
     let stride = (count + 63) / 64;

@@ -14,7 +14,7 @@ use Rattle.read_names.specs.Words.{namesAt}
 use Rattle.spec_ticks.specs.Ticks.{Small}
 use Rattle.spec_tilco.specs.Inference.{Clash}
 use Rattle.spec_tilco.specs.Lowering.{program}
-use Rattle.spec_tilco.specs.Table.{words, Stands, Inside, facts, factsOf, Added}
+use Rattle.spec_tilco.specs.Table.{words, Stands, facts, factsOf, Added}
 use Rattle.spec_tilco.proofs.Order.{top-is-row}
 use Rattle.spec_tilco.proofs.Demand2.{added-from, added-facts}
 use Rattle.table_marks.specs.Puts.{Puts}
@@ -24,10 +24,9 @@ use Rattle.read_sheet.proofs.Accepted.{sheet-declared}
 use Rattle.read_readings.specs.Readings.{readings}
 use Rattle.read_readings.proofs.Bounds.{readings-within, puts-inside}
 use Rattle.read_readings.proofs.Outcomes.{Accepted-as}
-use Rattle.close_rules.specs.Codes.{Coded}
-use Rattle.close_rules.specs.Moves.{Sized}
 use Rattle.close_table.specs.Closes.{SettlesAll}
 use Rattle.close_list.specs.Items.{Roomy, per}
+use Rattle.close_list.specs.Workable.{Closable}
 use Rattle.close_table.proofs.Outcomes.{settles-added}
 use Rattle.open_sheet.specs.Results.{accepted, refused}
 use Rattle.spec_operations.specs.Results.{gain}
@@ -55,19 +54,15 @@ module _ {s T places B tops : List ℕ} {w t count : ℕ} (h : AtHand s T places
 
   module _ (r T₁ : List ℕ) (a : Accepted-as (readings (namesAt s places) w r) n T T₁) where
     pub settle-asks : (D : List ℕ) → per mostRows * mostWords ≤ length D
-        → Coded count B × (((t ≤ length tops) × ((i : ℕ) → i < t → getD tops i 0 < count)) × (Roomy count n D × (Sized n count w T₁ × Inside w (Stands n T₁))))
+        → Closable count n w B D T₁ × ((t ≤ length tops) × ((i : ℕ) → i < t → getD tops i 0 < count))
     settle-asks D l = (
-      record { program = program (meant c); codes = k .codes },
-      (
-        (k .few, λ i l. omega (arith, top-is-row (meant c) (sheet-declared s (known h n e .reads)) (getD tops i 0) (k .tops-are .given i l), k .rows)),
-        (
-          list-fits mostWords (some-words h n e .widest) D l,
-          (
-            record { some = some-window h n e .0; most = omega (arith, some-window h n e .1); words-are = e; long = omega (arith, table-length h n e, a .puts .size) },
-            puts-inside (length (namesAt s places)) w n (readings-within (namesAt s places) w r (some-window h n e .0) (a .all)) (table-inside h n e) (a .puts),
-          ),
-        ),
-      ),
+      record {
+        coded = record { program = program (meant c); codes = k .codes };
+        roomy = list-fits mostWords (some-words h n e .widest) D l;
+        sized = record { some = some-window h n e .0; most = omega (arith, some-window h n e .1); words-are = e; long = omega (arith, table-length h n e, a .puts .size) };
+        inside = puts-inside (length (namesAt s places)) w n (readings-within (namesAt s places) w r (some-window h n e .0) (a .all)) (table-inside h n e) (a .puts);
+      },
+      (k .few, λ i l. omega (arith, top-is-row (meant c) (sheet-declared s (known h n e .reads)) (getD tops i 0) (k .tops-are .given i l), k .rows)),
     )
 
     module _ (U : List ℕ) (z : SettlesAll count B tops t w n T₁ U) where

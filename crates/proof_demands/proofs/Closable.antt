@@ -114,7 +114,7 @@ put-one n U r t v h l small out = record {
   table = set U i w;
   puts = puts;
   small = small-set U i w inside (or-lt 64 (getD U i 0) (2 ^ (t % 64)) (small i) one-bit) small;
-  less = joins-some n U r v (t / 64) (2 ^ (t % 64)) (omega arith) i refl inside (small i) one-bit new .moved (omega arith);
+  less = joins-some n U r v (t / 64) (2 ^ (t % 64)) (omega arith) i refl inside (small i) one-bit new .tells .less-room (omega arith);
 }
   where
     i : ℕ

@@ -8,9 +8,9 @@ use Prim.Native.Nat.{ℕ, zero, suc, _+_, _<_, _≤_}
 use native.Mathlib.Decide.{ℕ-discrete, decLt}
 use native.Mathlib.Omega.{arith}
 use lib.ListN.{length}
-use Rattle.spec_tilco.specs.Inference.{Node, signal, notOf, gate, look, Program, node, Mark, mark, Marks, Shifted, down-left, down-right, up-left, up-right, look-down, look-up, not-down, not-up, up-both, rest-right, rest-left, Derives, start, top, one, two, _or_}
+use Rattle.spec_tilco.specs.Inference.{Node, signal, notOf, gate, look, Program, node, Mark, mark, Marks, Shifted, down-left, down-right, up-left, up-right, look-down, look-up, not-down, not-up, up-both, rest-right, rest-left, Derives, start, top, one, two, GateSettled, _or_}
 use Rattle.spec_tilco.specs.Table.{Stands, Inside, Taken}
-use Rattle.spec_tilco.proofs.Closing.{GateSettled, SettledAt, finished}
+use Rattle.spec_tilco.proofs.Closing.{SettledAt, finished}
 use Rattle.proof_demands.proofs.Deciding.{stands-told}
 
 -- ---- all of finitely many hold, or M does

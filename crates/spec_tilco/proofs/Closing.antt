@@ -8,17 +8,7 @@ use Prim.Native.Nat.{ℕ, _<_}
 use native.Mathlib.Decide.{decLt}
 use native.Mathlib.Omega.{arith}
 use lib.ListN.{length, List·getD-eq-default}
-use Rattle.spec_tilco.specs.Inference.{Node, signal, notOf, gate, look, Program, node, Mark, mark, Marks, Shifted, One, down-left, down-right, up-left, up-right, look-down, look-up, not-down, not-up, Two, up-both, rest-right, rest-left, Derives, start, top, one, two}
-
--- The rules add nothing at the gate's row r over the rows a and b, at tick t.
-pub record GateSettled (T : Marks) (u : Bool) (r a b t : ℕ) : Type 0 where
-  pub down-left : T (mark r t u) → T (mark a t u)
-  pub down-right : T (mark r t u) → T (mark b t u)
-  pub up-both : T (mark a t u) → T (mark b t u) → T (mark r t u)
-  pub up-left : T (mark a t (not u)) → T (mark r t (not u))
-  pub up-right : T (mark b t (not u)) → T (mark r t (not u))
-  pub rest-right : T (mark r t (not u)) → T (mark a t u) → T (mark b t (not u))
-  pub rest-left : T (mark r t (not u)) → T (mark b t u) → T (mark a t (not u))
+use Rattle.spec_tilco.specs.Inference.{Node, signal, notOf, gate, look, Program, node, Mark, mark, Marks, Shifted, One, down-left, down-right, up-left, up-right, look-down, look-up, not-down, not-up, Two, up-both, rest-right, rest-left, Derives, start, top, one, two, GateSettled}
 
 -- The rules add nothing at row r, by its node.
 abbrev pub SettledAt : ℕ → Marks → ℕ → Node → Type 0

@@ -61,6 +61,16 @@ pub data Derives (P : Program) (W : ℕ) (S : Marks) : Mark → Type 0 where
   one : {p m : Mark} → One P W p m → Derives P W S p → Derives P W S m
   two : {p q m : Mark} → Two P p q m → Derives P W S p → Derives P W S q → Derives P W S m
 
+-- A gate's rules add nothing to the marks T at tick t: row r is the gate, over the rows a and b.
+pub record GateSettled (T : Marks) (u : Bool) (r a b t : ℕ) : Type 0 where
+  pub down-left : T (mark r t u) → T (mark a t u)
+  pub down-right : T (mark r t u) → T (mark b t u)
+  pub up-both : T (mark a t u) → T (mark b t u) → T (mark r t u)
+  pub up-left : T (mark a t (not u)) → T (mark r t (not u))
+  pub up-right : T (mark b t (not u)) → T (mark r t (not u))
+  pub rest-right : T (mark r t (not u)) → T (mark a t u) → T (mark b t (not u))
+  pub rest-left : T (mark r t (not u)) → T (mark b t u) → T (mark a t (not u))
+
 -- Two sets of marks together.
 abbrev pub _or_ : Marks → Marks → Marks
 _or_ S R m = S m ⊎ R m

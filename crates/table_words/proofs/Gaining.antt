@@ -20,6 +20,7 @@ use Rattle.table_marks.proofs.Marks.{gains-then, word-joined}
 use Rattle.table_marks.specs.Puts.{Gains}
 use Rattle.table_words.specs.Gains.{Ticks, Here, Sides, Reads, Bits, room, Joins}
 use Rattle.table_words.proofs.OneWord.{read-ticks}
+use Rattle.table_words.proofs.Telling.{tells-none, tells-some}
 
 -- A word that grows leaves as much less room.
 room-set : (T : List ℕ) (i v : ℕ) → i < length T → getD T i 0 ≤ v → v < 2 ^ 64 → room (set T i v) + v ≡ room T + getD T i 0
@@ -30,7 +31,7 @@ room-set (x ∷ xs) (suc i) v h l b = omega (arith, room-set xs i v (le-of-suc-l
 
 -- The marks gained, said otherwise.
 joins-set : {n : ℕ} {R : Marks} (Q : Marks) {T T′ : List ℕ} {x : ℕ} → ((m : Mark) → R m ↔ Q m) → Joins n R T T′ x → Joins n Q T T′ x
-joins-set {n} Q {T} {T′} f j = record { gains = record { size = j .gains .size; exactly = each }; still = j .still; moved = j .moved; small = j .small }
+joins-set {n} Q {T} {T′} f j = record { gains = record { size = j .gains .size; exactly = each }; tells = j .tells; small = j .small }
   where
     each : (m : Mark) → Stands n T′ m ↔ (_or_ (Stands n T) Q) m
     each m = (
@@ -54,14 +55,13 @@ module _ (n : ℕ) (T : List ℕ) (r : ℕ) (v : Bool) (q ticks : ℕ) (l : q < 
 
   -- All of the ticks were there.
   pub joins-none : joined ≡ getD T i 0 → Joins n (Here r v q (Bits ticks)) T T 0
-  joins-none s = record { gains = none-gained s; still = λ z. refl; moved = λ z. absurd (omega arith); small = omega arith }
+  joins-none s = record { gains = none-gained s; tells = tells-none T; small = omega arith }
 
   -- Some of them were not.
   pub joins-some : getD T i 0 < 2 ^ 64 → ticks < 2 ^ 64 → (joined ≡ getD T i 0 → ⊥) → Joins n (Here r v q (Bits ticks)) T (set T i joined) 1
   joins-some a b f = record {
     gains = set-gains joined refl;
-    still = λ z. absurd (omega arith);
-    moved = λ z. omega (arith, f, or-ge (getD T i 0) ticks, room-set T i joined inside (or-ge (getD T i 0) ticks) (or-lt 64 (getD T i 0) ticks a b));
+    tells = tells-some (omega (arith, f, or-ge (getD T i 0) ticks, room-set T i joined inside (or-ge (getD T i 0) ticks) (or-lt 64 (getD T i 0) ticks a b)));
     small = omega arith;
   }
 
@@ -103,8 +103,7 @@ module _ (n : ℕ) (T : List ℕ) (r : ℕ) (u : Bool) (q v w : ℕ) (l : q < n)
   sides-none z = let s = same-words (getD T i 0) (getD T j 0) x y z in record {
     gains = gains-then n (Here r u q (Bits v)) (Here r (not u) q (Bits w)) (Sides r u q (Bits v) (Bits w)) (λ m. (λ h. h, λ h. h))
         (none-gained n T r u q v l i e hi (s .0)) (none-gained n T r (not u) q w l j f hj (s .1));
-    still = λ z. refl;
-    moved = λ z. absurd (omega arith);
+    tells = tells-none T;
     small = omega arith;
   }
 
@@ -114,8 +113,7 @@ module _ (n : ℕ) (T : List ℕ) (r : ℕ) (u : Bool) (q v w : ℕ) (l : q < n)
   sides-some a b c d z = record {
     gains = gains-then n (Here r u q (Bits v)) (Here r (not u) q (Bits w)) (Sides r u q (Bits v) (Bits w)) (λ m. (λ h. h, λ h. h))
         (set-gains n T r u q v l i e hi x refl) (set-gains n (set T i x) r (not u) q w l j f within y (ap (λ (k : ℕ). bitOr k w) (sym after)));
-    still = λ z. absurd (omega arith);
-    moved = λ k. ⊎-elim (λ g. omega (arith, first, second)) (λ g. absurd (z (equal g))) (lt-or-ge (getD T i 0 + getD T j 0) (x + y));
+    tells = tells-some (⊎-elim (λ g. omega (arith, first, second)) (λ g. absurd (z (equal g))) (lt-or-ge (getD T i 0 + getD T j 0) (x + y)));
     small = omega arith;
   }
     where

@@ -15,6 +15,10 @@ use Rattle.table_marks.specs.Puts.{Gains}
 abbrev pub HasRow : ℕ → List ℕ → ℕ → Type 0
 HasRow n T r = 2 * (r + 1) * n ≤ length T
 
+-- The table has the first `count` rows.
+abbrev pub HasRows : ℕ → List ℕ → ℕ → Type 0
+HasRows n T count = 2 * count * n ≤ length T
+
 -- The ticks of v, as word q, are those of U.
 abbrev pub Ticks : ℕ → ℕ → (ℕ → Type 0) → Type 0
 Ticks q v U = (b : ℕ) → b < 64 → Has v b ↔ U (q * 64 + b)
@@ -41,11 +45,15 @@ unfoldable pub room : List ℕ → ℕ
 room [] = 0
 room (x ∷ xs) = (2 ^ 64 - x) + room xs
 
+-- The number tells whether the table changed: if it is 0 the table is the same, else its words have less room to grow.
+pub record Tells (T T′ : List ℕ) (changed : ℕ) : Type 0 where
+  pub still : changed ≡ 0 → T′ ≡ T
+  pub less-room : 0 < changed → room T′ < room T
+
 -- The marks R are gained, by a function that says whether the table changed.
 pub record Joins (n : ℕ) (R : Marks) (T T′ : List ℕ) (changed : ℕ) : Type 0 where
   pub gains : Gains n R T T′
-  pub still : changed ≡ 0 → T′ ≡ T
-  pub moved : 0 < changed → room T′ < room T
+  pub tells : Tells T T′ changed
   pub small : changed ≤ 1
 
 -- Ticks at which the marks (a, x) and (b, y) both stand.

@@ -33,8 +33,9 @@ same-length c = search needs
 
 returns-3 : tie.Need-returns-3
 returns-3 c =
+    let enter = c .before .before .enter in
     let a = c .before .before .before .before .before .before .before .args in
-    enters-as _ _ (λ i y h. (h .1 .2 ∙ ap (λ (q : ℕ). q * a .stride) (omega (arith, h .1 .1)), h .0)) (c .before .before .enter .ensures)
+    enters-as _ _ (λ i y h. (h .1 .2 ∙ ap (λ (q : ℕ). q * a .stride) (omega (arith, h .1 .1)), h .0)) (enter .ensures)
 
 pub enter-before-spec : {M : Type 1} → statement M
 enter-before-spec =

@@ -43,8 +43,10 @@ same-length c = search needs
 
 returns-2 : tie.Need-returns-2
 returns-2 c =
+    let enter-before = c .before .before .before .before .before .before .enter-before in
+    let enter-before2 = c .before .before .enter-before2 in
     let a = c .before .before .before .before .before .before .before .before .before .before .before .before .before .args in
-    enters-two _ _ _ _ _ (λ p h. row-own-look (a .count) (a .rows .now) (a .x) (omega arith) _ _ h) (c .before .before .before .before .before .before .enter-before .ensures) (c .before .before .enter-before2 .ensures)
+    enters-two _ _ _ _ _ (λ p h. row-own-look (a .count) (a .rows .now) (a .x) (omega arith) _ _ h) (enter-before .ensures) (enter-before2 .ensures)
 
 mul-enter : tie.Need-mul-enter
 mul-enter c =
@@ -63,8 +65,9 @@ same-length-2 c = search needs
 
 returns-3 : tie.Need-returns-3
 returns-3 c =
+    let enter = c .before .before .enter in
     let a = c .before .before .before .before .before .before .before .before .before .args in
-    enters-own _ _ _ _ _ (λ p h. row-own-here (a .count) (a .rows .now) (a .x) (λ e. omega (arith, e)) _ _ h) (c .before .before .enter .ensures)
+    enters-own _ _ _ _ _ (λ p h. row-own-here (a .count) (a .rows .now) (a .x) (λ e. omega (arith, e)) _ _ h) (enter .ensures)
 
 pub enter-own-spec : {M : Type 1} → statement M
 enter-own-spec =

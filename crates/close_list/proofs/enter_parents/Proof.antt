@@ -12,13 +12,15 @@ abbrev μ-loop : tie.MeasureT-loop
 μ-loop count head nexts todo₀ i h₀ todo h = h
 
 loop-holds : tie.Need-loop-holds Inv-loop μ-loop
-loop-holds c = walk-start _ _ _ _ _ (c .before .before .pre .0)
+loop-holds c =
+    let asked = c .before .before .pre in
+    walk-start _ _ _ _ _ (asked .0)
 
 enter-requires : tie.Need-enter-requires Inv-loop μ-loop
 enter-requires c κs =
     let o = c .before .before .before .before .before .pre in
     let l = c .before .before .loop in
-    omega (arith, walk-edge _ _ _ _ _ _ _ (omega arith) (l .inv), o .2, l .inv .size)
+    omega (arith, walk-edge _ _ _ _ _ _ _ (omega arith) (l .inv), o .2, l .inv .keeps .size)
 
 mul-index : tie.Need-mul-index Inv-loop μ-loop
 mul-index c =
@@ -42,11 +44,12 @@ loop-less c =
 
 loop-again : tie.Need-loop-again Inv-loop μ-loop
 loop-again c =
+    let enter = c .before .before .before .before .enter in
     let l = c .before .before .before .before .before .before .before .loop in
-    walk-more _ _ _ _ _ _ _ _ _ (omega arith) (c .index .ensures) (l .inv) (c .before .before .before .before .enter .ensures)
+    walk-more _ _ _ _ _ _ _ _ _ (omega arith) (c .index .ensures) (l .inv) (enter .ensures)
 
 same-length : tie.Need-same-length Inv-loop μ-loop
-same-length c = c .before .loop .inv .size
+same-length c = c .before .loop .inv .keeps .size
 
 returns : tie.Need-returns Inv-loop μ-loop
 returns c = walk-end _ _ _ _ _ _ _ (omega arith) (c .before .loop .inv)

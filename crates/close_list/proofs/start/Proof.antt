@@ -2,7 +2,7 @@
 use native.Mathlib.Omega.{arith}
 use Prim.Native.Nat.{_-_, _≤_, _<_}
 use Rattle.close_list.specs.Items.{Starts}
-use Rattle.close_list.proofs.Noting.{roomy-as}
+use Rattle.close_list.proofs.Workable.{queueable-as}
 use Rattle.close_list.proofs.Starting.{starts-none, starts-column, starts-as, starts-done}
 use Rattle.close_list.proofs.start.Statement.{statement}
 use Rattle.close_list.proofs.start.Tie as tie
@@ -18,8 +18,9 @@ loop-holds c = (omega arith, starts-none _ _ _ _ _ _ (λ x p z. omega (arith, z 
 
 start-column-requires : tie.Need-start-column-requires Inv-loop μ-loop
 start-column-requires c κs =
+    let loop = c .before .before .loop in
     let o = c .before .before .before .before .before .before .before .before .pre in
-    (o .0, ((omega arith, o .1 .0), (o .1 .1 .0, roomy-as (c .before .before .loop .inv .1 .size) (o .1 .1 .1))))
+    (queueable-as (loop .inv .1 .keeps .size) (o .0), (omega arith, o .1))
 
 add-q : tie.Need-add-q Inv-loop μ-loop
 add-q c = omega arith
@@ -28,13 +29,18 @@ loop-less : tie.Need-loop-less Inv-loop μ-loop
 loop-less c = omega arith
 
 loop-again : tie.Need-loop-again Inv-loop μ-loop
-loop-again c = (omega arith, starts-column _ _ _ _ _ _ _ _ (c .before .before .before .before .before .loop .inv .1) (c .before .before .start-column .ensures))
+loop-again c =
+    let loop = c .before .before .before .before .before .loop in
+    let start-column = c .before .before .start-column in
+    (omega arith, starts-column _ _ _ _ _ _ _ _ (loop .inv .1) (start-column .ensures))
 
 same-length : tie.Need-same-length Inv-loop μ-loop
-same-length c = c .before .loop .inv .1 .size
+same-length c = c .before .loop .inv .1 .keeps .size
 
 returns : tie.Need-returns Inv-loop μ-loop
-returns c = starts-done _ _ _ _ _ _ (c .before .before .before .before .before .before .before .pre .0) (starts-as _ _ _ _ _ _ _ _ (λ x p z. (z .0, omega (arith, z .1))) (c .before .loop .inv .1))
+returns c =
+    let asked = c .before .before .before .before .before .before .before .pre in
+    starts-done _ _ _ _ _ _ (asked .0 .coded) (starts-as _ _ _ _ _ _ _ _ (λ x p z. (z .0, omega (arith, z .1))) (c .before .loop .inv .1))
 
 pub start-spec : {M : Type 1} → statement M
 start-spec =

@@ -9,7 +9,7 @@ use lib.ListN.{getD}
 use Rattle.table_marks.proofs.Places.{two-blocks, first-block, second-block}
 use Rattle.close_list.specs.Items.{Starts}
 use Rattle.close_list.proofs.Starting.{place-in, starts-none, starts-touched, starts-bare, starts-row, starts-as}
-use Rattle.close_list.proofs.Noting.{roomy-as}
+use Rattle.close_list.proofs.Workable.{queueable-as}
 use Rattle.close_list.proofs.start_column.Statement.{statement}
 use Rattle.close_list.proofs.start_column.Tie as tie
 
@@ -28,7 +28,7 @@ mul-yes c =
     let a = c .before .before .before .before .before .before .before .args in
     let o = c .before .before .before .before .before .before .before .pre in
     let l = c .before .loop .inv in
-    let i = place-in (a .n) (a .count) _ (a .q) _ _ (omega arith) (o .1 .0 .0) (o .1 .0 .1) (l .1) in
+    let i = place-in (a .n) (a .count) _ (a .q) _ _ (omega arith) (o .1 .0) (o .1 .1) (l .1) in
     omega arith
 
 shared-slice-read-yes : tie.Need-shared-slice-read-yes Inv-loop μ-loop
@@ -36,7 +36,7 @@ shared-slice-read-yes c =
     let a = c .before .before .before .before .before .before .before .before .args in
     let o = c .before .before .before .before .before .before .before .before .pre in
     let l = c .before .before .loop .inv in
-    let i = place-in (a .n) (a .count) _ (a .q) _ _ (omega arith) (o .1 .0 .0) (o .1 .0 .1) (l .1) in
+    let i = place-in (a .n) (a .count) _ (a .q) _ _ (omega arith) (o .1 .0) (o .1 .1) (l .1) in
     omega arith
 
 add-no : tie.Need-add-no Inv-loop μ-loop
@@ -44,7 +44,7 @@ add-no c =
     let a = c .before .before .before .before .before .before .before .before .args in
     let o = c .before .before .before .before .before .before .before .before .pre in
     let l = c .before .before .loop .inv in
-    let i = place-in (a .n) (a .count) _ (a .q) _ _ (omega arith) (o .1 .0 .0) (o .1 .0 .1) (l .1) in
+    let i = place-in (a .n) (a .count) _ (a .q) _ _ (omega arith) (o .1 .0) (o .1 .1) (l .1) in
     omega arith
 
 mul-no : tie.Need-mul-no Inv-loop μ-loop
@@ -52,7 +52,7 @@ mul-no c =
     let a = c .before .before .before .before .before .before .before .before .args in
     let o = c .before .before .before .before .before .before .before .before .pre in
     let l = c .before .before .loop .inv in
-    let i = place-in (a .n) (a .count) _ (a .q) _ _ (omega arith) (o .1 .0 .0) (o .1 .0 .1) (l .1) in
+    let i = place-in (a .n) (a .count) _ (a .q) _ _ (omega arith) (o .1 .0) (o .1 .1) (l .1) in
     omega arith
 
 shared-slice-read-no : tie.Need-shared-slice-read-no Inv-loop μ-loop
@@ -60,21 +60,21 @@ shared-slice-read-no c =
     let a = c .before .before .before .before .before .before .before .before .before .args in
     let o = c .before .before .before .before .before .before .before .before .before .pre in
     let l = c .before .before .before .loop .inv in
-    let i = place-in (a .n) (a .count) _ (a .q) _ _ (omega arith) (o .1 .0 .0) (o .1 .0 .1) (l .1) in
+    let i = place-in (a .n) (a .count) _ (a .q) _ _ (omega arith) (o .1 .0) (o .1 .1) (l .1) in
     omega arith
 
 touch-requires : tie.Need-touch-requires Inv-loop μ-loop
 touch-requires c κs =
     let o = c .before .before .before .before .before .before .before .before .before .before .before .pre in
     let l = c .before .before .before .before .before .loop .inv in
-    (o .0, ((omega arith, o .1 .0 .0), (o .1 .1 .0, roomy-as (l .2 .size) (o .1 .1 .1))))
+    (queueable-as (l .2 .keeps .size) (o .0), (omega arith, o .1 .0))
 
 mul-place : tie.Need-mul-place Inv-loop μ-loop
 mul-place c =
     let a = c .before .before .before .before .before .before .before .before .before .before .args in
     let o = c .before .before .before .before .before .before .before .before .before .before .pre in
     let l = c .before .before .before .before .loop .inv in
-    let i = place-in (a .n) (a .count) _ (a .q) _ _ (omega arith) (o .1 .0 .0) (o .1 .0 .1) (l .1) in
+    let i = place-in (a .n) (a .count) _ (a .q) _ _ (omega arith) (o .1 .0) (o .1 .1) (l .1) in
     omega arith
 
 add-place : tie.Need-add-place Inv-loop μ-loop
@@ -82,7 +82,7 @@ add-place c =
     let a = c .before .before .before .before .before .before .before .before .before .before .args in
     let o = c .before .before .before .before .before .before .before .before .before .before .pre in
     let l = c .before .before .before .before .loop .inv in
-    let i = place-in (a .n) (a .count) _ (a .q) _ _ (omega arith) (o .1 .0 .0) (o .1 .0 .1) (l .1) in
+    let i = place-in (a .n) (a .count) _ (a .q) _ _ (omega arith) (o .1 .0) (o .1 .1) (l .1) in
     omega arith
 
 add-x : tie.Need-add-x Inv-loop μ-loop
@@ -93,10 +93,11 @@ loop-less c = omega arith
 
 loop-again : tie.Need-loop-again Inv-loop μ-loop
 loop-again c =
+    let loop = c .before .before .before .before .loop in
     let a = c .before .before .before .before .before .before .before .before .before .before .args in
     let o = c .before .before .before .before .before .before .before .before .before .before .pre in
-    let l = c .before .before .before .before .loop .inv in
-    let x = c .before .before .before .before .loop .x in
+    let l = loop .inv in
+    let x = loop .x in
     let yes = ap (λ (i : ℕ). getD (a .marks .now) i 0) (l .1 ∙ first-block (a .n) x (a .q) true refl) in
     let no = ap (λ (i : ℕ). getD (a .marks .now) i 0) (ap (λ (i : ℕ). i + a .n) (l .1) ∙ second-block (a .n) x (a .q) false refl) in (
       omega arith,
@@ -106,7 +107,7 @@ loop-again c =
     )
 
 same-length : tie.Need-same-length Inv-loop μ-loop
-same-length c = c .before .loop .inv .2 .size
+same-length c = c .before .loop .inv .2 .keeps .size
 
 returns : tie.Need-returns Inv-loop μ-loop
 returns c =

@@ -6,20 +6,25 @@ use Rattle.close_list.proofs.touch.Statement.{statement}
 use Rattle.close_list.proofs.touch.Tie as tie
 
 enter-own-requires : tie.Need-enter-own-requires
-enter-own-requires c κs = search needs
+enter-own-requires c κs =
+    let o = c .before .before .before .before .before .pre in
+    (o .0 .coded, (o .1, o .0 .roomy))
 
 touch-parents-requires : tie.Need-touch-parents-requires
 touch-parents-requires c κs =
+    let enter-own = c .before .before .before .enter-own in
     let o = c .before .before .before .before .before .before .before .before .before .pre in
-    (o .1 .0, (ended (o .1 .1 .0), roomy-as (c .before .before .before .enter-own .ensures .size) (o .1 .1 .1)))
+    (o .1, (ended (o .0 .linked), roomy-as (enter-own .ensures .keeps .size) (o .0 .roomy)))
 
 same-length : tie.Need-same-length
 same-length c = search needs
 
 returns : tie.Need-returns
 returns c =
+    let enter-own = c .before .before .before .before .before .before .enter-own in
+    let touch-parents = c .before .before .touch-parents in
     let o = c .before .before .before .before .before .before .before .before .before .before .before .before .pre in
-    touched _ _ _ _ _ _ _ _ _ _ (o .1 .0 .0) (o .1 .1 .0) (c .before .before .before .before .before .before .enter-own .ensures) (c .before .before .touch-parents .ensures)
+    touched _ _ _ _ _ _ _ _ _ _ (o .1 .0) (o .0 .linked) (enter-own .ensures) (touch-parents .ensures)
 
 pub touch-spec : {M : Type 1} → statement M
 touch-spec = tie.close (tie.spec enter-own-requires touch-parents-requires same-length returns)

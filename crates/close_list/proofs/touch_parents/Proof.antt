@@ -38,8 +38,10 @@ same-length c = search needs
 
 returns : tie.Need-returns
 returns c =
+    let index = c .before .before .before .before .index in
+    let enter-parents = c .before .before .enter-parents in
     let a = c .before .before .before .before .before .before .before .before .before .args in
-    enters-as _ _ (λ i y h. (h .0, subst (λ (v : ℕ). Reach (a .nexts .now) v y) (sym (c .before .before .before .before .index .ensures)) (h .1))) (c .before .before .enter-parents .ensures)
+    enters-as _ _ (λ i y h. (h .0, subst (λ (v : ℕ). Reach (a .nexts .now) v y) (sym (index .ensures)) (h .1))) (enter-parents .ensures)
 
 pub touch-parents-spec : {M : Type 1} → statement M
 touch-parents-spec =

@@ -1,5 +1,6 @@
 -- `child_at` meets its contract. Assumes nothing.
 use Rattle.close_rules.proofs.Decoding.{word-in-window}
+use mathlib.Core.Path.{refl}
 use borrow.Author.Needs.{needs}
 use Rattle.close_looks.proofs.child_at.Statement.{statement}
 use Rattle.close_looks.proofs.child_at.Tie as tie
@@ -13,7 +14,9 @@ window-word-requires c κs =
     word-in-window _ _ _ (o .2) (o .0)
 
 returns : tie.Need-returns
-returns c = search needs
+returns c =
+    let asked = c .before .before .before .pre in
+    (refl, refl, record { within = asked .0; window = c .window-word .ensures; reads = c .before .words-at .ensures })
 
 pub child-at-spec : {M : Type 1} → statement M
 child-at-spec = tie.close (tie.spec words-at-requires window-word-requires returns)

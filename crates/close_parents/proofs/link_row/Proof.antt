@@ -46,10 +46,12 @@ same-length-2 c = search needs
 
 returns-2 : tie.Need-returns-2
 returns-2 c =
+    let link = c .before .before .before .before .before .before .before .before .before .before .before .before .link in
+    let link2 = c .before .before .before .before .link2 in
     let a = c .before .before .before .before .before .before .before .before .before .before .before .before .before .before .before .before .before .before .before .before .args in
     let o = c .before .before .before .before .before .before .before .before .before .before .before .before .before .before .before .before .before .before .before .before .pre in
-    link-two _ _ _ _ _ (o .0 .1) (o .1) _ _ _ (left-below (a .count) (a .rows .now) (a .r) (o .0 .0) (λ e. omega (arith, e))) (c .before .before .before .before .before .before .before .before .before .before .before .before .link .ensures .0) (c .before .before .before .before .before .before .before .before .before .before .before .before .link .ensures .1) _ _ _
-    (omega (arith, right-below (a .count) (a .rows .now) (a .r) (o .0 .0) (λ e. omega (arith, e)) (omega arith))) (c .before .before .before .before .link2 .ensures .0) (c .before .before .before .before .link2 .ensures .1) (row-two-children (a .count) (a .rows .now) (a .r) (omega arith))
+    link-two _ _ _ _ _ (o .0 .1) (o .1) _ _ _ (left-below (a .count) (a .rows .now) (a .r) (o .0 .0) (λ e. omega (arith, e))) (link .ensures .0) (link .ensures .1) _ _ _
+    (omega (arith, right-below (a .count) (a .rows .now) (a .r) (o .0 .0) (λ e. omega (arith, e)) (omega arith))) (link2 .ensures .0) (link2 .ensures .1) (row-two-children (a .count) (a .rows .now) (a .r) (omega arith))
 
 same-length-3 : tie.Need-same-length-3
 same-length-3 c = search needs
@@ -59,9 +61,10 @@ same-length-4 c = search needs
 
 returns-3 : tie.Need-returns-3
 returns-3 c =
+    let link = c .before .before .before .before .before .link in
     let a = c .before .before .before .before .before .before .before .before .before .before .before .before .before .args in
     let o = c .before .before .before .before .before .before .before .before .before .before .before .before .before .pre in
-    link-one _ _ _ _ _ (o .0 .1) (o .1) _ _ _ (left-below (a .count) (a .rows .now) (a .r) (o .0 .0) (λ e. omega (arith, e))) (c .before .before .before .before .before .link .ensures .0) (c .before .before .before .before .before .link .ensures .1) (row-one-child (a .count) (a .rows .now) (a .r) (omega arith))
+    link-one _ _ _ _ _ (o .0 .1) (o .1) _ _ _ (left-below (a .count) (a .rows .now) (a .r) (o .0 .0) (λ e. omega (arith, e))) (link .ensures .0) (link .ensures .1) (row-one-child (a .count) (a .rows .now) (a .r) (omega arith))
 
 pub link-row-spec : {M : Type 1} → statement M
 link-row-spec =

@@ -14,8 +14,9 @@ shl-other c = search needs
 
 returns : tie.Need-returns
 returns c =
+    let if1 = c .before .before .if1 in
     let a = c .before .before .before .args in
-    (ap (λ (u : Bool). moved u (a .within) (a .k) (a .w .this)) (sym (c .before .before .if1 .taken)), ap (λ (u : Bool). moved u (a .within) (a .k) (a .w .other)) (sym (c .before .before .if1 .taken)))
+    (ap (λ (u : Bool). moved u (a .within) (a .k) (a .w .this)) (sym (if1 .taken)), ap (λ (u : Bool). moved u (a .within) (a .k) (a .w .other)) (sym (if1 .taken)))
 
 shr-this : tie.Need-shr-this
 shr-this c = search needs
@@ -25,8 +26,9 @@ shr-other c = search needs
 
 returns-2 : tie.Need-returns-2
 returns-2 c =
+    let if1 = c .before .before .if1 in
     let a = c .before .before .before .args in
-    (ap (λ (u : Bool). moved u (a .within) (a .k) (a .w .this)) (sym (c .before .before .if1 .left)), ap (λ (u : Bool). moved u (a .within) (a .k) (a .w .other)) (sym (c .before .before .if1 .left)))
+    (ap (λ (u : Bool). moved u (a .within) (a .k) (a .w .this)) (sym (if1 .left)), ap (λ (u : Bool). moved u (a .within) (a .k) (a .w .other)) (sym (if1 .left)))
 
 pub shift-spec : {M : Type 1} → statement M
 shift-spec = tie.close (tie.spec shl-this shl-other returns shr-this shr-other returns-2)

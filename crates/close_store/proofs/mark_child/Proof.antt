@@ -18,13 +18,18 @@ same-length-2 : tie.Need-same-length-2
 same-length-2 c = search needs
 
 returns : tie.Need-returns
-returns c = record { changed = c .before .before .before .before .before .before .before .before .add-words .result .changed; joins = c .before .before .before .before .before .before .before .before .add-words .ensures .0; notes = notes-touched _ _ _ _ _ _ _ _ (omega arith) (c .before .before .touch .ensures) }
+returns c =
+    let touch = c .before .before .touch in
+    let add-words = c .before .before .before .before .before .before .before .before .add-words in
+    record { changed = add-words .result .changed; joins = add-words .ensures .0; notes = notes-touched _ _ _ _ _ _ _ _ (omega arith) (touch .ensures) }
 
 same-length-3 : tie.Need-same-length-3
 same-length-3 c = search needs
 
 returns-2 : tie.Need-returns-2
-returns-2 c = record { changed = c .before .before .before .before .add-words .result .changed; joins = c .before .before .before .before .add-words .ensures .0; notes = notes-still _ _ _ _ _ _ _ (omega arith) }
+returns-2 c =
+    let add-words = c .before .before .before .before .add-words in
+    record { changed = add-words .result .changed; joins = add-words .ensures .0; notes = notes-still _ _ _ _ _ _ _ (omega arith) }
 
 pub mark-child-spec : {M : Type 1} → statement M
 mark-child-spec =

@@ -22,8 +22,10 @@ same-length-2 c = search needs
 
 returns : tie.Need-returns
 returns c =
+    let enter-before = c .before .before .enter-before in
+    let mark-own = c .before .before .before .before .before .before .before .before .before .before .mark-own in
     let a = c .before .before .before .before .before .before .before .before .before .before .before .before .before .before .before .before .before .args in
-    (c .before .before .before .before .before .before .before .before .before .before .mark-own .ensures .0, (c .before .before .before .before .before .before .before .before .before .before .mark-own .ensures .1 .0, enters-look _ (a .heads .now) (a .nexts .now) _ _ _ _ _ (omega arith) (c .before .before .before .before .before .before .before .before .before .before .mark-own .ensures .1 .1) (c .before .before .enter-before .ensures)))
+    (mark-own .ensures .0, (mark-own .ensures .1 .0, enters-look _ (a .heads .now) (a .nexts .now) _ _ _ _ _ (omega arith) (mark-own .ensures .1 .1) (enter-before .ensures)))
 
 same-length-3 : tie.Need-same-length-3
 same-length-3 c = search needs
@@ -32,7 +34,9 @@ same-length-4 : tie.Need-same-length-4
 same-length-4 c = search needs
 
 returns-2 : tie.Need-returns-2
-returns-2 c = (c .before .before .before .before .before .before .mark-own .ensures .0, (c .before .before .before .before .before .before .mark-own .ensures .1 .0, enters-as-none _ (omega arith) (c .before .before .before .before .before .before .mark-own .ensures .1 .1)))
+returns-2 c =
+    let mark-own = c .before .before .before .before .before .before .mark-own in
+    (mark-own .ensures .0, (mark-own .ensures .1 .0, enters-as-none _ (omega arith) (mark-own .ensures .1 .1)))
 
 pub mark-look-spec : {M : Type 1} → statement M
 mark-look-spec =

@@ -18,13 +18,18 @@ same-length-2 : tie.Need-same-length-2
 same-length-2 c = search needs
 
 returns : tie.Need-returns
-returns c = (c .before .before .before .before .before .before .before .before .add-words .ensures .0, (c .before .before .before .before .before .before .before .before .add-words .ensures .1, enters-if _ _ (omega arith) (c .before .before .touch-parents .ensures)))
+returns c =
+    let touch-parents = c .before .before .touch-parents in
+    let add-words = c .before .before .before .before .before .before .before .before .add-words in
+    (add-words .ensures .0, (add-words .ensures .1, enters-if _ _ (omega arith) (touch-parents .ensures)))
 
 same-length-3 : tie.Need-same-length-3
 same-length-3 c = search needs
 
 returns-2 : tie.Need-returns-2
-returns-2 c = (c .before .before .before .before .add-words .ensures .0, (c .before .before .before .before .add-words .ensures .1, enters-if-not _ _ _ (omega arith)))
+returns-2 c =
+    let add-words = c .before .before .before .before .add-words in
+    (add-words .ensures .0, (add-words .ensures .1, enters-if-not _ _ _ (omega arith)))
 
 pub mark-own-spec : {M : Type 1} → statement M
 mark-own-spec =

@@ -24,13 +24,19 @@ mul-w : tie.Need-mul-w
 mul-w c = omega (arith, lowest-from _ _ (c .before .fits .word .fits) (c .if1 .left) .0, c .before .pre .1)
 
 shared-slice-read-w : tie.Need-shared-slice-read-w
-shared-slice-read-w c = omega (arith, lowest-from _ _ (c .before .before .fits .word .fits) (c .before .if1 .left) .0, c .before .before .pre .1)
+shared-slice-read-w c =
+    let asked = c .before .before .pre in
+    let fits = c .before .before .fits in
+    omega (arith, lowest-from _ _ (fits .word .fits) (c .before .if1 .left) .0, asked .1)
 
 returns-2 : tie.Need-returns-2
 returns-2 c = search needs
 
 returns-3 : tie.Need-returns-3
-returns-3 c = λ l. (lowest-from _ _ (c .before .before .before .fits .word .fits) (c .before .before .if1 .left) .1, omega arith)
+returns-3 c =
+    let fits = c .before .before .before .fits in
+    let if1 = c .before .before .if1 in
+    λ l. (lowest-from _ _ (fits .word .fits) (if1 .left) .1, omega arith)
 
 pub next-look-spec : {M : Type 1} → statement M
 next-look-spec =

@@ -1,8 +1,7 @@
 -- `take` meets its contract. Assumes nothing.
 use native.Mathlib.Omega.{arith}
 use mathlib.Core.Path.{refl}
-use Rattle.close_list.proofs.Noting.{column-in}
-use Rattle.close_word.proofs.Taking.{kept-bit, taken}
+use Rattle.close_word.proofs.Taking.{item-inside, item-kept, visit-keeps, taken}
 use borrow.Author.Needs.{needs}
 use Rattle.close_word.proofs.take.Statement.{statement}
 use Rattle.close_word.proofs.take.Tie as tie
@@ -21,8 +20,8 @@ shared-slice-read-w c = search needs
 
 take-looks-requires : tie.Need-take-looks-requires
 take-looks-requires c κs =
-    let o = c .before .before .before .before .before .before .before .before .before .pre in
-    (o .0, (o .1 .0, (omega arith, (o .1 .1 .0, (o .1 .1 .1 .0, (o .1 .1 .1 .1 .0, o .1 .1 .1 .1 .1))))))
+    let asked = c .before .before .before .before .before .before .before .before .before .pre in
+    (asked .0, (asked .1, omega arith))
 
 same-length : tie.Need-same-length
 same-length c = search needs
@@ -35,18 +34,17 @@ returns c = search needs
 
 visit-requires : tie.Need-visit-requires
 visit-requires c κs =
-    let o = c .before .before .before .before .before .before .before .before .before .pre in
-    (o .0, ((refl, (λ e. c .before .before .if1 .left e), o .1 .0 .0), (o .1 .1 .0, (o .1 .1 .1 .0, o .1 .1 .1 .1 .0))))
+    let asked = c .before .before .before .before .before .before .before .before .before .pre in
+    let if1 = c .before .before .if1 in
+    (asked .0, (refl, (λ e. if1 .left e), asked .1 .word))
 
 clear-bit-requires : tie.Need-clear-bit-requires
 clear-bit-requires c κs =
-    let a = c .before .before .before .before .before .before .before .before .before .before .before .before .before .before .before .args in
-    let o = c .before .before .before .before .before .before .before .before .before .before .before .before .before .before .before .pre in
-    let at = o .1 .0 .2 in (
-      omega (arith, at, o .1 .0 .1, column-in _ (a .n) (a .q) _ (o .1 .0 .0) (o .1 .1 .1 .0 .long)),
-      o .1 .0 .3,
-      rw at (kept-bit _ _ _ (a .i) (a .k) (a .q) (o .1 .0 .0) (o .1 .0 .3) (rw at at (o .1 .0 .4)) _ (o .0) (o .1 .1 .1 .1 .1) (c .before .before .before .before .before .visit .ensures)),
-    )
+    let asked = c .before .before .before .before .before .before .before .before .before .before .before .before .before .before .before .pre in
+    let visit = c .before .before .before .before .before .visit in
+    let given = asked .0 in
+    let at = item-kept (asked .1) (visit-keeps (given .coded) (visit .ensures)) in
+    (omega (arith, item-inside (asked .1) (given .roomy)), at .bit, at .on-list)
 
 same-length-3 : tie.Need-same-length-3
 same-length-3 c = search needs
@@ -56,11 +54,12 @@ same-length-4 c = search needs
 
 returns-2 : tie.Need-returns-2
 returns-2 c =
-    let a = c .before .before .before .before .before .before .before .before .before .before .before .before .before .before .before .before .before .before .args in
-    let o = c .before .before .before .before .before .before .before .before .before .before .before .before .before .before .before .before .before .before .pre in
-    let at = o .1 .0 .2 in
-    rw at (taken _ _ _ _ (a .i) (a .k) (a .q) _ _ _ _ _ (o .1 .0 .1) (o .1 .0 .3) (omega (arith, at, o .1 .0 .1, column-in _ (a .n) (a .q) _ (o .1 .0 .0) (o .1 .1 .1 .0 .long)))
-    (kept-bit _ _ _ (a .i) (a .k) (a .q) (o .1 .0 .0) (o .1 .0 .3) (rw at at (o .1 .0 .4)) _ (o .0) (o .1 .1 .1 .1 .1) (c .before .before .before .before .before .before .before .before .visit .ensures)) (rw at at (c .before .before .clear-bit .ensures)) (o .0) (o .1 .1 .1 .1 .1) (c .before .before .before .before .before .before .before .before .visit .ensures))
+    let asked = c .before .before .before .before .before .before .before .before .before .before .before .before .before .before .before .before .before .before .pre in
+    let visit = c .before .before .before .before .before .before .before .before .visit in
+    let clear-bit = c .before .before .clear-bit in
+    let given = asked .0 in
+    let at = item-kept (asked .1) (visit-keeps (given .coded) (visit .ensures)) in
+    taken _ _ _ _ _ _ _ at (omega (arith, item-inside (asked .1) (given .roomy))) (clear-bit .ensures) (given .coded) (visit .ensures)
 
 pub take-spec : {M : Type 1} → statement M
 take-spec =

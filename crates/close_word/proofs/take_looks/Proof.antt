@@ -4,22 +4,25 @@ use native.Mathlib.Omega.{arith}
 use mathlib.Core.Path.{_≡_, refl, _∙_}
 use Prim.Native.Nat.{_+_, _*_, _/_, _%_, _^_, _<_}
 use lib.ListN.{getD}
-use Rattle.spec_ticks.specs.Ticks.{Has}
+use Rattle.spec_limits.specs.Limits.{codeKinds, codeNumbers}
 use Rattle.table_words.specs.Gains.{room}
-use Rattle.close_rules.specs.Moves.{Gathered}
-use Rattle.close_rules.proofs.Decoding.{look-asks, look-start, look-kind, look-child, look-in, sized-as}
-use Rattle.close_looks.specs.Parts.{Sees}
-use Rattle.close_list.proofs.Noting.{column-in, roomy-as}
+use Rattle.close_rules.specs.Codes.{LooksAt}
+use Rattle.close_rules.proofs.Decoding.{look-start, look-in}
+use Rattle.close_parents.proofs.Children.{look-below}
+use Rattle.close_looks.specs.Parts.{Sees, GatheredFor}
+use Rattle.close_list.proofs.Workable.{queueable, row-there}
+use Rattle.close_word.specs.Stretches.{ItemAt}
+use Rattle.close_word.proofs.Taking.{item-inside, item-next}
 use Rattle.close_word.proofs.Working.{stretch-less}
-use Rattle.close_word.proofs.Gathering.{Gathering, gathering-none, gathering-more, gathering-end, gathering-inside}
+use Rattle.close_word.proofs.Gathering.{Gathering, gathering-none, gathering-more, gathering-end, gathering-workable}
 use Rattle.close_word.proofs.take_looks.Statement.{statement}
 use Rattle.close_word.proofs.take_looks.Tie as tie
 
 abbrev Inv-loop : tie.InvT-loop
 Inv-loop rows count i j first q n window heads nexts todo₀ marks₀ start kind c child given₀ k₀ todo marks given k =
-    Gathering count rows window n j (k ≡ first) (Gathered (child .row) (child .q) (given .this) (given .other)) marks₀ marks todo₀ todo
-    × Sees n window marks (child .row) (child .q) (child .words .this) (child .words .other) (child .here)
-    × (k < 64 → Has (getD todo j 0) k × (getD rows (64 * i + k) 0 % 524288 ≡ 8 * child .row + 3))
+    Gathering count rows window n j (k ≡ first) (GatheredFor child given) marks₀ marks todo₀ todo
+    × Sees n window marks child
+    × (k < 64 → ItemAt count n (child .q) i j k todo × LooksAt rows (64 * i + k) (child .row))
 
 abbrev μ-loop : tie.MeasureT-loop
 μ-loop rows count i j first q n window heads nexts todo₀ marks₀ start kind c child given₀ k₀ todo marks given k =
@@ -27,105 +30,121 @@ abbrev μ-loop : tie.MeasureT-loop
 
 mul-start : tie.Need-mul-start Inv-loop μ-loop
 mul-start c =
-    let o = c .before .before .before .before .before .pre in
-    omega (arith, o .1 .0 .1, o .1 .0 .3, o .0 .codes .long)
+    let asked = c .before .before .before .before .before .pre in
+    omega (arith, asked .1 .0 .column, asked .1 .0 .bit, asked .0 .coded .codes .long)
 
 add-kind : tie.Need-add-kind Inv-loop μ-loop
 add-kind c =
-    let o = c .before .before .before .before .before .pre in
-    omega (arith, o .1 .0 .1, o .1 .0 .3, o .0 .codes .long)
+    let asked = c .before .before .before .before .before .pre in
+    omega (arith, asked .1 .0 .column, asked .1 .0 .bit, asked .0 .coded .codes .long)
 
 mul-kind : tie.Need-mul-kind Inv-loop μ-loop
 mul-kind c =
-    let o = c .before .before .before .before .before .pre in
-    omega (arith, o .1 .0 .1, o .1 .0 .3, o .0 .codes .long)
+    let asked = c .before .before .before .before .before .pre in
+    omega (arith, asked .1 .0 .column, asked .1 .0 .bit, asked .0 .coded .codes .long)
 
 shared-slice-read-kind : tie.Need-shared-slice-read-kind Inv-loop μ-loop
 shared-slice-read-kind c =
-    let o = c .before .before .before .before .before .before .pre in
-    omega (arith, o .1 .0 .1, o .1 .0 .3, o .0 .codes .long)
+    let asked = c .before .before .before .before .before .before .pre in
+    omega (arith, asked .1 .0 .column, asked .1 .0 .bit, asked .0 .coded .codes .long)
 
 child-at-requires : tie.Need-child-at-requires Inv-loop μ-loop
 child-at-requires c κs =
+    let asked = c .before .before .before .before .before .before .before .pre in
     let a = c .before .before .before .before .before .before .before .args in
-    let o = c .before .before .before .before .before .before .before .pre in
+    let given = asked .0 in
+    let o = asked .1 in
     let r = 64 * a .i + a .first in
-    let e = look-start (getD (a .rows .now) r 0) (o .1 .1 .0) in
-    let y = getD (a .rows .now) r 0 % 524288 / 8 in
-    let l = look-in (a .count) (a .rows .now) r y e (o .0) in
-    let h = look-asks (a .count) (a .rows .now) r l (a .n) (a .q) (a .window) (a .marks .now) (o .0) (o .1 .1 .1 .1 .1 .0) (o .1 .0 .0) (look-kind (a .count) (a .rows .now) r y e) in
-    (h .0, rw (look-child (a .count) (a .rows .now) r y e) at (h .2), h .5)
+    let y = getD (a .rows .now) r 0 % (codeKinds * codeNumbers) / codeKinds in
+    let starts = look-start (a .rows .now) r (o .1) in
+    let l : y < a .count = omega (arith, look-below (a .count) (a .rows .now) r y starts (given .coded), look-in (a .count) (a .rows .now) r y starts (given .coded)) in
+    (o .0 .word, row-there given y l, given .sized .words-are)
 
 loop-holds : tie.Need-loop-holds Inv-loop μ-loop
 loop-holds c =
     let a = c .before .before .before .before .before .before .before .before .args in
-    let o = c .before .before .before .before .before .before .before .before .pre in
+    let o = c .before .before .before .before .before .before .before .before .pre .1 in
     let s = c .child-at .ensures in
-    (gathering-none _ _ _ _ _ refl _ _ _ _, s .2, λ l. (o .1 .0 .4, rw (s .0) (look-start (getD (a .rows .now) (64 * a .i + a .first) 0) (o .1 .1 .0))))
+    (gathering-none _ _ _ _ _ refl _ _ _ _, s .2, λ l. (rw (s .1) (o .0), rw (s .0) (look-start (a .rows .now) (64 * a .i + a .first) (o .1))))
 
 take-look-requires : tie.Need-take-look-requires Inv-loop μ-loop
 take-look-requires c κs =
-    let o = c .before .before .before .before .before .before .before .before .before .before .before .before .pre in
+    let asked = c .before .before .before .before .before .before .before .before .before .before .before .before .pre in
     let v = c .before .before .before .loop .inv in
-    let b = v .2 (omega arith) in
-    (o .0, ((o .1 .0 .1, rw (c .before .before .before .before .child-at .ensures .1) (o .1 .0 .2), omega arith, b .0, b .1), (v .1, (o .1 .1 .1 .0, (roomy-as (v .0 .long) (o .1 .1 .1 .1 .0), (sized-as (v .0 .each (o .0 .program) (o .0 .codes) .size) (o .1 .1 .1 .1 .1 .0), gathering-inside _ _ _ _ _ (o .0) (o .1 .1 .1 .1 .1 .1) (v .0)))))))
+    (gathering-workable _ _ _ _ _ (asked .0) (v .0), (v .2 (omega arith), v .1))
 
 mul-next-look : tie.Need-mul-next-look Inv-loop μ-loop
 mul-next-look c =
-    let a = c .before .before .before .before .before .before .before .before .before .before .before .before .before .before .before .before .before .args in
-    let o = c .before .before .before .before .before .before .before .before .before .before .before .before .before .before .before .before .before .pre in
-    omega (arith, o .1 .0 .1, o .1 .0 .2, column-in _ (a .n) (a .q) _ (o .1 .0 .0) (o .1 .1 .1 .1 .0 .long), c .before .before .before .before .before .before .before .before .loop .inv .0 .long, c .before .before .before .before .take-look .ensures .0 .long, c .before .before .before .before .before .before .before .before .before .before .before .before .before .before .before .before .before .good)
+    let asked = c .before .before .before .before .before .before .before .before .before .before .before .before .before .before .before .before .before .pre in
+    let good = c .before .before .before .before .before .before .before .before .before .before .before .before .before .before .before .before .before .good in
+    let loop = c .before .before .before .before .before .before .before .before .loop in
+    let take-look = c .before .before .before .before .take-look in
+    omega (arith, item-inside (asked .1 .0) (asked .0 .roomy), loop .inv .0 .long, take-look .ensures .0 .long, good)
 
 slice-read-next-look : tie.Need-slice-read-next-look Inv-loop μ-loop
 slice-read-next-look c =
-    let a = c .before .before .before .before .before .before .before .before .before .before .before .before .before .before .before .before .before .before .args in
-    let o = c .before .before .before .before .before .before .before .before .before .before .before .before .before .before .before .before .before .before .pre in
-    omega (arith, o .1 .0 .1, o .1 .0 .2, column-in _ (a .n) (a .q) _ (o .1 .0 .0) (o .1 .1 .1 .1 .0 .long), c .before .before .before .before .before .before .before .before .before .loop .inv .0 .long, c .before .before .before .before .before .take-look .ensures .0 .long, c .before .before .before .before .before .before .before .before .before .before .before .before .before .before .before .before .before .before .good)
+    let asked = c .before .before .before .before .before .before .before .before .before .before .before .before .before .before .before .before .before .before .pre in
+    let good = c .before .before .before .before .before .before .before .before .before .before .before .before .before .before .before .before .before .before .good in
+    let loop = c .before .before .before .before .before .before .before .before .before .loop in
+    let take-look = c .before .before .before .before .before .take-look in
+    omega (arith, item-inside (asked .1 .0) (asked .0 .roomy), loop .inv .0 .long, take-look .ensures .0 .long, good)
 
 next-look-requires : tie.Need-next-look-requires Inv-loop μ-loop
 next-look-requires c κs =
-    let o = c .before .before .before .before .before .before .before .before .before .before .before .before .before .before .before .before .before .before .pre in
-    (omega arith, omega (arith, o .1 .0 .1, o .0 .codes .long))
+    let asked = c .before .before .before .before .before .before .before .before .before .before .before .before .before .before .before .before .before .before .pre in
+    (omega arith, omega (arith, asked .1 .0 .column, asked .0 .coded .codes .long))
 
 loop-less : tie.Need-loop-less Inv-loop μ-loop
 loop-less c =
+    let slice-known3 = c .before .before .before .before .slice-known3 in
     let a = c .before .before .before .before .before .before .before .before .before .before .before .before .before .before .before .before .before .before .before .args in
-    let o = c .before .before .before .before .before .before .before .before .before .before .before .before .before .before .before .before .before .before .before .pre in
-    stretch-less (a .j) (c .before .before .before .before .before .before .take-look .ensures .0 .each (o .0 .program) (o .0 .codes) .0) (c .before .before .before .before .before .before .take-look .ensures .0 .less) (omega (arith, c .before .before .before .before .slice-known3 .given (a .j)))
+    let k = c .before .before .before .before .before .before .before .before .before .before .before .before .before .before .before .before .before .before .before .pre .0 .coded in
+    let look = c .before .before .before .before .before .before .take-look .ensures .0 in
+    stretch-less (a .j) (look .each (k .program) (k .codes) .0) (look .less) (omega (arith, slice-known3 .given (a .j)))
 
 loop-again : tie.Need-loop-again Inv-loop μ-loop
 loop-again c =
+    let loop = c .before .before .before .before .before .before .before .before .before .before .loop in
+    let take-look = c .before .before .before .before .before .before .take-look in
     let a = c .before .before .before .before .before .before .before .before .before .before .before .before .before .before .before .before .before .before .before .args in
-    let o = c .before .before .before .before .before .before .before .before .before .before .before .before .before .before .before .before .before .before .before .pre in
-    let e = look-start (getD (a .rows .now) (64 * a .i + a .first) 0) (o .1 .1 .0) in
-    (gathering-more _ _ _ _ _ _ (c .before .before .before .before .before .before .before .before .before .before .loop .inv .0) (c .before .before .before .before .before .before .take-look .ensures .0), c .before .before .before .before .before .before .take-look .ensures .1, λ l. let k = c .next-look .ensures l in (k .0, rw (c .before .before .before .before .before .before .before .before .before .before .before .child-at .ensures .0) (k .1 ∙ e)))
+    let o = c .before .before .before .before .before .before .before .before .before .before .before .before .before .before .before .before .before .before .before .pre .1 in
+    let s = c .before .before .before .before .before .before .before .before .before .before .before .child-at .ensures in
+    let starts = look-start (a .rows .now) (64 * a .i + a .first) (o .1) in
+    (gathering-more _ _ _ _ _ _ (loop .inv .0) (take-look .ensures .0), take-look .ensures .1, λ l. let k = c .next-look .ensures l in (item-next (loop .inv .2 (omega arith) .0) l (k .0), rw (s .0) (k .1 ∙ starts)))
 
 mark-child-requires : tie.Need-mark-child-requires Inv-loop μ-loop
 mark-child-requires c κs =
+    let asked = c .before .before .before .before .before .before .before .before .before .before .before .before .pre in
+    let loop = c .before .before .before .loop in
     let a = c .before .before .before .before .before .before .before .before .before .before .before .before .args in
-    let o = c .before .before .before .before .before .before .before .before .before .before .before .before .pre in
+    let o = asked .1 in
+    let given = gathering-workable _ _ _ _ _ (asked .0) (loop .inv .0) in
     let r = 64 * a .i + a .first in
-    let e = look-start (getD (a .rows .now) r 0) (o .1 .1 .0) in
-    let y = getD (a .rows .now) r 0 % 524288 / 8 in
-    let l = look-in (a .count) (a .rows .now) r y e (o .0) in
-    let w = c .before .before .before .loop .inv .0 in
-    let h = look-asks (a .count) (a .rows .now) r l (a .n) (a .q) (a .window) (c .before .before .before .loop .marks) (o .0) (sized-as (w .each (o .0 .program) (o .0 .codes) .size) (o .1 .1 .1 .1 .1 .0)) (o .1 .0 .0) (look-kind (a .count) (a .rows .now) r y e) in
-    let b = look-child (a .count) (a .rows .now) r y e in
-    (o .0, ((omega (arith, l, h .3, b), h .0, rw b at (h .2)), (o .1 .1 .1 .0, roomy-as (w .long) (o .1 .1 .1 .1 .0))))
+    let y = getD (a .rows .now) r 0 % (codeKinds * codeNumbers) / codeKinds in
+    let starts = look-start (a .rows .now) r (o .1) in
+    let l : y < a .count = omega (arith, look-below (a .count) (a .rows .now) r y starts (given .coded), look-in (a .count) (a .rows .now) r y starts (given .coded)) in
+    (queueable given, (l, o .0 .word, row-there given y l))
 
 same-length : tie.Need-same-length Inv-loop μ-loop
-same-length c = c .before .before .before .before .mark-child .ensures .notes .size ∙ c .before .before .before .before .before .before .before .before .loop .inv .0 .long
+same-length c =
+    let loop = c .before .before .before .before .before .before .before .before .loop in
+    let mark-child = c .before .before .before .before .mark-child in
+    mark-child .ensures .notes .keeps .size ∙ loop .inv .0 .long
 
 same-length-2 : tie.Need-same-length-2 Inv-loop μ-loop
 same-length-2 c =
-    let o = c .before .before .before .before .before .before .before .before .before .before .before .before .before .before .before .before .before .pre in
-    c .before .before .before .before .mark-child .ensures .joins .gains .size ∙ c .before .before .before .before .before .before .before .before .loop .inv .0 .each (o .0 .program) (o .0 .codes) .size
+    let loop = c .before .before .before .before .before .before .before .before .loop in
+    let mark-child = c .before .before .before .before .mark-child in
+    let k = c .before .before .before .before .before .before .before .before .before .before .before .before .before .before .before .before .before .pre .0 .coded in
+    mark-child .ensures .joins .gains .size ∙ loop .inv .0 .each (k .program) (k .codes) .infers .size
 
 returns : tie.Need-returns Inv-loop μ-loop
 returns c =
-    let o = c .before .before .before .before .before .before .before .before .before .before .before .before .before .before .before .before .before .pre in
+    let asked = c .before .before .before .before .before .before .before .before .before .before .before .before .before .before .before .before .before .pre in
+    let loop = c .before .before .before .before .before .before .before .before .loop in
+    let mark-child = c .before .before .before .before .mark-child in
     let s = c .before .before .before .before .before .before .before .before .before .child-at .ensures in
-    gathering-end _ _ _ _ _ _ _ _ _ (λ e. omega (arith, e, o .1 .0 .3)) (rw (s .0, s .1) at (c .before .before .before .before .before .before .before .before .loop .inv .0)) (c .before .before .before .before .mark-child .ensures)
+    gathering-end _ _ _ _ _ _ _ _ _ (λ e. omega (arith, e, asked .1 .0 .bit)) (rw (s .0, s .1) at (loop .inv .0)) (mark-child .ensures)
 
 pub take-looks-spec : {M : Type 1} → statement M
 take-looks-spec =

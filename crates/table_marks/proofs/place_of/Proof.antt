@@ -28,8 +28,10 @@ returns c =
 
 add-result : tie.Need-add-result
 add-result c =
-    let l = two-blocks (c .before .args .n) (c .before .args .row) in
-    omega (arith, c .before .pre .0, c .before .pre .1)
+    let asked = c .before .pre in
+    let a = c .before .args in
+    let l = two-blocks (a .n) (a .row) in
+    omega (arith, asked .0, asked .1)
 
 returns-2 : tie.Need-returns-2
 returns-2 c =

@@ -26,11 +26,13 @@ slice-read-b c = search needs
 
 returns : tie.Need-returns
 returns c =
+    let a = c .before .before .before .before .before .before .before .before .args in
+    let place-of2 = c .before .before .before .before .before .place-of2 in
     let o = c .before .before .before .before .before .before .before .before .pre in
     let p = c .before .before .before .before .before .before .place-of .ensures in
-    let r = c .before .before .before .before .before .place-of2 .ensures in (
-      sides-none _ _ _ (c .before .before .before .before .before .before .before .before .args .u) _ _ _ (o .0) _ _ (p .0) (r .0) (omega (arith, o .1, p .1)) (omega (arith, o .1, r .1)) (c .if1 .taken),
-      words-none _ _ _ (c .before .before .before .before .before .before .before .before .args .u) _ _ _ (o .0) _ _ (p .0) (r .0) (omega (arith, o .1, p .1)) (omega (arith, o .1, r .1)) (c .if1 .taken),
+    let r = place-of2 .ensures in (
+      sides-none _ _ _ (a .u) _ _ _ (o .0) _ _ (p .0) (r .0) (omega (arith, o .1, p .1)) (omega (arith, o .1, r .1)) (c .if1 .taken),
+      words-none _ _ _ (a .u) _ _ _ (o .0) _ _ (p .0) (r .0) (omega (arith, o .1, p .1)) (omega (arith, o .1, r .1)) (c .if1 .taken),
     )
 
 mul-marks : tie.Need-mul-marks
@@ -43,19 +45,26 @@ mul-marks-2 : tie.Need-mul-marks-2
 mul-marks-2 c = search needs
 
 slice-write-marks-2 : tie.Need-slice-write-marks-2
-slice-write-marks-2 c = rw length-set (omega (arith, c .before .before .before .before .before .before .before .before .pre .1, c .before .before .before .before .before .place-of2 .ensures .1))
+slice-write-marks-2 c =
+    let asked = c .before .before .before .before .before .before .before .before .pre in
+    let place-of2 = c .before .before .before .before .before .place-of2 in
+    rw length-set (omega (arith, asked .1, place-of2 .ensures .1))
 
 same-length : tie.Need-same-length
 same-length c = search needs
 
 returns-2 : tie.Need-returns-2
 returns-2 c =
+    let place-of = c .before .before .before .before .before .before .place-of in
+    let a = c .before .before .before .before .before .before .before .before .args in
+    let slice-known = c .before .before .before .before .before .before .before .slice-known in
+    let place-of2 = c .before .before .before .before .before .place-of2 in
     let o = c .before .before .before .before .before .before .before .before .pre in
-    let p = c .before .before .before .before .before .before .place-of .ensures in
-    let r = c .before .before .before .before .before .place-of2 .ensures in (
-      sides-some _ _ _ (c .before .before .before .before .before .before .before .before .args .u) _ _ _ (o .0) _ _ (p .0) (r .0) (omega (arith, o .1, p .1)) (omega (arith, o .1, r .1))
-          (omega (arith, c .before .before .before .before .before .before .before .slice-known .given (c .before .before .before .before .before .before .place-of .result))) (omega (arith, c .before .before .before .before .before .before .before .slice-known .given (c .before .before .before .before .before .place-of2 .result))) (omega arith) (omega arith) (c .if1 .left),
-      words-some _ (c .before .before .before .before .before .before .before .before .args .marks .now) _ (c .before .before .before .before .before .before .before .before .args .u) _ _ _ (o .0) _ _ (p .0) (r .0) (omega (arith, o .1, p .1)) (omega (arith, o .1, r .1)),
+    let p = place-of .ensures in
+    let r = place-of2 .ensures in (
+      sides-some _ _ _ (a .u) _ _ _ (o .0) _ _ (p .0) (r .0) (omega (arith, o .1, p .1)) (omega (arith, o .1, r .1))
+          (omega (arith, slice-known .given (place-of .result))) (omega (arith, slice-known .given (place-of2 .result))) (omega arith) (omega arith) (c .if1 .left),
+      words-some _ (a .marks .now) _ (a .u) _ _ _ (o .0) _ _ (p .0) (r .0) (omega (arith, o .1, p .1)) (omega (arith, o .1, r .1)),
     )
 
 pub add-words-spec : {M : Type 1} → statement M

@@ -24,7 +24,8 @@ shr-result c = search needs
 
 returns-2 : tie.Need-returns-2
 returns-2 c =
-    window-last _ _ (c .before .args .window - c .before .args .q * 64) refl (omega arith) (omega arith)
+    let a = c .before .args in
+    window-last _ _ (a .window - a .q * 64) refl (omega arith) (omega arith)
 
 pub window-word-spec : {M : Type 1} → statement M
 window-word-spec = tie.close (tie.spec mul-rest sub-rest returns sub-result shr-result returns-2)

@@ -16,7 +16,9 @@ shared-slice-read-result : tie.Need-shared-slice-read-result
 shared-slice-read-result c = search needs
 
 returns : tie.Need-returns
-returns c = ap (λ (i : ℕ). getD (c .before .before .before .args .marks .now) i 0) (c .before .place-of .ensures .0)
+returns c =
+    let a = c .before .before .before .args in
+    ap (λ (i : ℕ). getD (a .marks .now) i 0) (c .before .place-of .ensures .0)
 
 pub word-at-spec : {M : Type 1} → statement M
 word-at-spec = tie.close (tie.spec place-of-requires mul-result shared-slice-read-result returns)

@@ -13,8 +13,9 @@ word-at-requires-2 c κs = search needs
 
 returns : tie.Need-returns
 returns c =
+    let a = c .before .before .before .args in
     let o = c .before .before .before .pre in
-    record { this = read-ticks _ _ _ (c .before .before .before .args .u) _ (o .0) (c .before .word-at .ensures); other = read-ticks _ _ _ (not (c .before .before .before .args .u)) _ (o .0) (c .word-at2 .ensures) }
+    record { this = read-ticks _ _ _ (a .u) _ (o .0) (c .before .word-at .ensures); other = read-ticks _ _ _ (not (a .u)) _ (o .0) (c .word-at2 .ensures) }
 
 pub words-at-spec : {M : Type 1} → statement M
 words-at-spec = tie.close (tie.spec word-at-requires word-at-requires-2 returns)

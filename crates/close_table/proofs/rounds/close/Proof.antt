@@ -1,6 +1,7 @@
 -- `close` meets its contract. Assumes nothing.
 use borrow.Author.Needs.{needs}
 use native.Mathlib.Omega.{arith}
+use Rattle.spec_limits.specs.Limits.{mostRows}
 use Rattle.close_parents.proofs.Linking.{no-lists}
 use Rattle.close_list.proofs.Noting.{roomy-as}
 use Rattle.close_table.proofs.rounds.close.Statement.{statement}
@@ -15,7 +16,7 @@ slice-aggregate-link-rows-2 c = search needs
 link-rows-requires : tie.Need-link-rows-requires
 link-rows-requires c κs =
     let o = c .before .before .before .before .before .pre in
-    ((o .0, o .1 .0 .most), (omega (arith, o .1 .0 .most), omega (arith, o .1 .0 .most), λ x l. no-lists 1024 x))
+    ((o .coded, o .roomy .most), (omega (arith, o .roomy .most), omega (arith, o .roomy .most), λ x l. no-lists mostRows x))
 
 slice-aggregate-start : tie.Need-slice-aggregate-start
 slice-aggregate-start c = search needs
@@ -25,8 +26,9 @@ slice-aggregate-start-2 c = search needs
 
 start-requires : tie.Need-start-requires
 start-requires c κs =
+    let link-rows = c .before .before .before .before .before .before .link-rows in
     let o = c .before .before .before .before .before .before .before .before .before .before .before .before .pre in
-    (o .0, (o .1 .1 .0 .long, (c .before .before .before .before .before .before .link-rows .ensures, o .1 .0)))
+    (record { coded = o .coded; linked = link-rows .ensures; roomy = o .roomy }, o .sized .long)
 
 slice-aggregate-work-off : tie.Need-slice-aggregate-work-off
 slice-aggregate-work-off c = search needs
@@ -36,8 +38,10 @@ slice-aggregate-work-off-2 c = search needs
 
 work-off-requires : tie.Need-work-off-requires
 work-off-requires c κs =
+    let link-rows = c .before .before .before .before .before .before .before .before .before .before .before .before .before .link-rows in
+    let start = c .before .before .before .before .before .before .start in
     let o = c .before .before .before .before .before .before .before .before .before .before .before .before .before .before .before .before .before .before .before .pre in
-    (o .0, (c .before .before .before .before .before .before .before .before .before .before .before .before .before .link-rows .ensures, ((roomy-as (omega arith) (o .1 .0), c .before .before .before .before .before .before .start .ensures _), (o .1 .1 .0, o .1 .1 .1))))
+    (record { coded = o .coded; linked = link-rows .ensures; roomy = roomy-as (omega arith) (o .roomy); sized = o .sized; inside = o .inside }, start .ensures _)
 
 same-length : tie.Need-same-length
 same-length c = search needs

@@ -19,13 +19,19 @@ loop-holds : tie.Need-loop-holds Inv-loop μ-loop
 loop-holds c = (omega arith, λ i l. absurd (omega arith))
 
 mul-if1 : tie.Need-mul-if1 Inv-loop μ-loop
-mul-if1 c = omega (arith, c .before .before .pre)
+mul-if1 c =
+    let asked = c .before .before .pre in
+    omega (arith, asked)
 
 shared-slice-read-if1 : tie.Need-shared-slice-read-if1 Inv-loop μ-loop
-shared-slice-read-if1 c = omega (arith, c .before .before .before .pre)
+shared-slice-read-if1 c =
+    let asked = c .before .before .before .pre in
+    omega (arith, asked)
 
 returns : tie.Need-returns Inv-loop μ-loop
-returns c = (λ e. absurd (true≢false e), λ f. absurd (c .if1 .taken (f (c .before .before .before .loop .j) (omega arith))))
+returns c =
+    let loop = c .before .before .before .loop in
+    (λ e. absurd (true≢false e), λ f. absurd (c .if1 .taken (f (loop .j) (omega arith))))
 
 add-j : tie.Need-add-j Inv-loop μ-loop
 add-j c = omega arith
@@ -35,8 +41,9 @@ loop-less c = omega arith
 
 loop-again : tie.Need-loop-again Inv-loop μ-loop
 loop-again c =
+    let a = c .before .before .before .before .args in
     let l = c .before .before .before .loop in
-    (omega arith, λ i h. ⊎-elim (l .inv .1 i) (λ g. let e : i ≡ l .j = omega arith in subst (λ (k : ℕ). getD (c .before .before .before .before .args .todo .now) k 0 ≡ 0) (sym e) (omega (arith, c .if1 .left))) (lt-or-ge i (l .j)))
+    (omega arith, λ i h. ⊎-elim (l .inv .1 i) (λ g. let e : i ≡ l .j = omega arith in subst (λ (k : ℕ). getD (a .todo .now) k 0 ≡ 0) (sym e) (omega (arith, c .if1 .left))) (lt-or-ge i (l .j)))
 
 returns-2 : tie.Need-returns-2 Inv-loop μ-loop
 returns-2 c = (λ e i h. c .before .loop .inv .1 i (omega arith), λ f. refl)

@@ -2,11 +2,9 @@
 use native.Mathlib.Omega.{arith}
 use mathlib.Core.Path.{_≡_}
 use Prim.Native.Nat.{_-_, _≤_}
-use Rattle.close_rules.proofs.Decoding.{sized-as}
 use Rattle.close_list.specs.Items.{per}
-use Rattle.close_list.proofs.Noting.{roomy-as}
 use Rattle.close_word.specs.Stretches.{Works}
-use Rattle.close_word.proofs.Working.{works-inside}
+use Rattle.close_word.proofs.Working.{works-workable}
 use Rattle.close_table.proofs.Turning.{Turned, turned-none, turned-more, turned-all, turn-below}
 use Rattle.close_table.proofs.rounds.work_column.Statement.{statement}
 use Rattle.close_table.proofs.rounds.work_column.Tie as tie
@@ -18,30 +16,41 @@ abbrev μ-loop : tie.MeasureT-loop
 μ-loop up rows count q n window heads nexts todo₀ marks₀ stride i₀ todo marks i = per count - i
 
 add-stride : tie.Need-add-stride Inv-loop μ-loop
-add-stride c = omega (arith, c .before .before .before .before .before .pre .1 .1 .1 .0 .most)
+add-stride c =
+    let asked = c .before .before .before .before .before .pre in
+    omega (arith, asked .0 .roomy .most)
 
 loop-holds : tie.Need-loop-holds Inv-loop μ-loop
-loop-holds c = (omega arith, turned-none _ _ _ _ (c .before .before .before .before .before .args .up) _ _ _)
+loop-holds c =
+    let a = c .before .before .before .before .before .args in
+    (omega arith, turned-none _ _ _ _ (a .up) _ _ _)
 
 turned-requires : tie.Need-turned-requires Inv-loop μ-loop
 turned-requires c κs = omega arith
 
 work-word-requires : tie.Need-work-word-requires Inv-loop μ-loop
 work-word-requires c κs =
+    let turned = c .before .before .turned in
     let a = c .before .before .before .before .before .before .before .before .before .before .args in
     let l = c .before .before .before .before .loop in
     let o = c .before .before .before .before .before .before .before .before .before .before .pre in
-    let w = l .inv .1 in
-    (o .0, ((o .1 .0, omega (arith, c .before .before .turned .ensures, turn-below (a .up) (per (a .count)) (l .i) (omega arith))), (o .1 .1 .0, (roomy-as (w .long) (o .1 .1 .1 .0), (sized-as (w .each (o .0 .program) (o .0 .codes) .size) (o .1 .1 .1 .1 .0), works-inside _ _ _ _ _ (o .0) (o .1 .1 .1 .1 .1) w)))))
+    (works-workable _ _ _ _ _ (o .0) (l .inv .1), (o .1, omega (arith, turned .ensures, turn-below (a .up) (per (a .count)) (l .i) (omega arith))))
 
 add-i : tie.Need-add-i Inv-loop μ-loop
-add-i c = omega (arith, c .before .before .before .before .before .before .before .before .before .before .before .before .before .before .before .pre .1 .1 .1 .0 .most)
+add-i c =
+    let asked = c .before .before .before .before .before .before .before .before .before .before .before .before .before .before .before .pre in
+    omega (arith, asked .0 .roomy .most)
 
 loop-less : tie.Need-loop-less Inv-loop μ-loop
 loop-less c = omega arith
 
 loop-again : tie.Need-loop-again Inv-loop μ-loop
-loop-again c = (omega arith, turned-more _ _ _ _ (c .before .before .before .before .before .before .before .before .before .before .before .before .before .before .before .args .up) _ _ _ (omega arith) (c .before .before .before .before .before .before .before .turned .ensures) (c .before .before .before .before .before .before .before .before .before .loop .inv .1) (c .before .before .before .before .work-word .ensures))
+loop-again c =
+    let a = c .before .before .before .before .before .before .before .before .before .before .before .before .before .before .before .args in
+    let loop = c .before .before .before .before .before .before .before .before .before .loop in
+    let turned = c .before .before .before .before .before .before .before .turned in
+    let work-word = c .before .before .before .before .work-word in
+    (omega arith, turned-more _ _ _ _ (a .up) _ _ _ (omega arith) (turned .ensures) (loop .inv .1) (work-word .ensures))
 
 same-length : tie.Need-same-length Inv-loop μ-loop
 same-length c = c .before .loop .inv .1 .long
@@ -49,12 +58,14 @@ same-length c = c .before .loop .inv .1 .long
 same-length-2 : tie.Need-same-length-2 Inv-loop μ-loop
 same-length-2 c =
     let o = c .before .before .before .before .before .before .before .pre in
-    c .before .loop .inv .1 .each (o .0 .program) (o .0 .codes) .size
+    c .before .loop .inv .1 .each (o .0 .coded .program) (o .0 .coded .codes) .infers .size
 
 returns : tie.Need-returns Inv-loop μ-loop
 returns c =
-    let e : c .before .loop .i ≡ per (c .before .before .before .before .before .before .before .args .count) = omega arith in
-    turned-all _ _ _ _ (c .before .before .before .before .before .before .before .args .up) _ (rw e at (c .before .loop .inv .1))
+    let a = c .before .before .before .before .before .before .before .args in
+    let loop = c .before .loop in
+    let e : loop .i ≡ per (a .count) = omega arith in
+    turned-all _ _ _ _ (a .up) _ (rw e at (loop .inv .1))
 
 pub work-column-spec : {M : Type 1} → statement M
 work-column-spec =

@@ -2,10 +2,8 @@
 use native.Mathlib.Omega.{arith}
 use mathlib.Core.Path.{_≡_}
 use Prim.Native.Nat.{_-_, _≤_}
-use Rattle.close_rules.proofs.Decoding.{sized-as}
-use Rattle.close_list.proofs.Noting.{roomy-as}
 use Rattle.close_word.specs.Stretches.{Works}
-use Rattle.close_word.proofs.Working.{works-inside}
+use Rattle.close_word.proofs.Working.{works-workable}
 use Rattle.close_table.specs.Rounds.{InColumns}
 use Rattle.close_table.proofs.Turning.{columns-none, columns-more}
 use Rattle.close_table.proofs.rounds.work_round.Statement.{statement}
@@ -22,9 +20,9 @@ loop-holds c = (omega arith, columns-none _ _ _ _ _ _)
 
 work-column-requires : tie.Need-work-column-requires Inv-loop μ-loop
 work-column-requires c κs =
+    let loop = c .before .before .before .loop in
     let o = c .before .before .before .before .before .before .before .before .before .pre in
-    let w = c .before .before .before .loop .inv .1 in
-    (o .0, (omega arith, (o .1 .0, (roomy-as (w .long) (o .1 .1 .0), (sized-as (w .each (o .0 .program) (o .0 .codes) .size) (o .1 .1 .1 .0), works-inside _ _ _ _ _ (o .0) (o .1 .1 .1 .1) w)))))
+    (works-workable _ _ _ _ _ o (loop .inv .1), omega arith)
 
 add-q : tie.Need-add-q Inv-loop μ-loop
 add-q c = omega arith
@@ -33,7 +31,10 @@ loop-less : tie.Need-loop-less Inv-loop μ-loop
 loop-less c = omega arith
 
 loop-again : tie.Need-loop-again Inv-loop μ-loop
-loop-again c = (omega arith, columns-more _ _ _ _ _ (c .before .before .before .before .before .before .before .before .loop .inv .1) (c .before .before .before .before .work-column .ensures))
+loop-again c =
+    let loop = c .before .before .before .before .before .before .before .before .loop in
+    let work-column = c .before .before .before .before .work-column in
+    (omega arith, columns-more _ _ _ _ _ (loop .inv .1) (work-column .ensures))
 
 same-length : tie.Need-same-length Inv-loop μ-loop
 same-length c = c .before .loop .inv .1 .long
@@ -41,12 +42,14 @@ same-length c = c .before .loop .inv .1 .long
 same-length-2 : tie.Need-same-length-2 Inv-loop μ-loop
 same-length-2 c =
     let o = c .before .before .before .before .before .before .before .pre in
-    c .before .loop .inv .1 .each (o .0 .program) (o .0 .codes) .size
+    c .before .loop .inv .1 .each (o .coded .program) (o .coded .codes) .infers .size
 
 returns : tie.Need-returns Inv-loop μ-loop
 returns c =
-    let e : c .before .loop .q ≡ c .before .before .before .before .before .before .before .args .n = omega arith in
-    rw e at (c .before .loop .inv .1)
+    let a = c .before .before .before .before .before .before .before .args in
+    let loop = c .before .loop in
+    let e : loop .q ≡ a .n = omega arith in
+    rw e at (loop .inv .1)
 
 pub work-round-spec : {M : Type 1} → statement M
 work-round-spec =

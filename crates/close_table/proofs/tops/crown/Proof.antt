@@ -29,7 +29,12 @@ index-requires : tie.Need-index-requires Inv-loop μ-loop
 index-requires c κs = search needs
 
 mark-true-requires : tie.Need-mark-true-requires Inv-loop μ-loop
-mark-true-requires c κs = let o = c .before .before .before .before .before .before .before .pre in let a = c .before .before .before .before .before .before .before .args in let l = c .before .before .before .before .loop in (o .0 .1, top-row (a .n) (a .marks .now) (l .marks) (c .before .index .result) (getD (a .tops .now) (l .i) 0) (c .before .index .ensures) (l .inv .1 .size) (o .1 (l .i) (omega arith)))
+mark-true-requires c κs =
+    let index = c .before .index in
+    let o = c .before .before .before .before .before .before .before .pre in
+    let a = c .before .before .before .before .before .before .before .args in
+    let l = c .before .before .before .before .loop in
+    (o .0 .1, top-row (a .n) (a .marks .now) (l .marks) (index .result) (getD (a .tops .now) (l .i) 0) (index .ensures) (l .inv .1 .size) (o .1 (l .i) (omega arith)))
 
 add-i : tie.Need-add-i Inv-loop μ-loop
 add-i c = search needs
@@ -38,7 +43,11 @@ loop-less : tie.Need-loop-less Inv-loop μ-loop
 loop-less c = search needs
 
 loop-again : tie.Need-loop-again Inv-loop μ-loop
-loop-again c = (omega arith, crown-more _ _ _ _ _ (c .before .before .before .before .index .ensures) _ _ _ (c .before .before .before .before .before .before .before .loop .inv .1) (c .before .before .mark-true .ensures))
+loop-again c =
+    let loop = c .before .before .before .before .before .before .before .loop in
+    let index = c .before .before .before .before .index in
+    let mark-true = c .before .before .mark-true in
+    (omega arith, crown-more _ _ _ _ _ (index .ensures) _ _ _ (loop .inv .1) (mark-true .ensures))
 
 same-length : tie.Need-same-length Inv-loop μ-loop
 same-length c = c .before .loop .inv .1 .size

@@ -20,10 +20,15 @@ loop-holds c =
     (omega arith, until-none _ _ _ _)
 
 window-word-requires : tie.Need-window-word-requires Inv-loop μ-loop
-window-word-requires c κs = word-in-window _ _ _ (c .before .before .before .pre .0) (omega arith)
+window-word-requires c κs =
+    let asked = c .before .before .before .pre in
+    word-in-window _ _ _ (asked .0) (omega arith)
 
 add-word-requires : tie.Need-add-word-requires Inv-loop μ-loop
-add-word-requires c κs = (omega arith, omega (arith, c .before .before .before .before .before .pre .1, c .before .before .before .loop .inv .1 .size))
+add-word-requires c κs =
+    let asked = c .before .before .before .before .before .pre in
+    let loop = c .before .before .before .loop in
+    (omega arith, omega (arith, asked .1, loop .inv .1 .size))
 
 add-q : tie.Need-add-q Inv-loop μ-loop
 add-q c = omega arith
@@ -33,8 +38,10 @@ loop-less c = omega arith
 
 loop-again : tie.Need-loop-again Inv-loop μ-loop
 loop-again c =
+    let window-word = c .before .before .before .before .window-word in
+    let add-word = c .before .before .add-word in
     let l = c .before .before .before .before .before .before .loop in
-    (omega arith, until-more _ _ _ _ _ _ _ _ _ (l .inv .1) (c .before .before .before .before .window-word .ensures) (c .before .before .add-word .ensures))
+    (omega arith, until-more _ _ _ _ _ _ _ _ _ (l .inv .1) (window-word .ensures) (add-word .ensures))
 
 same-length : tie.Need-same-length Inv-loop μ-loop
 same-length c = c .before .loop .inv .1 .size
