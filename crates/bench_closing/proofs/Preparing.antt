@@ -12,12 +12,12 @@ use Rattle.spec_tilco.proofs.Order.{row-count, top-is-row}
 use Rattle.read_sheet.specs.Sheet.{meant}
 use Rattle.read_sheet.proofs.Accepted.{sheet-declared}
 use Rattle.close_list.specs.Workable.{Closable}
-use Rattle.open_sheet.specs.Ready.{Ready}
+use Rattle.open_sheet.specs.OpenedSheet.{OpenedSheet}
 use Rattle.open_table.proofs.Tables.{in-sheet, row-range}
 use Rattle.bench_closing.specs.Prepared.{Prepared, Lent}
 
 -- A sheet that stands ready is prepared.
-pub prepared : {s places B tops : List ℕ} {w t count : ℕ} → Ready s places B tops w t count → Prepared places B tops count t
+pub prepared : {s places B tops : List ℕ} {w t count : ℕ} → OpenedSheet s places B tops w t count → Prepared places B tops count t
 prepared {s} {tops = tops} k =
     let c = k .contents in
     let known = in-sheet s (k .holds) in
@@ -37,9 +37,9 @@ unfolding words
 words-64 = omega arith
 
 -- Closing can be asked for. No mark is outside a window that ends with the last word.
-pub settle-asks : {places B tops : List ℕ} {count t : ℕ} → Prepared places B tops count t → (D T : List ℕ) → Lent count D T
+pub close-asks : {places B tops : List ℕ} {count t : ℕ} → Prepared places B tops count t → (D T : List ℕ) → Lent count D T
     → Closable count 64 mostClosed B D T × ((t ≤ length tops) × ((i : ℕ) → i < t → getD tops i 0 < count))
-settle-asks k D T l = (
+close-asks k D T l = (
   record {
     coded = k .coded;
     roomy = record { most = k .most; long = omega (arith, k .most, l .list) };

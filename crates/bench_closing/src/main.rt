@@ -1,7 +1,7 @@
 // Closes a table of 4,096 ticks again and again, so that its instructions can be counted. The sheet and the readings are those in the current folder,
 // sheet.txt and readings.txt: the table has 64 words for each value of the sheet's rows, and each reading stands there every 64 ticks. The first argument says
 // how often it is laid out and closed; with `lay` as the second it is laid out only. Prints the marks before, how many tops there are, and the marks after.
-use close_table::tops::settle;
+use close_table::tops::close_with_tops;
 use open_sheet::Opening;
 use open_sheet::open_sheet;
 use read_readings::whole::Outcome;
@@ -80,7 +80,7 @@ fn run_once(
 {
     lay(s, places, readings, table);
     if closes {
-        settle(rows, count, tops, k, 64, 4096, todo, table);
+        close_with_tops(rows, count, tops, k, 64, 4096, todo, table);
     }
 }
 

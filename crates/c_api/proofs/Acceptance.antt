@@ -11,10 +11,10 @@ use Rattle.read_bytes.specs.Bytes.{pick}
 use Rattle.spec_tilco.specs.Table.{Answer}
 use Rattle.read_sheet.specs.Sheet.{Contents, sheetOf, meant}
 use Rattle.open_sheet.specs.Results.{Result, accepted, refused}
-use Rattle.spec_operations.specs.Results.{Gain}
+use Rattle.spec_operations.specs.Gain.{Gain}
 use Rattle.open_sheet.specs.SheetIn.{fits, sized, sheetIn, namesIn}
-use Rattle.open_table.specs.Opening.{Opens}
-use Rattle.open_table.specs.Opening.Opens.{both, not-the-sheet, not-the-length, not-inside}
+use Rattle.open_table.specs.Opens.{Opens}
+use Rattle.open_table.specs.Opens.Opens.{both, not-the-sheet, not-the-length, not-inside}
 use Rattle.spec_operations.specs.Operations.{counted, checked, Adds, Asks}
 use Rattle.spec_operations.specs.Operations.Adds.{not-opened, not-read, added}
 use Rattle.spec_operations.specs.Operations.Asks.{not-opened as not-asked, out-of-range, asked}

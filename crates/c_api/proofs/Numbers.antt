@@ -9,21 +9,21 @@ use lib.ListN.{length, take}
 use Rattle.spec_limits.specs.Limits.{mostBytes, mostTicks, mostSignals, mostRules, mostRuleBytes, mostOpen}
 use Rattle.read_bytes.specs.declared.bytes.Class.{Class}
 use Rattle.read_bytes.specs.declared.bytes.Class.the-variants.{Letter, Digit, Sign, Bracket, Other}
-use Rattle.read_names.specs.declared.Word.{Word}
-use Rattle.read_names.specs.declared.Word.the-variants as word
+use Rattle.read_names.specs.declared.NameRead.{NameRead}
+use Rattle.read_names.specs.declared.NameRead.the-variants as word
 use Rattle.read_bytes.specs.declared.numbers.Number.{Number}
 use Rattle.read_bytes.specs.declared.numbers.Number.the-variants.{Value, Missing}
 use Rattle.read_bytes.specs.Read.{Read, andThen}
 use Rattle.read_bytes.specs.Read.Read.{got, refused}
 use Rattle.read_bytes.specs.Bytes.{byte, bytes, peek, pick, between, oneOf, classOf, starts}
-use Rattle.read_names.specs.Words.{wordAt, wordEnd, namesAt, findName, isWord, nameAt}
+use Rattle.read_names.specs.Spellings.{spellingAt, spellingEnd, namesAt, findName, isSpelled, nameAt}
 use Rattle.read_bytes.specs.Numbers.{number}
 use Rattle.read_lines.specs.Lines.{lineEnd, line, wholeNumber, wholeName, numberLine, rangedLine, nameLine, inTurn, upTo}
 use Rattle.spec_tilco.specs.Formula.{Op, And, Or, Implies, Iff, Written}
 use Rattle.read_interval.specs.declared.Span.{Span}
 use Rattle.read_interval.specs.declared.Span.the-variants as span
 use Rattle.read_interval.specs.Interval.{endAt, endThen, endAfter, near, leftOut, spanOf, closeAt, commaAt, interval}
-use Rattle.read_parts.specs.Grammar.{Reader, declared, spanThen, times, timedPart, signText, repeats, more, level, formula, negated, closed, inParens, second, arguments, kept, worded, plainBy, plainIn, inside, plain, rule}
+use Rattle.read_parts.specs.FormulaText.{Reader, declared, spanThen, times, timedPart, signText, repeats, more, level, formula, negated, thenParen, inParens, second, arguments, sinceUntil, nameOrKeep, plainPartBy, plainPartIn, inside, plainPart, rule}
 use Rattle.read_head.specs.SheetHead.{signalLine, headOf, head}
 use Rattle.read_sheet.specs.Sheet.{ruleTo, ruleLine, rules, contents, sheetOf}
 use Rattle.read_reading.specs.OneReading.{knownLine, reading}
@@ -85,7 +85,7 @@ module _ (s : List ℕ) (p : ℕ) (key : List ℕ) (form : ℕ) (f : Listed form
   unfolding nameLine
   name-numbered content c = then-numbered (line s p key form) (λ v e. wholeName v content e (nameAt s v)) line-numbered (λ v e. go v e (nameAt s v))
     where
-      go : (v e : ℕ) (x : Word) → Numbered (wholeName v content e x)
+      go : (v e : ℕ) (x : NameRead) → Numbered (wholeName v content e x)
       go v e (word.Name q) = pick-numbered (eqb q e) (got v (e + 1)) (refused content v) tt c
       go v e word.Other = c
 
@@ -170,7 +170,7 @@ module _ (s : List ℕ) where
   negated-numbered none r p = tt
   negated-numbered (some P) r p = then-numbered (P (p + 1)) (λ f q. got (Written.neg f) q) (r (p + 1)) (λ f q. tt)
 
-  closed-numbered : (R : Read Written) → Numbered R → Numbered (closed s R)
+  closed-numbered : (R : Read Written) → Numbered R → Numbered (thenParen s R)
   closed-numbered R r =
       then-numbered R (λ f q. pick (eqb (peek s q) (byte ")")) (λ _. got f (q + 1)) (refused 5 q)) r
       (λ f q. pick-numbered (eqb (peek s q) (byte ")")) (got f (q + 1)) (refused 5 q) tt tt)
@@ -182,7 +182,7 @@ module _ (s : List ℕ) where
   second-numbered : (b : Bool) (F : Reader) → Reads F → (f : Written) → Reads (second b F s f)
   unfolding second
   second-numbered b F r f p =
-      pick-numbered (eqb (peek s p) (byte ",")) (closed s (andThen (F (p + 1)) (λ g q. got (Written.keep b f g) q))) (refused 5 p)
+      pick-numbered (eqb (peek s p) (byte ",")) (thenParen s (andThen (F (p + 1)) (λ g q. got (Written.keep b f g) q))) (refused 5 p)
       (closed-numbered (andThen (F (p + 1)) (λ g q. got (Written.keep b f g) q)) (then-numbered (F (p + 1)) (λ g q. got (Written.keep b f g) q) (r (p + 1)) (λ g q. tt))) tt
 
   arguments-numbered : (inner : Option Reader) → ReadsIn inner → (b : Bool) → Reads (arguments inner b s)
@@ -190,32 +190,32 @@ module _ (s : List ℕ) where
   arguments-numbered (some P) r b p =
       then-numbered (formula P s (p + 1)) (λ f q. second b (formula P s) s f q) (formula-numbered P r (p + 1)) (λ f q. second-numbered b (formula P s) (formula-numbered P r) f q)
 
-  kept-numbered : (inner : Option Reader) → ReadsIn inner → (b : Bool) → Reads (kept inner b s)
-  unfolding kept
+  kept-numbered : (inner : Option Reader) → ReadsIn inner → (b : Bool) → Reads (sinceUntil inner b s)
+  unfolding sinceUntil
   kept-numbered inner r b p = pick-numbered (eqb (peek s p) (byte "(")) (arguments inner b s p) (refused 5 p) (arguments-numbered inner r b p) tt
 
 module _ (names : List (List ℕ)) (s : List ℕ) where
   declared-numbered : Reads (declared names s)
   unfolding declared
   declared-numbered p =
-      pick-numbered (ltb (findName (wordAt s p) names) (length names)) (got (Written.name (findName (wordAt s p) names)) (wordEnd s p)) (refused 6 p) tt tt
+      pick-numbered (ltb (findName (spellingAt s p) names) (length names)) (got (Written.name (findName (spellingAt s p) names)) (spellingEnd s p)) (refused 6 p) tt tt
 
-  worded-numbered : (inner : Option Reader) → ReadsIn inner → Reads (worded inner names s)
-  unfolding worded
+  worded-numbered : (inner : Option Reader) → ReadsIn inner → Reads (nameOrKeep inner names s)
+  unfolding nameOrKeep
   worded-numbered inner r p =
-      pick-numbered (isWord s p (bytes "since")) (kept inner true s (p + 5)) (pick (isWord s p (bytes "until")) (λ _. kept inner false s (p + 5)) (declared names s p))
+      pick-numbered (isSpelled s p (bytes "since")) (sinceUntil inner true s (p + 5)) (pick (isSpelled s p (bytes "until")) (λ _. sinceUntil inner false s (p + 5)) (declared names s p))
       (kept-numbered s inner r true (p + 5))
-      (pick-numbered (isWord s p (bytes "until")) (kept inner false s (p + 5)) (declared names s p) (kept-numbered s inner r false (p + 5)) (declared-numbered p))
+      (pick-numbered (isSpelled s p (bytes "until")) (sinceUntil inner false s (p + 5)) (declared names s p) (kept-numbered s inner r false (p + 5)) (declared-numbered p))
 
-  plain-by : (k : Class) (inner : Option Reader) → ReadsIn inner → Reads (plainBy k inner names s)
+  plain-by : (k : Class) (inner : Option Reader) → ReadsIn inner → Reads (plainPartBy k inner names s)
   plain-by Letter inner r p = worded-numbered inner r p
   plain-by Digit inner r p = tt
   plain-by Sign inner r p = pick-numbered (eqb (peek s p) (byte "!")) (negated inner p) (refused 5 p) (negated-numbered s inner r p) tt
   plain-by Bracket inner r p = pick-numbered (eqb (peek s p) (byte "(")) (inParens inner s p) (refused 5 p) (parens-numbered s inner r p) tt
   plain-by Other inner r p = tt
 
-  plain-in-numbered : (inner : Option Reader) → ReadsIn inner → Reads (plainIn inner names s)
-  unfolding plainIn
+  plain-in-numbered : (inner : Option Reader) → ReadsIn inner → Reads (plainPartIn inner names s)
+  unfolding plainPartIn
   plain-in-numbered inner r p = plain-by (classOf (peek s p)) inner r p
 
   inside-numbered : (d : ℕ) → ReadsIn (inside d names s)
@@ -224,10 +224,10 @@ module _ (names : List (List ℕ)) (s : List ℕ) where
   inside-numbered (suc d) = plain-in-numbered (inside d names s) (inside-numbered d)
 
   rule-numbered : Reads (rule names s)
-  unfolding rule plain
+  unfolding rule plainPart
   rule-numbered p =
-      then-numbered (formula (plain mostOpen names s) s p) (λ f q. pick (eqb q (length s)) (λ _. got f q) (refused 5 q))
-      (formula-numbered s (plain mostOpen names s) (plain-in-numbered (inside mostOpen names s) (inside-numbered mostOpen)) p)
+      then-numbered (formula (plainPart mostOpen names s) s p) (λ f q. pick (eqb q (length s)) (λ _. got f q) (refused 5 q))
+      (formula-numbered s (plainPart mostOpen names s) (plain-in-numbered (inside mostOpen names s) (inside-numbered mostOpen)) p)
       (λ f q. pick-numbered (eqb q (length s)) (got f q) (refused 5 q) tt tt)
 
 -- ---- the sheet
@@ -237,7 +237,7 @@ module _ (s : List ℕ) where
   unfolding signalLine
   signal-numbered t p =
       then-numbered (nameLine s p (bytes "signal=") 2 4) _ (name-numbered s p (bytes "signal=") 2 tt 4 tt)
-      (λ v q. pick-numbered (eqb (findName (wordAt s v) (namesAt s t)) (length t)) (got v q) (refused 4 v) tt tt)
+      (λ v q. pick-numbered (eqb (findName (spellingAt s v) (namesAt s t)) (length t)) (got v q) (refused 4 v) tt tt)
 
   head-numbered : Numbered (head s)
   unfolding head
@@ -272,7 +272,7 @@ module _ (names : List (List ℕ)) (W : ℕ) (r : List ℕ) where
   reading-numbered p =
       then-numbered (rangedLine r p (bytes "at=") 11 13 0 (W - 1)) _ (ranged-numbered r p (bytes "at=") 11 tt 13 0 (W - 1) tt) (λ t q.
       then-numbered (knownLine names r q) _ (then-numbered (nameLine r q (bytes "signal=") 11 12) _ (name-numbered r q (bytes "signal=") 11 tt 12 tt)
-      (λ v i. pick-numbered (ltb (findName (wordAt r v) names) (length names)) (got (findName (wordAt r v) names) i) (refused 12 v) tt tt)) (λ x u.
+      (λ v i. pick-numbered (ltb (findName (spellingAt r v) names) (length names)) (got (findName (spellingAt r v) names) i) (refused 12 v) tt tt)) (λ x u.
       then-numbered (rangedLine r u (bytes "value=") 11 14 0 1) _ (ranged-numbered r u (bytes "value=") 11 tt 14 0 1 tt) (λ v e. tt)))
 
   pub readings-numbered : Numbered (readings names W r)

@@ -6,7 +6,7 @@ use mathlib.Core.List.{List, [], _∷_}
 use Prim.Native.Nat.{ℕ}
 use Rattle.spec_tilco.specs.Table.{Answer, Unsettled, True, False, Contradiction}
 use Rattle.open_sheet.specs.Results.{Result, accepted, refused}
-use Rattle.spec_operations.specs.Results.{Gain, gain}
+use Rattle.spec_operations.specs.Gain.{Gain, gain}
 use Rattle.spec_operations.specs.Operations.{checked, Adds, Asks}
 
 -- The number answered, what stands at `place`, and what stands at the other places, in the order of the parameters.

@@ -3,15 +3,15 @@ use mathlib.Core.Path.{_≡_, refl, sym, ap, subst}
 use mathlib.Core.List.{List}
 use Prim.Native.Nat.{ℕ, zero, suc, _≤_, _<_}
 use native.Mathlib.Omega.{arith}
-use Rattle.lower_rows.specs.Words.{unpacked}
+use Rattle.lower_rows.specs.RowCodes.{unpacked}
 use Rattle.spec_tilco.specs.Inference.{notOf, Marks}
 use Rattle.spec_tilco.specs.Table.{Stands}
 use Rattle.close_rules.specs.Settled.{SettledIn}
-use Rattle.close_rules.proofs.Moving.{idle}
+use Rattle.close_rules.proofs.Inferring.{idle}
 use Rattle.close_rules.proofs.Decoding.{kind, left, right, past, node-as}
 use Rattle.close_list.specs.Items.{OneItem}
-use Rattle.close_store.specs.Visits.{Visits, VisitsBy}
-use Rattle.close_store.proofs.Heeding.{notes-none, visited}
+use Rattle.close_store.specs.Visits.{Visits, VisitsNode}
+use Rattle.close_store.proofs.Storing.{notes-none, visited}
 
 -- No mark.
 abbrev None : Marks
@@ -19,14 +19,14 @@ None m = ⊥
 
 module _ (count : ℕ) (B : List ℕ) (n r q W : ℕ) where
   module _ (T T′ D D′ : List ℕ) (l : r < count) where
-    pub visits-as : (k : ℕ) → kind count B r ≡ k → VisitsBy (unpacked k (left count B r) (right count B r)) count B r q W n T T′ D D′ → Visits count B r q W n T T′ D D′
+    pub visits-as : (k : ℕ) → kind count B r ≡ k → VisitsNode (unpacked k (left count B r) (right count B r)) count B r q W n T T′ D D′ → Visits count B r q W n T T′ D D′
     visits-as k e f = record {
       changed = f .changed;
       each = λ P c. f .each P (node-as count B r k e P c) (ap (λ (z : ℕ). unpacked z (left count B r) (right count B r)) e);
       past = λ h. absurd (omega arith);
     }
 
-    pub visits-not : 4 ≤ kind count B r → VisitsBy (notOf (left count B r)) count B r q W n T T′ D D′ → Visits count B r q W n T T′ D D′
+    pub visits-not : 4 ≤ kind count B r → VisitsNode (notOf (left count B r)) count B r q W n T T′ D D′ → Visits count B r q W n T T′ D D′
     visits-not h f = visits-as (past count B r) (omega arith) f
 
   -- A signal's row has no rules.

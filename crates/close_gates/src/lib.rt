@@ -1,8 +1,8 @@
 // A visit to an item of a row that is no look: the row's rules at the ticks of one word, once through (they add nothing to it then), and every item that
 // rests on a word that they changed put on the list, but for the item itself. A row has `n` words for each value, 64 ticks in each; `q` is the number of a
 // word in a row. Assumes that the words are a program's rows, that the lists of parents are theirs, and that the table and the list of work have them.
-use close_store::mark_child;
-use close_store::mark_own;
+use close_store::store_child;
+use close_store::store_own;
 use spec_limits::ABOVE;
 use spec_limits::KINDS;
 use spec_limits::NUMBERS;
@@ -13,9 +13,9 @@ ghost use Prim.Native.Nat.{ℕ, _%_, _<_};
 ghost use lib.ListN.{getD};
 ghost use Rattle.spec_limits.specs.Limits.{codeKinds};
 ghost use Rattle.spec_tilco.specs.Inference.{notOf, gate};
-ghost use Rattle.table_words.specs.Gains.{HasRows};
+ghost use Rattle.table_words.specs.WordTicks.{HasRows};
 ghost use Rattle.close_list.specs.Workable.{Queueable, Workable};
-ghost use Rattle.close_store.specs.Visits.{VisitsBy, Visits};
+ghost use Rattle.close_store.specs.Visits.{VisitsNode, Visits};
 
 // A visit to a row that is an And (u is true) or an Or of the rows a and b.
 pub fn visit_gate(
@@ -34,7 +34,7 @@ pub fn visit_gate(
 )
     requires { ⌜ Queueable count n (now rows) (now heads) (now nexts) (now todo) ⌝ }
     requires { ⌜ HasRows n (now marks) count × (row < count) × (q < n) × (a < row) × (b < row) ⌝ }
-    ensures { λ _. ⌜ ((W : ℕ) → VisitsBy (gate u a b) count (now (rows .entry)) row q W n (now (marks .entry)) (now (marks .exit)) (now (todo .entry)) (now (todo .exit))) ⌝ }
+    ensures { λ _. ⌜ ((W : ℕ) → VisitsNode (gate u a b) count (now (rows .entry)) row q W n (now (marks .entry)) (now (marks .exit)) (now (todo .entry)) (now (todo .exit))) ⌝ }
 {
     let r = words_at(marks, n, q, row, u);
     let x = words_at(marks, n, q, a, u);
@@ -55,9 +55,9 @@ pub fn visit_gate(
         this: right,
         other: part & left,
     };
-    mark_own(count, n, q, row, u, own, heads, nexts, todo, marks);
-    mark_child(rows, count, n, q, a, u, first, heads, nexts, todo, marks);
-    mark_child(rows, count, n, q, b, u, second, heads, nexts, todo, marks);
+    store_own(count, n, q, row, u, own, heads, nexts, todo, marks);
+    store_child(rows, count, n, q, a, u, first, heads, nexts, todo, marks);
+    store_child(rows, count, n, q, b, u, second, heads, nexts, todo, marks);
 }
 
 // A visit to a row that is the opposite of the row x, its only child.
@@ -75,7 +75,7 @@ pub fn visit_not(
 )
     requires { ⌜ Queueable count n (now rows) (now heads) (now nexts) (now todo) ⌝ }
     requires { ⌜ HasRows n (now marks) count × (row < count) × (q < n) × (x < row) ⌝ }
-    ensures { λ _. ⌜ ((W : ℕ) → VisitsBy (notOf x) count (now (rows .entry)) row q W n (now (marks .entry)) (now (marks .exit)) (now (todo .entry)) (now (todo .exit))) ⌝ }
+    ensures { λ _. ⌜ ((W : ℕ) → VisitsNode (notOf x) count (now (rows .entry)) row q W n (now (marks .entry)) (now (marks .exit)) (now (todo .entry)) (now (todo .exit))) ⌝ }
 {
     let r = words_at(marks, n, q, row, true);
     let y = words_at(marks, n, q, x, true);
@@ -87,8 +87,8 @@ pub fn visit_not(
         this: r.other,
         other: r.this,
     };
-    mark_own(count, n, q, row, true, own, heads, nexts, todo, marks);
-    mark_child(rows, count, n, q, x, true, child, heads, nexts, todo, marks);
+    store_own(count, n, q, row, true, own, heads, nexts, todo, marks);
+    store_child(rows, count, n, q, x, true, child, heads, nexts, todo, marks);
 }
 
 // A visit to item (r, q) of a row that is no look: the rules of row r, by its word w, at word q. A signal's row has none, and past the program's rows there are

@@ -12,14 +12,14 @@ use lib.ListN.{getD}
 use Rattle.spec_ticks.specs.Ticks.{Has, block}
 use Rattle.spec_ticks.proofs.Bits.{lt-or-ge, or-left, or-right, no-ticks}
 use Rattle.table_marks.proofs.Places.{two-blocks}
-use Rattle.lower_rows.specs.Words.{rowAt}
+use Rattle.lower_rows.specs.RowCodes.{rowAt}
 use Rattle.spec_tilco.specs.Inference.{Node, signal, notOf, gate, look, mark, Shifted}
 use Rattle.spec_tilco.specs.Table.{Stands}
 use Rattle.close_rules.specs.Codes.{Coded}
 use Rattle.close_rules.specs.Settled.{SettledIn, Rests}
-use Rattle.close_list.specs.Items.{Touched, Starts, Done}
+use Rattle.close_list.specs.Items.{QueuesResting, QueuesMarked, SettledOffList}
 use Rattle.close_list.proofs.ByKind.{rests-below}
-use Rattle.close_list.proofs.Noting.{keeps-none, keeps-then, still-to-do}
+use Rattle.close_list.proofs.Queueing.{keeps-none, keeps-then, still-to-do}
 
 -- Word p of row x has no mark.
 abbrev Bare : ℕ → List ℕ → ℕ → ℕ → Type 0
@@ -74,44 +74,44 @@ joined-bare n T x q z t v e i =
 
 module _ (count : ℕ) (B : List ℕ) (n : ℕ) (T D : List ℕ) where
   -- No word yet.
-  pub starts-none : (X : ℕ → ℕ → Type 0) → ((x p : ℕ) → X x p → ⊥) → Starts count B n X T D D
+  pub starts-none : (X : ℕ → ℕ → Type 0) → ((x p : ℕ) → X x p → ⊥) → QueuesMarked count B n X T D D
   starts-none X f = record { keeps = keeps-none D; noted = λ x t v k i. absurd (f x (t / 64) k) }
 
   -- The words X, and then the words Y.
-  starts-then : (X Y Z : ℕ → ℕ → Type 0) {D′ D″ : List ℕ} → ((x p : ℕ) → Z x p → X x p ⊎ Y x p) → Starts count B n X T D D′ → Starts count B n Y T D′ D″ → Starts count B n Z T D D″
+  starts-then : (X Y Z : ℕ → ℕ → Type 0) {D′ D″ : List ℕ} → ((x p : ℕ) → Z x p → X x p ⊎ Y x p) → QueuesMarked count B n X T D D′ → QueuesMarked count B n Y T D′ D″ → QueuesMarked count B n Z T D D″
   starts-then X Y Z f a b = record {
     keeps = keeps-then (a .keeps) (b .keeps);
     noted = λ x t v k i. ⊎-elim (λ g r q l h s. still-to-do count r q (b .keeps) (a .noted x t v g i r q l h s)) (λ g. b .noted x t v g i) (f x (t / 64) k);
   }
 
   -- A row's word q, with a mark or without.
-  pub starts-touched : (x q : ℕ) (D′ D″ : List ℕ) → D″ ≡ D′ → Touched count B n x q D D′ → Starts count B n (λ y p. (y ≡ x) × (p ≡ q)) T D D″
-  starts-touched x q D′ D″ is a = subst (Starts count B n (λ y p. (y ≡ x) × (p ≡ q)) T D) (sym is) (record {
+  pub starts-touched : (x q : ℕ) (D′ D″ : List ℕ) → D″ ≡ D′ → QueuesResting count B n x q D D′ → QueuesMarked count B n (λ y p. (y ≡ x) × (p ≡ q)) T D D″
+  starts-touched x q D′ D″ is a = subst (QueuesMarked count B n (λ y p. (y ≡ x) × (p ≡ q)) T D) (sym is) (record {
     keeps = a .keeps;
     noted = λ y t v k i r w l h s. a .noted r w l h (subst (λ (z : ℕ). Rests (rowAt B r) r w z q) (k .0) (subst (λ (z : ℕ). Rests (rowAt B r) r w y z) (k .1) s));
   })
 
-  pub starts-bare : (x q : ℕ) (D′ : List ℕ) → D′ ≡ D → bitOr (word n T x q true) (word n T x q false) ≡ 0 → Starts count B n (λ y p. (y ≡ x) × (p ≡ q)) T D D′
-  starts-bare x q D′ is z = subst (Starts count B n (λ y p. (y ≡ x) × (p ≡ q)) T D) (sym is) (record {
+  pub starts-bare : (x q : ℕ) (D′ : List ℕ) → D′ ≡ D → bitOr (word n T x q true) (word n T x q false) ≡ 0 → QueuesMarked count B n (λ y p. (y ≡ x) × (p ≡ q)) T D D′
+  starts-bare x q D′ is z = subst (QueuesMarked count B n (λ y p. (y ≡ x) × (p ≡ q)) T D) (sym is) (record {
     keeps = keeps-none D;
     noted = λ y t v k i. absurd (joined-bare n T x q z t v (k .1) (subst (λ (w : ℕ). Stands n T (mark w t v)) (k .0) i));
   })
 
   -- One row more of word q, and one word of ticks more.
-  pub starts-row : (x q : ℕ) (D′ D″ : List ℕ) → Starts count B n (λ y p. (y < x) × (p ≡ q)) T D D′ → Starts count B n (λ y p. (y ≡ x) × (p ≡ q)) T D′ D″
-      → Starts count B n (λ y p. (y < x + 1) × (p ≡ q)) T D D″
+  pub starts-row : (x q : ℕ) (D′ D″ : List ℕ) → QueuesMarked count B n (λ y p. (y < x) × (p ≡ q)) T D D′ → QueuesMarked count B n (λ y p. (y ≡ x) × (p ≡ q)) T D′ D″
+      → QueuesMarked count B n (λ y p. (y < x + 1) × (p ≡ q)) T D D″
   starts-row x q D′ D″ = starts-then _ _ _ (λ y p z. ⊎-elim (λ l. inl (l, z .1)) (λ l. inr (omega (arith, z .0), z .1)) (lt-or-ge y x))
 
-  pub starts-column : (q : ℕ) (D′ D″ : List ℕ) → Starts count B n (λ y p. (y < count) × (p < q)) T D D′ → Starts count B n (λ y p. (y < count) × (p ≡ q)) T D′ D″
-      → Starts count B n (λ y p. (y < count) × (p < q + 1)) T D D″
+  pub starts-column : (q : ℕ) (D′ D″ : List ℕ) → QueuesMarked count B n (λ y p. (y < count) × (p < q)) T D D′ → QueuesMarked count B n (λ y p. (y < count) × (p ≡ q)) T D′ D″
+      → QueuesMarked count B n (λ y p. (y < count) × (p < q + 1)) T D D″
   starts-column q D′ D″ = starts-then _ _ _ (λ y p z. ⊎-elim (λ l. inl (z .0, l)) (λ l. inr (z .0, omega (arith, z .1))) (lt-or-ge p q))
 
   -- Fewer words.
-  pub starts-as : (X Y : ℕ → ℕ → Type 0) (D′ : List ℕ) → ((x p : ℕ) → Y x p → X x p) → Starts count B n X T D D′ → Starts count B n Y T D D′
+  pub starts-as : (X Y : ℕ → ℕ → Type 0) (D′ : List ℕ) → ((x p : ℕ) → Y x p → X x p) → QueuesMarked count B n X T D D′ → QueuesMarked count B n Y T D D′
   starts-as X Y D′ f a = record { keeps = a .keeps; noted = λ x t v k i. a .noted x t v (f x (t / 64) k) i }
 
   -- Every word done: what is not on the list is settled.
-  pub starts-done : (D′ : List ℕ) → Coded count B → Starts count B n (λ x p. (x < count) × (p < n)) T D D′ → (W : ℕ) → Done count B W n T D′
+  pub starts-done : (D′ : List ℕ) → Coded count B → QueuesMarked count B n (λ x p. (x < count) × (p < n)) T D D′ → (W : ℕ) → SettledOffList count B W n T D′
   starts-done D′ c a W r q l h off = bare-settled n W T r q (rowAt B r) bare
     where
       bare : (x p : ℕ) → Rests (rowAt B r) r q x p → Bare n T x p

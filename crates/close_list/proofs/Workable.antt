@@ -4,12 +4,12 @@ use mathlib.Core.List.{List}
 use Prim.Native.Nat.{ℕ, _<_}
 use lib.ListN.{length}
 use Rattle.spec_tilco.specs.Inference.{Program}
-use Rattle.table_words.specs.Gains.{HasRow}
-use Rattle.close_rules.specs.Moves.{Infers}
+use Rattle.table_words.specs.WordTicks.{HasRow}
+use Rattle.close_rules.specs.Effects.{Infers}
 use Rattle.close_rules.proofs.Decoding.{has-row, sized-as}
-use Rattle.close_rules.proofs.Moving.{infers-inside}
+use Rattle.close_rules.proofs.Inferring.{infers-inside}
 use Rattle.close_list.specs.Workable.{Queueable, Workable}
-use Rattle.close_list.proofs.Noting.{roomy-as}
+use Rattle.close_list.proofs.Queueing.{roomy-as}
 
 -- The list kept its length.
 pub queueable-as : {count n : ℕ} {B H N D D′ : List ℕ} → length D′ ≡ length D → Queueable count n B H N D → Queueable count n B H N D′

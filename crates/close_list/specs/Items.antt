@@ -8,7 +8,7 @@ use Prim.Native.Nat.{ℕ, _+_, _*_, _/_, _%_, _≤_, _<_}
 use lib.ListN.{length, getD}
 use Rattle.spec_limits.specs.Limits.{mostRows}
 use Rattle.spec_ticks.specs.Ticks.{Has}
-use Rattle.lower_rows.specs.Words.{rowAt}
+use Rattle.lower_rows.specs.RowCodes.{rowAt}
 use Rattle.spec_tilco.specs.Inference.{Node, signal, notOf, gate, look, mark, Marks}
 use Rattle.spec_tilco.specs.Table.{Stands}
 use Rattle.close_rules.specs.Settled.{SettledTo, Rests}
@@ -23,8 +23,8 @@ abbrev pub Bit : List ℕ → ℕ → ℕ → Type 0
 Bit D i y = Has (getD D (i + y / 64) 0) (y % 64)
 
 -- Item (r, q) is to do.
-abbrev pub ToDo : ℕ → List ℕ → ℕ → ℕ → Type 0
-ToDo count D r q = Bit D (q * per count) r
+abbrev pub OnList : ℕ → List ℕ → ℕ → ℕ → Type 0
+OnList count D r q = Bit D (q * per count) r
 
 -- No item, and one.
 abbrev pub NoItem : ℕ → ℕ → Type 0
@@ -34,7 +34,7 @@ abbrev pub OneItem : ℕ → ℕ → ℕ → ℕ → Type 0
 OneItem r q s p = (s ≡ r) × (p ≡ q)
 
 -- The list has a bit for every item, and there are not too many rows.
-pub record Roomy (count n : ℕ) (D : List ℕ) : Type 0 where
+pub record ListFits (count n : ℕ) (D : List ℕ) : Type 0 where
   pub most : count ≤ mostRows
   pub long : per count * n ≤ length D
 
@@ -44,7 +44,7 @@ pub record Keeps (D D′ : List ℕ) : Type 0 where
   pub kept : (j b : ℕ) → Has (getD D j 0) b → Has (getD D′ j 0) b
 
 -- Nothing is taken off the list, and for each i and y of Y row y's bit in the words from place i on is set.
-pub record Enters (Y : ℕ → ℕ → Type 0) (D D′ : List ℕ) : Type 0 where
+pub record Queues (Y : ℕ → ℕ → Type 0) (D D′ : List ℕ) : Type 0 where
   pub keeps : Keeps D D′
   pub each : (i y : ℕ) → Y i y → Bit D′ i y
 
@@ -64,23 +64,23 @@ abbrev pub ParentsAt : ℕ → List ℕ → List ℕ → ℕ → ℕ → ℕ →
 ParentsAt stride H N x p i y = (i ≡ p * stride) × Reach N (getD H x 0) y
 
 -- Every item that rests on word p of row x is to do.
-abbrev pub Noted : ℕ → List ℕ → ℕ → List ℕ → ℕ → ℕ → Type 0
-Noted count B n D x p = (r q : ℕ) → r < count → q < n → Rests (rowAt B r) r q x p → ToDo count D r q
+abbrev pub AllQueued : ℕ → List ℕ → ℕ → List ℕ → ℕ → ℕ → Type 0
+AllQueued count B n D x p = (r q : ℕ) → r < count → q < n → Rests (rowAt B r) r q x p → OnList count D r q
 
 -- Nothing is taken off the list, and every item that rests on word p of row x is on it.
-pub record Touched (count : ℕ) (B : List ℕ) (n x p : ℕ) (D D′ : List ℕ) : Type 0 where
+pub record QueuesResting (count : ℕ) (B : List ℕ) (n x p : ℕ) (D D′ : List ℕ) : Type 0 where
   pub keeps : Keeps D D′
-  pub noted : Noted count B n D′ x p
+  pub noted : AllQueued count B n D′ x p
 
 -- Nothing is taken off the list, and every item that rests on a mark in one of the words X is on it: X has rows with a word of theirs.
-pub record Starts (count : ℕ) (B : List ℕ) (n : ℕ) (X : ℕ → ℕ → Type 0) (T D D′ : List ℕ) : Type 0 where
+pub record QueuesMarked (count : ℕ) (B : List ℕ) (n : ℕ) (X : ℕ → ℕ → Type 0) (T D D′ : List ℕ) : Type 0 where
   pub keeps : Keeps D D′
-  pub noted : (x t : ℕ) (v : Bool) → X x (t / 64) → Stands n T (mark x t v) → Noted count B n D′ x (t / 64)
+  pub noted : (x t : ℕ) (v : Bool) → X x (t / 64) → Stands n T (mark x t v) → AllQueued count B n D′ x (t / 64)
 
 -- Every item that is not on the list is settled, where what a look gives its child is among C.
-abbrev pub DoneTo : Marks → ℕ → List ℕ → ℕ → ℕ → List ℕ → List ℕ → Type 0
-DoneTo C count B W n T D = (r q : ℕ) → r < count → q < n → (ToDo count D r q → ⊥) → SettledTo C q W (Stands n T) r (rowAt B r)
+abbrev pub SettledOffListTo : Marks → ℕ → List ℕ → ℕ → ℕ → List ℕ → List ℕ → Type 0
+SettledOffListTo C count B W n T D = (r q : ℕ) → r < count → q < n → (OnList count D r q → ⊥) → SettledTo C q W (Stands n T) r (rowAt B r)
 
 -- Every item that is not on the list is settled.
-abbrev pub Done : ℕ → List ℕ → ℕ → ℕ → List ℕ → List ℕ → Type 0
-Done count B W n T D = DoneTo (Stands n T) count B W n T D
+abbrev pub SettledOffList : ℕ → List ℕ → ℕ → ℕ → List ℕ → List ℕ → Type 0
+SettledOffList count B W n T D = SettledOffListTo (Stands n T) count B W n T D

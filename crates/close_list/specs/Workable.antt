@@ -5,27 +5,27 @@ use mathlib.Core.List.{List}
 use Prim.Native.Nat.{ℕ}
 use Rattle.spec_tilco.specs.Table.{Stands, Inside}
 use Rattle.close_rules.specs.Codes.{Coded}
-use Rattle.close_rules.specs.Moves.{Sized}
+use Rattle.close_rules.specs.Effects.{TableFits}
 use Rattle.close_parents.specs.Links.{Linked}
-use Rattle.close_list.specs.Items.{Roomy}
+use Rattle.close_list.specs.Items.{ListFits}
 
 -- Items can be put on the list: the words are a program's rows, the lists of parents are theirs, and the list has a bit for every item.
 pub record Queueable (count n : ℕ) (B H N D : List ℕ) : Type 0 where
   pub coded : Coded count B
   pub linked : Linked count B H N
-  pub roomy : Roomy count n D
+  pub roomy : ListFits count n D
 
 -- Items can be visited: they can be put on the list, the table has the rows, and no mark is outside the window.
 pub record Workable (count n W : ℕ) (B H N D T : List ℕ) : Type 0 where
   pub coded : Coded count B
   pub linked : Linked count B H N
-  pub roomy : Roomy count n D
-  pub sized : Sized n count W T
+  pub roomy : ListFits count n D
+  pub sized : TableFits n count W T
   pub inside : Inside W (Stands n T)
 
 -- The table can be closed: the same, where there are no lists of parents yet.
 pub record Closable (count n W : ℕ) (B D T : List ℕ) : Type 0 where
   pub coded : Coded count B
-  pub roomy : Roomy count n D
-  pub sized : Sized n count W T
+  pub roomy : ListFits count n D
+  pub sized : TableFits n count W T
   pub inside : Inside W (Stands n T)

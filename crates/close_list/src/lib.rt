@@ -6,17 +6,17 @@ use spec_limits::KINDS;
 ghost use mathlib.Core.Path.{_≡_};
 ghost use Prim.Native.Nat.{ℕ, _+_, _*_, _/_, _<_, _≤_};
 ghost use lib.ListN.{length};
-ghost use Rattle.table_words.specs.Gains.{HasRows};
-ghost use Rattle.lower_rows.specs.Words.{rowAt};
+ghost use Rattle.table_words.specs.WordTicks.{HasRows};
+ghost use Rattle.lower_rows.specs.RowCodes.{rowAt};
 ghost use Rattle.close_rules.specs.Codes.{Coded};
 ghost use Rattle.close_parents.specs.Links.{Reach, Falls, Ended};
-ghost use Rattle.close_list.specs.Items.{per, Roomy, Enters, OwnItem, ItemsOf, ParentsAt, Touched, Starts, Done};
+ghost use Rattle.close_list.specs.Items.{per, ListFits, Queues, OwnItem, ItemsOf, ParentsAt, QueuesResting, QueuesMarked, SettledOffList};
 ghost use Rattle.close_list.specs.Workable.{Queueable};
 
 // Sets row y's bit in the words of the list from place i on.
 fn enter(todo: &mut [u64], i: usize, y: usize)
     requires { ⌜ i + y / 64 < length (now todo) ⌝ }
-    ensures { λ _. ⌜ Enters (λ j z. (j ≡ i) × (z ≡ y)) (now (todo .entry)) (now (todo .exit)) ⌝ }
+    ensures { λ _. ⌜ Queues (λ j z. (j ≡ i) × (z ≡ y)) (now (todo .entry)) (now (todo .exit)) ⌝ }
 {
     let j = i + y / 64;
     let bit: u64 = 1 << ((y % 64) as u64);
@@ -26,7 +26,7 @@ fn enter(todo: &mut [u64], i: usize, y: usize)
 // The bits of every row in the list of parents that starts with `head`.
 fn enter_parents(count: usize, head: usize, nexts: &[u16], todo: &mut [u64], i: usize)
     requires { ⌜ Falls (now nexts) (2 * count) head × (2 * count ≤ length (now nexts)) × (i + per count ≤ length (now todo)) ⌝ }
-    ensures { λ _. ⌜ Enters (λ j y. (j ≡ i) × Reach (now (nexts .entry)) head y) (now (todo .entry)) (now (todo .exit)) ⌝ }
+    ensures { λ _. ⌜ Queues (λ j y. (j ≡ i) × Reach (now (nexts .entry)) head y) (now (todo .entry)) (now (todo .exit)) ⌝ }
 {
     let mut h = head;
     while h != 0 {
@@ -39,7 +39,7 @@ fn enter_parents(count: usize, head: usize, nexts: &[u16], todo: &mut [u64], i: 
 pub fn enter_before(todo: &mut [u64], stride: usize, n: usize, p: usize, x: usize)
     requires { ⌜ stride * n ≤ length (now todo) ⌝ }
     requires { ⌜ x / 64 < stride ⌝ }
-    ensures { λ _. ⌜ Enters (ItemsOf stride x (λ q. (q < n) × (q + 1 ≡ p))) (now (todo .entry)) (now (todo .exit)) ⌝ }
+    ensures { λ _. ⌜ Queues (ItemsOf stride x (λ q. (q < n) × (q + 1 ≡ p))) (now (todo .entry)) (now (todo .exit)) ⌝ }
 {
     if p == 0 {
         return;
@@ -54,8 +54,8 @@ pub fn enter_before(todo: &mut [u64], stride: usize, n: usize, p: usize, x: usiz
 fn enter_own(rows: &[u64], count: usize, n: usize, q: usize, x: usize, todo: &mut [u64])
     requires { ⌜ Coded count (now rows) ⌝ }
     requires { ⌜ (x < count) × (q < n) ⌝ }
-    requires { ⌜ Roomy count n (now todo) ⌝ }
-    ensures { λ _. ⌜ Enters (ItemsOf (per count) x (λ p. (p < n) × OwnItem (rowAt (now (rows .entry)) x) q p)) (now (todo .entry)) (now (todo .exit)) ⌝ }
+    requires { ⌜ ListFits count n (now todo) ⌝ }
+    ensures { λ _. ⌜ Queues (ItemsOf (per count) x (λ p. (p < n) × OwnItem (rowAt (now (rows .entry)) x) q p)) (now (todo .entry)) (now (todo .exit)) ⌝ }
 {
     let w = rows[x];
     let kind = w % KINDS;
@@ -73,7 +73,7 @@ fn enter_own(rows: &[u64], count: usize, n: usize, q: usize, x: usize, todo: &mu
 }
 
 // Puts the items at word q of row x's parents on the list.
-pub fn touch_parents(
+pub fn queue_parents(
     count: usize,
     n: usize,
     q: usize,
@@ -84,8 +84,8 @@ pub fn touch_parents(
 )
     requires { ⌜ (x < count) × (q < n) ⌝ }
     requires { ⌜ Ended count (now heads) (now nexts) ⌝ }
-    requires { ⌜ Roomy count n (now todo) ⌝ }
-    ensures { λ _. ⌜ Enters (ParentsAt (per count) (now (heads .entry)) (now (nexts .entry)) x q) (now (todo .entry)) (now (todo .exit)) ⌝ }
+    requires { ⌜ ListFits count n (now todo) ⌝ }
+    ensures { λ _. ⌜ Queues (ParentsAt (per count) (now (heads .entry)) (now (nexts .entry)) x q) (now (todo .entry)) (now (todo .exit)) ⌝ }
 {
     let stride = (count + 63) / 64;
     let head = index(heads[x]);
@@ -93,7 +93,7 @@ pub fn touch_parents(
 }
 
 // Row x's word q changed: puts every item that rests on it on the list.
-pub fn touch(
+pub fn queue_resting(
     rows: &[u64],
     count: usize,
     n: usize,
@@ -105,10 +105,10 @@ pub fn touch(
 )
     requires { ⌜ Queueable count n (now rows) (now heads) (now nexts) (now todo) ⌝ }
     requires { ⌜ (x < count) × (q < n) ⌝ }
-    ensures { λ _. ⌜ Touched count (now (rows .entry)) n x q (now (todo .entry)) (now (todo .exit)) ⌝ }
+    ensures { λ _. ⌜ QueuesResting count (now (rows .entry)) n x q (now (todo .entry)) (now (todo .exit)) ⌝ }
 {
     enter_own(rows, count, n, q, x, todo);
-    touch_parents(count, n, q, x, heads, nexts, todo);
+    queue_parents(count, n, q, x, heads, nexts, todo);
 }
 
 // Puts every item on the list that rests on a mark in word q of a row.
@@ -124,7 +124,7 @@ fn start_column(
 )
     requires { ⌜ Queueable count n (now rows) (now heads) (now nexts) (now todo) ⌝ }
     requires { ⌜ (q < n) × HasRows n (now marks) count ⌝ }
-    ensures { λ _. ⌜ Starts count (now (rows .entry)) n (λ x p. (x < count) × (p ≡ q)) (now (marks .entry)) (now (todo .entry)) (now (todo .exit)) ⌝ }
+    ensures { λ _. ⌜ QueuesMarked count (now (rows .entry)) n (λ x p. (x < count) × (p ≡ q)) (now (marks .entry)) (now (todo .entry)) (now (todo .exit)) ⌝ }
 {
     let mut x: usize = 0;
     let mut place = q;
@@ -132,7 +132,7 @@ fn start_column(
         let yes = marks[place];
         let no = marks[place + n];
         if yes | no != 0 {
-            touch(rows, count, n, q, x, heads, nexts, todo);
+            queue_resting(rows, count, n, q, x, heads, nexts, todo);
         }
         place += 2 * n;
         x += 1;
@@ -151,7 +151,7 @@ pub fn start(
 )
     requires { ⌜ Queueable count n (now rows) (now heads) (now nexts) (now todo) ⌝ }
     requires { ⌜ HasRows n (now marks) count ⌝ }
-    ensures { λ _. ⌜ ((W : ℕ) → Done count (now (rows .entry)) W n (now (marks .entry)) (now (todo .exit))) ⌝ }
+    ensures { λ _. ⌜ ((W : ℕ) → SettledOffList count (now (rows .entry)) W n (now (marks .entry)) (now (todo .exit))) ⌝ }
 {
     let mut q: usize = 0;
     while q < n {

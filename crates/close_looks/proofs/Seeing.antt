@@ -8,15 +8,15 @@ use native.Mathlib.Omega.{arith}
 use lib.Bits.{bitOr}
 use Rattle.spec_tilco.specs.Inference.{mark, Marks, Shifted}
 use Rattle.spec_tilco.specs.Table.{Stands}
-use Rattle.table_words.specs.Gains.{Ticks, Sides, Reads, Bits, Joins}
+use Rattle.table_words.specs.WordTicks.{Ticks, Sides, Reads, Bits, Joins}
 use Rattle.table_words.proofs.OneWord.{ticks-as}
 use Rattle.close_rules.specs.Settled.{FromChild, FromLook}
-use Rattle.close_rules.specs.Moves.{Gives, Gathered}
+use Rattle.close_rules.specs.Effects.{HoldTicks, Gathered}
 use Rattle.close_rules.proofs.RowRules.{part-steps, no-steps}
 use Rattle.close_list.specs.Items.{per}
-use Rattle.close_store.specs.Visits.{EntersIf, LookItems}
-use Rattle.close_store.proofs.Heeding.{enters-if-not}
-use Rattle.close_shift.specs.Moved.{endOf, apart, Beside}
+use Rattle.close_store.specs.Visits.{QueuesIf, LookItems}
+use Rattle.close_store.proofs.Storing.{enters-if-not}
+use Rattle.close_shift.specs.ShiftedWords.{endOf, apart, Beside}
 use Rattle.close_looks.specs.Parts.{LooksFrom}
 
 -- Ticks joined to another row's words leave those of row c as they are.
@@ -55,14 +55,14 @@ module _ (e m count : ℕ) (H N : List ℕ) (r k c q W n : ℕ) where
   }
 
   -- It has the word p, which has the ticks that its child gives it and gives it those that it has then.
-  pub part-some : (p : ℕ) {T T′ D D′ : List ℕ} (v v₀ : ℕ) {a a₀ b b₀ g g₀ x : ℕ} → c < r → e ≡ p + k / 64 → Gives p (FromChild W (Stands n T) k c q) a a₀
-      → Joins n (Sides r true p (Bits a) (Bits a₀)) T T′ x → Gives q (FromLook W (Stands n T′) k r p) b b₀ → EntersIf (LookItems (per count) H N n r p m) D D′ x
+  pub part-some : (p : ℕ) {T T′ D D′ : List ℕ} (v v₀ : ℕ) {a a₀ b b₀ g g₀ x : ℕ} → c < r → e ≡ p + k / 64 → HoldTicks p (FromChild W (Stands n T) k c q) a a₀
+      → Joins n (Sides r true p (Bits a) (Bits a₀)) T T′ x → HoldTicks q (FromLook W (Stands n T′) k r p) b b₀ → QueuesIf (LookItems (per count) H N n r p m) D D′ x
       → (g ≡ bitOr v b) × (g₀ ≡ bitOr v₀ b₀) → LooksFrom e m count H N r k c q W n (Gathered c q v v₀) (Gathered c q g g₀) T T′ D D′
   part-some p {T} {T′} {D} {D′} v v₀ {b = b} {b₀} {x = x} l at up j down enters is =
       subst₂ (λ (y z : ℕ). LooksFrom e m count H N r k c q W n (Gathered c q v v₀) (Gathered c q y z) T T′ D D′) (sym (is .0)) (sym (is .1))
       (record {
         changed = x;
         steps = part-steps n q e p r c k W T T′ x l at v v₀ up j down;
-        enters = subst (λ (z : ℕ). EntersIf (LookItems (per count) H N n r z m) D D′ x) (omega arith) enters;
+        enters = subst (λ (z : ℕ). QueuesIf (LookItems (per count) H N n r z m) D D′ x) (omega arith) enters;
         word = λ i. omega arith;
       })

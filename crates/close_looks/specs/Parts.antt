@@ -4,11 +4,11 @@ use mathlib.Core.Bool.{Bool, true, false}
 use mathlib.Core.List.{List}
 use Prim.Native.Nat.{ℕ, _+_, _-_, _/_, _≤_, _<_}
 use Rattle.spec_tilco.specs.Inference.{Marks}
-use Rattle.table_words.specs.Gains.{Ticks, Reads}
+use Rattle.table_words.specs.WordTicks.{Ticks, Reads}
 use Rattle.close_rules.specs.Settled.{LookTo}
-use Rattle.close_rules.specs.Moves.{WroteBefore, Gathered, ByLook}
+use Rattle.close_rules.specs.Effects.{ChangedWordBefore, Gathered, LookInfers}
 use Rattle.close_list.specs.Items.{per}
-use Rattle.close_store.specs.Visits.{EntersIf, LookItems}
+use Rattle.close_store.specs.Visits.{QueuesIf, LookItems}
 use Rattle.table_words.specs.declared.Words.{Words}
 use Rattle.close_looks.specs.declared.Child.{Child}
 
@@ -32,6 +32,6 @@ nextOf false q = q + 2
 -- if they changed r's word, its parents' items are on the list, and its own before word m.
 pub record LooksFrom (e m count : ℕ) (H N : List ℕ) (r k c q W n : ℕ) (G G′ : Marks) (T T′ D D′ : List ℕ) : Type 0 where
   pub changed : ℕ
-  pub steps : ByLook k c r (WroteBefore r (k / 64) e changed) (λ S. LookTo G′ q e W S r k c) G G′ W n T T′ changed
-  pub enters : EntersIf (LookItems (per count) H N n r (e - k / 64) m) D D′ changed
+  pub steps : LookInfers k c r (ChangedWordBefore r (k / 64) e changed) (λ S. LookTo G′ q e W S r k c) G G′ W n T T′ changed
+  pub enters : QueuesIf (LookItems (per count) H N n r (e - k / 64) m) D D′ changed
   pub word : 0 < changed → k / 64 ≤ e

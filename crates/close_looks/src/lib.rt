@@ -4,19 +4,19 @@
 use close_shift::join;
 use close_shift::shift;
 use close_shift::window_beside;
-use close_store::mark_look;
+use close_store::store_look;
 use table_words::Words;
 use table_words::window_word;
 use table_words::words_at;
 ghost use mathlib.Core.Path.{_≡_};
 ghost use Prim.Native.Nat.{_+_, _^_, _<_};
 ghost use Rattle.spec_tilco.specs.Table.{words};
-ghost use Rattle.table_words.specs.Gains.{HasRow};
-ghost use Rattle.close_shift.specs.Moved.{endOf, apart};
+ghost use Rattle.table_words.specs.WordTicks.{HasRow};
+ghost use Rattle.close_shift.specs.ShiftedWords.{endOf, apart};
 ghost use Rattle.close_parents.specs.Links.{Ended};
-ghost use Rattle.close_list.specs.Items.{Roomy};
+ghost use Rattle.close_list.specs.Items.{ListFits};
 ghost use Rattle.close_list.specs.Workable.{Workable};
-ghost use Rattle.close_store.specs.Visits.{Looks};
+ghost use Rattle.close_store.specs.Visits.{VisitsLook};
 ghost use Rattle.close_looks.specs.Parts.{Sees, GatheredFor, nextOf, LooksFrom};
 
 // A row that looks see: the number of a word of it, its marks there, and the window's ticks there.
@@ -88,7 +88,7 @@ fn look_part(
     requires { ⌜ (row < count) × HasRow n (now marks) row × (child .row < row) × (n ≡ words window) ⌝ }
     requires { ⌜ Sees n window (now marks) child ⌝ }
     requires { ⌜ Ended count (now heads) (now nexts) ⌝ }
-    requires { ⌜ Roomy count n (now todo) ⌝ }
+    requires { ⌜ ListFits count n (now todo) ⌝ }
     ensures { λ g. ⌜ LooksFrom (endOf up (child .q)) (nextOf up (child .q)) count (now (heads .entry)) (now (nexts .entry)) row offset (child .row) (child .q) window n (GatheredFor child given) (GatheredFor child g) (now (marks .entry)) (now (marks .exit)) (now (todo .entry)) (now (todo .exit)) ⌝ }
     ensures { λ _. ⌜ Sees n window (now (marks .exit)) child ⌝ }
 {
@@ -108,7 +108,7 @@ fn look_part(
     let seen = child.words;
     let there = window_beside(window, p, q, child.here);
     let ticks = shift(seen, part.k, up, there);
-    let j = mark_look(count, n, p, part.m, row, ticks, heads, nexts, todo, marks);
+    let j = store_look(count, n, p, part.m, row, ticks, heads, nexts, todo, marks);
     let own = j.words;
     let to_child = shift(own, part.k, !up, child.here);
     join(given, to_child)
@@ -133,7 +133,7 @@ pub fn visit_look(
     requires { ⌜ Workable count n window (now rows) (now heads) (now nexts) (now todo) (now marks) ⌝ }
     requires { ⌜ (row < count) × (child .row < row) ⌝ }
     requires { ⌜ Sees n window (now marks) child ⌝ }
-    ensures { λ g. ⌜ Looks offset (child .row) count (now (rows .entry)) row (child .q) window n (GatheredFor child given) (GatheredFor child g) (now (marks .entry)) (now (marks .exit)) (now (todo .entry)) (now (todo .exit)) ⌝ }
+    ensures { λ g. ⌜ VisitsLook offset (child .row) count (now (rows .entry)) row (child .q) window n (GatheredFor child given) (GatheredFor child g) (now (marks .entry)) (now (marks .exit)) (now (todo .entry)) (now (todo .exit)) ⌝ }
     ensures { λ _. ⌜ Sees n window (now (marks .exit)) child ⌝ }
 {
     let g = look_part(

@@ -9,7 +9,7 @@ use native.Mathlib.Omega.{arith}
 use lib.ListN.{length, getD, set, replicate, length-set}
 use lib.Seq.{getD-set-same, getD-set-other}
 use Rattle.spec_ticks.proofs.Bits.{lt-or-ge}
-use Rattle.lower_rows.specs.Words.{rowAt}
+use Rattle.lower_rows.specs.RowCodes.{rowAt}
 use Rattle.close_parents.specs.Links.{Child, Reach, here, later, Falls, ends, goes, LinkedTo, Ended, Linked}
 
 -- ---- along a list

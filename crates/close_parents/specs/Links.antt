@@ -5,7 +5,7 @@ use mathlib.Core.List.{List}
 use mathlib.Core.Logic.{_⊎_}
 use Prim.Native.Nat.{ℕ, _*_, _/_, _≤_, _<_}
 use lib.ListN.{length, getD}
-use Rattle.lower_rows.specs.Words.{rowAt}
+use Rattle.lower_rows.specs.RowCodes.{rowAt}
 use Rattle.spec_tilco.specs.Inference.{Node, signal, notOf, gate, look}
 
 -- Row x is a child of a row, by its node.

@@ -11,10 +11,10 @@ use Rattle.spec_limits.specs.Limits.{codeKinds, codeNumbers}
 use Rattle.spec_ticks.proofs.Bits.{lt-or-ge}
 use Rattle.spec_tilco.specs.Inference.{Node, signal, notOf, gate, look, Program, node}
 use Rattle.spec_tilco.specs.Table.{words}
-use Rattle.lower_rows.specs.Words.{unpacked, rowAt}
+use Rattle.lower_rows.specs.RowCodes.{unpacked, rowAt}
 use Rattle.close_rules.specs.Codes.{Codes, Coded, LooksAt}
-use Rattle.table_words.specs.Gains.{HasRow, HasRows}
-use Rattle.close_rules.specs.Moves.{Sized}
+use Rattle.table_words.specs.WordTicks.{HasRow, HasRows}
+use Rattle.close_rules.specs.Effects.{TableFits}
 
 -- A word of a row lies in the window.
 pub word-in-window : (W n q : ℕ) → n ≡ words W → q < n → q * 64 < W
@@ -33,7 +33,7 @@ has-row n count T x s l =
     omega arith
 
 -- A table of the same length is as large.
-pub sized-as : {n count W : ℕ} {T T′ : List ℕ} → length T′ ≡ length T → Sized n count W T → Sized n count W T′
+pub sized-as : {n count W : ℕ} {T T′ : List ℕ} → length T′ ≡ length T → TableFits n count W T → TableFits n count W T′
 sized-as e s = record { some = s .some; most = s .most; words-are = s .words-are; long = omega (arith, e, s .long) }
 
 -- A row with a rule is no signal's.

@@ -11,12 +11,12 @@ use Rattle.spec_ticks.proofs.Bits.{lt-or-ge, or-left, or-right, or-out}
 use Rattle.spec_tilco.specs.Inference.{notOf, gate, look, Program, Mark, mark, Marks, Shifted, down-left, down-right, up-left, up-right, look-down, look-up, not-down, not-up, up-both, rest-right, rest-left, Derives, start, one, two, _or_}
 use Rattle.spec_tilco.specs.Table.{Stands}
 use Rattle.spec_tilco.proofs.Derives.{cut}
-use Rattle.table_words.specs.Gains.{Ticks, Sides, Reads, Bits, Joins}
+use Rattle.table_words.specs.WordTicks.{Ticks, Sides, Reads, Bits, Joins}
 use Rattle.close_rules.specs.Settled.{SettledTo, SettledIn, LookTo, FromChild, FromLook}
-use Rattle.close_rules.specs.Moves.{Moves, Wrote, WroteBefore, GateWrote, LookWrote, Gives, Gathered, ByNode, ByLook}
+use Rattle.close_rules.specs.Effects.{InfersOnly, ChangedWord, ChangedWordBefore, ChangedByGate, ChangedByLook, HoldTicks, Gathered, NodeInfers, LookInfers}
 use Rattle.table_words.proofs.OneWord.{both-ticks, either-ticks}
 use Rattle.table_words.proofs.Gaining.{here-as, sides-as}
-use Rattle.close_rules.proofs.Moving.{infers-inside, idle, weaker, then, joins-move}
+use Rattle.close_rules.proofs.Inferring.{infers-inside, idle, weaker, then, joins-infer}
 use Rattle.close_rules.proofs.Settling.{ran, turned, Whole, Part, gate-in, by-value, not-in, look-in}
 
 -- A row's children are other rows.
@@ -25,10 +25,10 @@ above l e = omega arith
 
 module _ (n : ℕ) (P : Program) (W q : ℕ) where
   -- Ticks joined to both words of a row, where each of them follows from what stood in an earlier table.
-  sides-move : (T₀ : List ℕ) {T T′ : List ℕ} (r : ℕ) (u : Bool) (U N : ℕ → Type 0) {x : ℕ} → ((m : Mark) → Stands n T₀ m → Stands n T m) → Joins n (Sides r u q U N) T T′ x
+  sides-infer : (T₀ : List ℕ) {T T′ : List ℕ} (r : ℕ) (u : Bool) (U N : ℕ → Type 0) {x : ℕ} → ((m : Mark) → Stands n T₀ m → Stands n T m) → Joins n (Sides r u q U N) T T′ x
       → ((t : ℕ) → U t → Derives P W (Stands n T₀) (mark r t u)) → ((t : ℕ) → N t → Derives P W (Stands n T₀) (mark r t (not u)))
-      → Moves n P W (λ m. Sides r u q U N m × (0 < x)) T T′ x
-  sides-move T₀ r u U N older j f g = joins-move n P W T₀ (Sides r u q U N) older j follows
+      → InfersOnly n P W (λ m. Sides r u q U N m × (0 < x)) T T′ x
+  sides-infer T₀ r u U N older j f g = joins-infer n P W T₀ (Sides r u q U N) older j follows
     where
       follows : (m : Mark) → Sides r u q U N m → Derives P W (Stands n T₀) m
       follows (mark y t z) = ⊎-elim (λ h. as-mark (h .0) (h .1) (f t (h .3))) (λ h. as-mark (h .0) (h .1) (g t (h .3)))
@@ -37,12 +37,12 @@ module _ (n : ℕ) (P : Program) (W q : ℕ) where
           as-mark d e h = subst₂ (λ (a : ℕ) (b : Bool). Derives P W (Stands n T₀) (mark a t b)) (sym d) (sym e) h
 
   -- The same, of which only the word is told.
-  word-moves : (T₀ : List ℕ) {T T′ : List ℕ} (r : ℕ) (u : Bool) (U N : ℕ → Type 0) {x : ℕ} → ((m : Mark) → Stands n T₀ m → Stands n T m) → Joins n (Sides r u q U N) T T′ x
+  word-infers : (T₀ : List ℕ) {T T′ : List ℕ} (r : ℕ) (u : Bool) (U N : ℕ → Type 0) {x : ℕ} → ((m : Mark) → Stands n T₀ m → Stands n T m) → Joins n (Sides r u q U N) T T′ x
       → ((t : ℕ) → U t → Derives P W (Stands n T₀) (mark r t u)) → ((t : ℕ) → N t → Derives P W (Stands n T₀) (mark r t (not u)))
-      → Moves n P W (Wrote r q x) T T′ x
-  word-moves T₀ r u U N {x} older j f g = weaker n P W x refl wrote (sides-move T₀ r u U N older j f g)
+      → InfersOnly n P W (ChangedWord r q x) T T′ x
+  word-infers T₀ r u U N {x} older j f g = weaker n P W x refl wrote (sides-infer T₀ r u U N older j f g)
     where
-      wrote : (m : Mark) → Sides r u q U N m × (0 < x) → Wrote r q x m
+      wrote : (m : Mark) → Sides r u q U N m × (0 < x) → ChangedWord r q x m
       wrote (mark y t z) h = ⊎-elim (λ k. (k .0, k .2, h .1)) (λ k. (k .0, k .2, h .1)) (h .0)
 
 -- The ticks of the words that a gate's rules make of the words of the row, r₁ and r₀, and of its children, a₁ and a₀, b₁ and b₀.
@@ -83,11 +83,11 @@ module _ (n q : ℕ) (T₀ T₁ T₂ T₃ : List ℕ) (r a b : ℕ) (u : Bool) (
   right-joins : Joins n (Sides b u q Right (λ t. Any t × Left t)) T₂ T₃ z
   right-joins = sides-as b u q right (bitAnd part left) Right (λ t. Any t × Left t) rights (both-ticks q part left Any Left parts lefts) k
 
-  pub gate-steps : (W : ℕ) → ByNode (gate u a b) r (GateWrote r a b q x y z) (λ S. SettledIn q W S r (gate u a b)) W n T₀ T₃ (x + (y + z))
+  pub gate-steps : (W : ℕ) → NodeInfers (gate u a b) r (ChangedByGate r a b q x y z) (λ S. SettledIn q W S r (gate u a b)) W n T₀ T₃ (x + (y + z))
   gate-steps W P e =
-      let m₁ = word-moves n P W q T₀ r u (λ t. Left t × Right t) Any (λ m h. h) row-joins (λ t h. two (up-both e) (of-left t (h .0)) (of-right t (h .1))) of-any in
-      let m₂ = word-moves n P W q T₀ a u Left (λ t. Any t × Right t) (m₁ .infers .grows) left-joins of-left (λ t h. two (rest-left e) (of-any t (h .0)) (of-right t (h .1))) in
-      let m₃ = word-moves n P W q T₀ b u Right (λ t. Any t × Left t) (λ m h. m₂ .infers .grows m (m₁ .infers .grows m h)) right-joins of-right (λ t h. two (rest-right e) (of-any t (h .0)) (of-left t (h .1))) in (
+      let m₁ = word-infers n P W q T₀ r u (λ t. Left t × Right t) Any (λ m h. h) row-joins (λ t h. two (up-both e) (of-left t (h .0)) (of-right t (h .1))) of-any in
+      let m₂ = word-infers n P W q T₀ a u Left (λ t. Any t × Right t) (m₁ .infers .grows) left-joins of-left (λ t h. two (rest-left e) (of-any t (h .0)) (of-right t (h .1))) in
+      let m₃ = word-infers n P W q T₀ b u Right (λ t. Any t × Left t) (λ m h. m₂ .infers .grows m (m₁ .infers .grows m h)) right-joins of-right (λ t h. two (rest-right e) (of-any t (h .0)) (of-left t (h .1))) in (
         then n P W m₁ (then n P W m₂ m₃),
         gate-in (above la) (above lb) (ran n T₀ T₁ q r u (λ t. Left t × Right t) Any x row-joins) (ran n T₁ T₂ q a u Left (λ t. Any t × Right t) y left-joins)
             (ran n T₂ T₃ q b u Right (λ t. Any t × Left t) z right-joins),
@@ -117,10 +117,10 @@ module _ (n q : ℕ) (T₀ T₁ T₂ : List ℕ) (r c x y : ℕ) (l : c < r) {r�
   child-joins : Joins n (Sides c true q (Is r false) (Is r true)) T₁ T₂ y
   child-joins = sides-as c true q r₀ r₁ (Is r false) (Is r true) (own .other) (own .this) j
 
-  pub not-steps : (W : ℕ) → ByNode (notOf c) r (_or_ (Wrote r q x) (Wrote c q y)) (λ S. SettledIn q W S r (notOf c)) W n T₀ T₂ (x + y)
+  pub not-steps : (W : ℕ) → NodeInfers (notOf c) r (_or_ (ChangedWord r q x) (ChangedWord c q y)) (λ S. SettledIn q W S r (notOf c)) W n T₀ T₂ (x + y)
   not-steps W P e =
-      let m = word-moves n P W q T₀ r true (Is c false) (Is c true) (λ m h. h) own-joins (λ t h. one (not-up {v = false} e) (start h)) (λ t h. one (not-up {v = true} e) (start h)) in
-      let k = word-moves n P W q T₀ c true (Is r false) (Is r true) (m .infers .grows) child-joins (λ t h. one (not-down {v = false} e) (start h)) (λ t h. one (not-down {v = true} e) (start h)) in
+      let m = word-infers n P W q T₀ r true (Is c false) (Is c true) (λ m h. h) own-joins (λ t h. one (not-up {v = false} e) (start h)) (λ t h. one (not-up {v = true} e) (start h)) in
+      let k = word-infers n P W q T₀ c true (Is r false) (Is r true) (m .infers .grows) child-joins (λ t h. one (not-down {v = false} e) (start h)) (λ t h. one (not-down {v = true} e) (start h)) in
       let f = ran n T₀ T₁ q r true (Is c false) (Is c true) x own-joins in
       let g = ran n T₁ T₂ q c true (Is r false) (Is r true) y child-joins in
       (then n P W m k, λ t v o. by-value (Opposite t) (not-in (above l) f g t o) (not-in (above l) (turned f) (turned g) t o) v)
@@ -128,7 +128,7 @@ module _ (n q : ℕ) (T₀ T₁ T₂ : List ℕ) (r c x y : ℕ) (l : c < r) {r�
 -- ---- a look: row r has at a tick what row c has at the offset o from it, written with 64 added
 
 -- What was gathered for word q of row c, in the words g and g₀, with the words b and b₀ joined to them, whose ticks are U.
-module _ (c q g g₀ b b₀ : ℕ) (U : Bool → ℕ → Type 0) (f : Gives q U b b₀) where
+module _ (c q g g₀ b b₀ : ℕ) (U : Bool → ℕ → Type 0) (f : HoldTicks q U b b₀) where
   abbrev More : Marks
   More = Gathered c q (bitOr g b) (bitOr g₀ b₀)
 
@@ -153,11 +153,11 @@ module _ (n q e p r c o W : ℕ) (T T′ : List ℕ) (x : ℕ) (l : c < r) (at :
   abbrev Down : Bool → ℕ → Type 0
   Down = FromLook W (Stands n T′) o r p
 
-  pub part-steps : (g g₀ : ℕ) {a a₀ b b₀ : ℕ} → Gives p Up a a₀ → Joins n (Sides r true p (Bits a) (Bits a₀)) T T′ x → Gives q Down b b₀
-      → ByLook o c r (WroteBefore r (o / 64) e x) (λ S. LookTo (Gathered c q (bitOr g b) (bitOr g₀ b₀)) q e W S r o c) (Gathered c q g g₀) (Gathered c q (bitOr g b) (bitOr g₀ b₀)) W n T T′ x
+  pub part-steps : (g g₀ : ℕ) {a a₀ b b₀ : ℕ} → HoldTicks p Up a a₀ → Joins n (Sides r true p (Bits a) (Bits a₀)) T T′ x → HoldTicks q Down b b₀
+      → LookInfers o c r (ChangedWordBefore r (o / 64) e x) (λ S. LookTo (Gathered c q (bitOr g b) (bitOr g₀ b₀)) q e W S r o c) (Gathered c q g g₀) (Gathered c q (bitOr g b) (bitOr g₀ b₀)) W n T T′ x
   part-steps g g₀ {a} {a₀} {b} {b₀} f j h P d inside =
       let i = sides-as r true p a a₀ (Up true) (Up false) (f .this) (f .other) j in
-      let m = sides-move n P W p T r true (Up true) (Up false) (λ m k. k) i (rises true) (rises false) in
+      let m = sides-infer n P W p T r true (Up true) (Up false) (λ m k. k) i (rises true) (rises false) in
       let ran-up = ran n T T′ p r true (Up true) (Up false) x i in (
         weaker n P W x refl wrote m,
         λ t s v y z w k u. let word : t / 64 ≡ p = omega arith in (
@@ -173,10 +173,10 @@ module _ (n q e p r c o W : ℕ) (T T′ : List ℕ) (x : ℕ) (l : c < r) (at :
       rises : (v : Bool) (t : ℕ) → Up v t → Derives P W (Stands n T) (mark r t v)
       rises v t h = one (look-up {t = t} {s = h .1 .0} d (h .1 .2) (h .0) (inside c (h .1 .0) v (h .1 .3))) (start (h .1 .3))
 
-      wrote : (m : Mark) → Sides r true p (Up true) (Up false) m × (0 < x) → WroteBefore r (o / 64) e x m
+      wrote : (m : Mark) → Sides r true p (Up true) (Up false) m × (0 < x) → ChangedWordBefore r (o / 64) e x m
       wrote (mark z t v) h = ⊎-elim (λ k. (k .0, omega (arith, k .2), h .1)) (λ k. (k .0, omega (arith, k .2), h .1)) (h .0)
 
-      falls : {A : Marks} → Moves n P W A T T′ x → (m : Mark) → Sides c true q (Down true) (Down false) m → Derives P W (Stands n T) m
+      falls : {A : Marks} → InfersOnly n P W A T T′ x → (m : Mark) → Sides c true q (Down true) (Down false) m → Derives P W (Stands n T) m
       falls m (mark z s v) = ⊎-elim (λ h. as-mark (h .0) (h .1) (down true (h .3))) (λ h. as-mark (h .0) (h .1) (down false (h .3)))
         where
           as-mark : {w : Bool} → z ≡ c → v ≡ w → Derives P W (Stands n T) (mark c s w) → Derives P W (Stands n T) (mark z s v)
@@ -187,15 +187,15 @@ module _ (n q e p r c o W : ℕ) (T T′ : List ℕ) (x : ℕ) (l : c < r) (at :
 
 -- No tick of the child's word q is looked at from the word e - o / 64.
 pub no-steps : (n q : ℕ) (T : List ℕ) (r c o W e : ℕ) (G : Marks) → ((t s : ℕ) → Shifted t o s → t < W → s / 64 ≡ q → e ≡ t / 64 + o / 64 → ⊥)
-    → ByLook o c r (WroteBefore r (o / 64) e 0) (λ S. LookTo G q e W S r o c) G G W n T T 0
+    → LookInfers o c r (ChangedWordBefore r (o / 64) e 0) (λ S. LookTo G q e W S r o c) G G W n T T 0
 no-steps n q T r c o W e G f P g inside =
-    (idle n P W (WroteBefore r (o / 64) e 0) T, λ t s v d a b h k. absurd (f t s d a h k), record { grows = λ m h. h; sound = λ m h. inl h })
+    (idle n P W (ChangedWordBefore r (o / 64) e 0) T, λ t s v d a b h k. absurd (f t s d a h k), record { grows = λ m h. h; sound = λ m h. inl h })
 
 -- A look's rules: what the row's later word looks at is apart from what the earlier one looks at.
 pub look-steps : (n q : ℕ) (T₀ T₁ T₂ : List ℕ) (r c o W x y : ℕ) (G G′ G″ : Marks) → c < r
-    → ByLook o c r (WroteBefore r (o / 64) q x) (λ S. LookTo G′ q q W S r o c) G G′ W n T₀ T₁ x
-    → ByLook o c r (WroteBefore r (o / 64) (q + 1) y) (λ S. LookTo G″ q (q + 1) W S r o c) G′ G″ W n T₁ T₂ y
-    → ByLook o c r (LookWrote r (o / 64) q x y) (λ S. SettledTo G″ q W S r (look o c)) G G″ W n T₀ T₂ (x + y)
+    → LookInfers o c r (ChangedWordBefore r (o / 64) q x) (λ S. LookTo G′ q q W S r o c) G G′ W n T₀ T₁ x
+    → LookInfers o c r (ChangedWordBefore r (o / 64) (q + 1) y) (λ S. LookTo G″ q (q + 1) W S r o c) G′ G″ W n T₁ T₂ y
+    → LookInfers o c r (ChangedByLook r (o / 64) q x y) (λ S. SettledTo G″ q W S r (look o c)) G G″ W n T₀ T₂ (x + y)
 look-steps n q T₀ T₁ T₂ r c o W x y G G′ G″ l f g P e inside =
     let m = f P e inside in
     let k = g P e (infers-inside (m .0 .infers) inside) in (

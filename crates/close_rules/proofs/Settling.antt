@@ -7,7 +7,7 @@ use mathlib.Core.Logic.{_⊎_, inl, inr, ⊎-elim}
 use Prim.Native.Nat.{ℕ, _/_, _<_}
 use Rattle.spec_tilco.specs.Inference.{Mark, mark, Marks, Shifted, GateSettled}
 use Rattle.spec_tilco.specs.Table.{Stands}
-use Rattle.table_words.specs.Gains.{Sides, Joins}
+use Rattle.table_words.specs.WordTicks.{Sides, Joins}
 use Rattle.table_words.proofs.Gaining.{not-apart}
 use Rattle.close_rules.specs.Settled.{FromChild}
 

@@ -1,4 +1,4 @@
 -- The definitions that the contracts cite, lowest layer first.
 pub mod Codes
 pub mod Settled
-pub mod Moves
+pub mod Effects

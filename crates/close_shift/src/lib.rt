@@ -4,8 +4,8 @@ use table_words::window_word;
 ghost use mathlib.Core.Path.{_≡_};
 ghost use Prim.Native.Nat.{_*_, _<_};
 ghost use lib.Bits.{bitOr};
-ghost use Rattle.table_words.specs.Gains.{Ticks};
-ghost use Rattle.close_shift.specs.Moved.{moved};
+ghost use Rattle.table_words.specs.WordTicks.{Ticks};
+ghost use Rattle.close_shift.specs.ShiftedWords.{shiftedWord};
 
 // The window's ticks in word p; `here` are those in word q, which in a short window is the same.
 pub fn window_beside(window: usize, p: usize, q: usize, here: u64) -> u64
@@ -21,7 +21,7 @@ pub fn window_beside(window: usize, p: usize, q: usize, here: u64) -> u64
 // Both words moved by k ticks, up or else down, as far as they stay among the ticks of `within`.
 pub fn shift(w: Words, k: u64, up: bool, within: u64) -> Words
     requires { ⌜ k < 64 ⌝ }
-    ensures { λ r. ⌜ (r .this ≡ moved up within k (w .this)) × (r .other ≡ moved up within k (w .other)) ⌝ }
+    ensures { λ r. ⌜ (r .this ≡ shiftedWord up within k (w .this)) × (r .other ≡ shiftedWord up within k (w .other)) ⌝ }
 {
     if up {
         let this = within & (w.this << k);

@@ -1,2 +1,2 @@
 -- The laws that the proofs share.
-pub mod Heeding
+pub mod Storing

@@ -1,5 +1,5 @@
 -- The laws, one idea a file, in the order in which they build on each other.
 pub mod Turning
 pub mod Finishing
-pub mod Crowning
+pub mod MarkTops
 pub mod Outcomes

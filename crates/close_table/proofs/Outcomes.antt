@@ -10,15 +10,15 @@ use Rattle.spec_tilco.specs.Inference.{Program, mark}
 use Rattle.spec_tilco.specs.Lowering.{program}
 use Rattle.spec_tilco.specs.Table.{words, Added}
 use Rattle.spec_tilco.proofs.Derives.{monotone}
-use Rattle.close_table.specs.Closes.{Settles}
+use Rattle.close_table.specs.Closes.{LeastClosed}
 
-pub settles-one : (n : ℕ) (P : Program) (W : ℕ) (T U U′ : List ℕ) → 1 ≤ n → Settles n P W T U → Settles n P W T U′ → U ≡ U′
-settles-one n P W T U U′ some a b =
+pub closed-one : (n : ℕ) (P : Program) (W : ℕ) (T U U′ : List ℕ) → 1 ≤ n → LeastClosed n P W T U → LeastClosed n P W T U′ → U ≡ U′
+closed-one n P W T U U′ some a b =
     same-table n some 64 U U′ (a .size ∙ sym (b .size)) (a .small) (b .small)
     (λ r t v i. b .exactly (mark r t v) .1 (a .exactly (mark r t v) .0 i)) (λ r t v i. a .exactly (mark r t v) .1 (b .exactly (mark r t v) .0 i))
 
-pub settles-added : (s : Sheet) (T U : List ℕ) → Settles (words (s .window)) (program s) (s .window) T U → Added s T [] U
-settles-added s T U a = record {
+pub closed-added : (s : Sheet) (T U : List ℕ) → LeastClosed (words (s .window)) (program s) (s .window) T U → Added s T [] U
+closed-added s T U a = record {
   size = a .size;
   small = a .small;
   exactly = λ m. (λ i. monotone (λ p j. inl j) (a .exactly m .0 i), λ d. a .exactly m .1 (monotone (λ p j. ⊎-elim (λ k. k) (λ k. absurd (List·Memᴰ·not-nil k)) j) d));

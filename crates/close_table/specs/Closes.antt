@@ -12,7 +12,7 @@ use Rattle.spec_tilco.specs.Table.{Stands}
 use Rattle.close_rules.specs.Codes.{Codes, TopsAre}
 
 -- "The closed table is the least set of marks that has these and every consequence": T′ has exactly what the rules lead to from T.
-pub record Settles (n : ℕ) (P : Program) (W : ℕ) (T T′ : List ℕ) : Type 0 where
+pub record LeastClosed (n : ℕ) (P : Program) (W : ℕ) (T T′ : List ℕ) : Type 0 where
   pub size : length T′ ≡ length T
   pub small : Small 64 T′
   pub exactly : (m : Mark) → Stands n T′ m ↔ Derives P W (Stands n T) m
@@ -31,8 +31,8 @@ TopMarks W B k (mark r t v) = (t < W) × (v ≡ true) × ((i : ℕ) × (i < k) �
 
 -- The table is closed for every program with these rows whose tops stand in it.
 abbrev pub ClosesAll : ℕ → List ℕ → ℕ → ℕ → List ℕ → List ℕ → Type 0
-ClosesAll count B W n T T′ = (P : Program) → Codes P count B → TopsStand n P W T → Settles n P W T T′
+ClosesAll count B W n T T′ = (P : Program) → Codes P count B → TopsStand n P W T → LeastClosed n P W T T′
 
 -- The table is settled for every program with these rows and tops.
-abbrev pub SettlesAll : ℕ → List ℕ → List ℕ → ℕ → ℕ → ℕ → List ℕ → List ℕ → Type 0
-SettlesAll count B tops k W n T T′ = (P : Program) → Codes P count B → TopsAre P tops k → Settles n P W T T′
+abbrev pub ClosesWithTops : ℕ → List ℕ → List ℕ → ℕ → ℕ → ℕ → List ℕ → List ℕ → Type 0
+ClosesWithTops count B tops k W n T T′ = (P : Program) → Codes P count B → TopsAre P tops k → LeastClosed n P W T T′

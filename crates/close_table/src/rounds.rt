@@ -12,9 +12,9 @@ ghost use Prim.Native.Nat.{ℕ, _+_, _-_, _/_, _≤_, _<_};
 ghost use lib.ListN.{length, getD};
 ghost use Rattle.close_table.specs.Closes.{ClosesAll};
 ghost use Rattle.close_table.specs.Rounds.{InColumn, InColumns, turn};
-ghost use Rattle.close_list.specs.Items.{Done};
+ghost use Rattle.close_list.specs.Items.{SettledOffList};
 ghost use Rattle.close_list.specs.Workable.{Workable, Closable};
-ghost use Rattle.close_word.specs.Stretches.{Works};
+ghost use Rattle.close_word.specs.VisitSeries.{WorksList};
 
 // The i-th of m words from below or, if not `up`, from above.
 fn turned(up: bool, m: usize, i: usize) -> usize
@@ -42,7 +42,7 @@ fn work_column(
 )
     requires { ⌜ Workable count n window (now rows) (now heads) (now nexts) (now todo) (now marks) ⌝ }
     requires { ⌜ q < n ⌝ }
-    ensures { λ _. ⌜ Works count (now (rows .entry)) window n (InColumn count q) (now (marks .entry)) (now (marks .exit)) (now (todo .entry)) (now (todo .exit)) ⌝ }
+    ensures { λ _. ⌜ WorksList count (now (rows .entry)) window n (InColumn count q) (now (marks .entry)) (now (marks .exit)) (now (todo .entry)) (now (todo .exit)) ⌝ }
 {
     let stride = (count + 63) / 64;
     let mut i: usize = 0;
@@ -66,7 +66,7 @@ fn work_round(
     marks: &mut [u64],
 )
     requires { ⌜ Workable count n window (now rows) (now heads) (now nexts) (now todo) (now marks) ⌝ }
-    ensures { λ _. ⌜ Works count (now (rows .entry)) window n (InColumns count n) (now (marks .entry)) (now (marks .exit)) (now (todo .entry)) (now (todo .exit)) ⌝ }
+    ensures { λ _. ⌜ WorksList count (now (rows .entry)) window n (InColumns count n) (now (marks .entry)) (now (marks .exit)) (now (todo .entry)) (now (todo .exit)) ⌝ }
 {
     let mut q: usize = 0;
     while q < n {
@@ -103,7 +103,7 @@ fn work_off(
     marks: &mut [u64],
 )
     requires { ⌜ Workable count n window (now rows) (now heads) (now nexts) (now todo) (now marks) ⌝ }
-    requires { ⌜ Done count (now rows) window n (now marks) (now todo) ⌝ }
+    requires { ⌜ SettledOffList count (now rows) window n (now marks) (now todo) ⌝ }
     ensures { λ _. ⌜ ClosesAll count (now (rows .entry)) window n (now (marks .entry)) (now (marks .exit)) ⌝ }
 {
     let m = (count + 63) / 64 * n;

@@ -7,15 +7,15 @@ ghost use mathlib.Core.Path.{_≡_};
 ghost use Prim.Native.Nat.{ℕ, _<_, _≤_};
 ghost use lib.ListN.{length, getD};
 ghost use Rattle.spec_tilco.specs.Table.{words};
-ghost use Rattle.table_marks.specs.Puts.{Gains};
-ghost use Rattle.table_words.specs.Gains.{HasRow};
-ghost use Rattle.close_table.specs.Closes.{RowTrue, TopMarks, SettlesAll};
+ghost use Rattle.table_marks.specs.Puts.{AddsMarks};
+ghost use Rattle.table_words.specs.WordTicks.{HasRow};
+ghost use Rattle.close_table.specs.Closes.{RowTrue, TopMarks, ClosesWithTops};
 ghost use Rattle.close_list.specs.Workable.{Closable};
 
 // Marks a row true at every tick of the window.
 fn mark_true(marks: &mut [u64], n: usize, row: usize, window: usize)
     requires { ⌜ (n ≡ words window) × HasRow n (now marks) row ⌝ }
-    ensures { λ _. ⌜ Gains n (RowTrue window row) (now (marks .entry)) (now (marks .exit)) ⌝ }
+    ensures { λ _. ⌜ AddsMarks n (RowTrue window row) (now (marks .entry)) (now (marks .exit)) ⌝ }
 {
     let mut q: usize = 0;
     while q < n {
@@ -26,10 +26,10 @@ fn mark_true(marks: &mut [u64], n: usize, row: usize, window: usize)
 }
 
 // Marks each of the first k rows in `tops` true at every tick of the window.
-pub fn crown(tops: &[u16], k: usize, n: usize, window: usize, marks: &mut [u64])
+pub fn mark_tops(tops: &[u16], k: usize, n: usize, window: usize, marks: &mut [u64])
     requires { ⌜ (k ≤ length (now tops)) × (n ≡ words window) ⌝ }
     requires { ⌜ ((i : ℕ) → i < k → HasRow n (now marks) (getD (now tops) i 0)) ⌝ }
-    ensures { λ _. ⌜ Gains n (TopMarks window (now (tops .entry)) k) (now (marks .entry)) (now (marks .exit)) ⌝ }
+    ensures { λ _. ⌜ AddsMarks n (TopMarks window (now (tops .entry)) k) (now (marks .entry)) (now (marks .exit)) ⌝ }
 {
     let mut i: usize = 0;
     while i < k {
@@ -40,7 +40,7 @@ pub fn crown(tops: &[u16], k: usize, n: usize, window: usize, marks: &mut [u64])
 }
 
 // Settles the table: it has exactly what the rules lead to from the tops and its marks.
-pub fn settle(
+pub fn close_with_tops(
     rows: &[u64],
     count: usize,
     tops: &[u16],
@@ -52,8 +52,8 @@ pub fn settle(
 )
     requires { ⌜ Closable count n window (now rows) (now todo) (now marks) ⌝ }
     requires { ⌜ (k ≤ length (now tops)) × ((i : ℕ) → i < k → getD (now tops) i 0 < count) ⌝ }
-    ensures { λ _. ⌜ SettlesAll count (now (rows .entry)) (now (tops .entry)) k window n (now (marks .entry)) (now (marks .exit)) ⌝ }
+    ensures { λ _. ⌜ ClosesWithTops count (now (rows .entry)) (now (tops .entry)) k window n (now (marks .entry)) (now (marks .exit)) ⌝ }
 {
-    crown(tops, k, n, window, marks);
+    mark_tops(tops, k, n, window, marks);
     close(rows, count, n, window, todo, marks);
 }

@@ -13,16 +13,16 @@ use lib.Pow.{pow-pos}
 use lib.Seq.{getD-set-same, getD-set-other}
 use Rattle.spec_ticks.specs.Ticks.{bit, Has}
 use Rattle.spec_ticks.proofs.Bits.{lt-or-ge, bit-shr, bit-past, bit-low}
-use Rattle.lower_rows.specs.Words.{rowAt}
+use Rattle.lower_rows.specs.RowCodes.{rowAt}
 use Rattle.spec_tilco.specs.Inference.{look, Program, Mark, Marks, _or_}
 use Rattle.spec_tilco.specs.Table.{Stands}
 use Rattle.close_rules.specs.Codes.{Codes, Coded}
 use Rattle.close_rules.specs.Settled.{SettledTo}
-use Rattle.close_rules.specs.Moves.{Gathers}
-use Rattle.close_list.specs.Items.{per, ToDo, OneItem, Roomy, Keeps, DoneTo}
-use Rattle.close_list.proofs.Noting.{column-in, still-to-do}
-use Rattle.close_store.specs.Visits.{Visited, Visits, Looks}
-use Rattle.close_word.specs.Stretches.{ItemAt, Stretch, NoWord, Taken, TakenLook}
+use Rattle.close_rules.specs.Effects.{Gathers}
+use Rattle.close_list.specs.Items.{per, OnList, OneItem, ListFits, Keeps, SettledOffListTo}
+use Rattle.close_list.proofs.Queueing.{column-in, still-to-do}
+use Rattle.close_store.specs.Visits.{Visited, Visits, VisitsLook}
+use Rattle.close_word.specs.VisitSeries.{ItemAt, VisitSeries, NoWord, TakesOff, TakesOffLook}
 use Rattle.close_word.proofs.Local.{settled-more, settled-local}
 
 -- ---- a bit of a word cleared
@@ -52,7 +52,7 @@ module _ (x k : ℕ) (has : Has x k) where
           ∙ bit-shr (x / 2 ^ k) 1 j ∙ bit-shr x k (1 + j) ∙ ap (bit x) (sym e)
 
 -- ---- the item at bit k of word j taken off the list D
-pub item-inside : {count n q i j k : ℕ} {D : List ℕ} → ItemAt count n q i j k D → Roomy count n D → j < length D
+pub item-inside : {count n q i j k : ℕ} {D : List ℕ} → ItemAt count n q i j k D → ListFits count n D → j < length D
 item-inside {count} {n} {q} {D = D} at h = omega (arith, at .place, at .column, column-in (per count) n q (length D) (at .word) (h .long))
 
 module _ {count n q i j k : ℕ} {D : List ℕ} (at : ItemAt count n q i j k D) (inside : j < length D) where
@@ -75,7 +75,7 @@ module _ {count n q i j k : ℕ} {D : List ℕ} (at : ItemAt count n q i j k D) 
     sym (digits-mod p (omega arith)) ∙ ap (λ (v : ℕ). v % per count) (e ∙ at .place) ∙ digits-mod q (at .column),
   )
 
-  pub others-stay : (r p : ℕ) → r < count → (r ≡ 64 * i + k → p ≡ q → ⊥) → ToDo count D r p → ToDo count without r p
+  pub others-stay : (r p : ℕ) → r < count → (r ≡ 64 * i + k → p ≡ q → ⊥) → OnList count D r p → OnList count without r p
   others-stay r p h f t =
       bit-other (p * per count + r / 64) (r % 64) (λ e g. let z = item-at r p h e in f (omega (arith, z .1, g)) (z .0)) ∙ t
 
@@ -102,24 +102,24 @@ pub visit-keeps : {count : ℕ} {B : List ℕ} {r q W n : ℕ} {T T′ D D′ : 
 visit-keeps c f = f .each (c .program) (c .codes) .heeds .keeps
 
 pub look-keeps : {o c count : ℕ} {B : List ℕ} {r q W n : ℕ} {G G′ : Marks} {T T′ D D′ : List ℕ} → Coded count B → rowAt B r ≡ look o c
-    → Looks o c count B r q W n G G′ T T′ D D′ → Keeps D D′
+    → VisitsLook o c count B r q W n G G′ T T′ D D′ → Keeps D D′
 look-keeps {r = r} k e f = f .each (k .program) (k .codes .nodes r ∙ e) e .0 .heeds .keeps
 
 module _ {count n q i j k : ℕ} (B : List ℕ) (W : ℕ) (T T′ D D₁ D′ : List ℕ) (at : ItemAt count n q i j k D₁) (inside : j < length D₁)
     (is : D′ ≡ set D₁ j (getD D₁ j 0 - 2 ^ k)) where
   -- What is not on the list at the end was not on it before, or is this item; X and X′ are what looks may give before and after.
   module _ (P : Program) (c : Codes P count B) (C X X′ : Marks) {x : ℕ} (more : (m : Mark) → X m → X′ m) (own : (m : Mark) → C m → X′ m)
-      (v : Visited count B n P W (64 * i + k) q C T T′ D D₁ x) (done : DoneTo X count B W n T D) where
-    still-settled : (r p : ℕ) → r < count → p < n → (ToDo count D₁ r p → ⊥) → (OneItem (64 * i + k) q r p → ⊥) → SettledTo X′ p W (Stands n T′) r (rowAt B r)
+      (v : Visited count B n P W (64 * i + k) q C T T′ D D₁ x) (done : SettledOffListTo X count B W n T D) where
+    still-settled : (r p : ℕ) → r < count → p < n → (OnList count D₁ r p → ⊥) → (OneItem (64 * i + k) q r p → ⊥) → SettledTo X′ p W (Stands n T′) r (rowAt B r)
     still-settled r p h b f z =
         settled-more X X′ p W (Stands n T′) r (rowAt B r) more
         (settled-local n W T T′ (v .infers .grows) X r p (rowAt B r) (v .heeds .noted r p h b f z) (done r p h b (λ t. f (still-to-do count r p (v .heeds .keeps) t))))
 
-    done-after : DoneTo X′ count B W n T′ D′
+    done-after : SettledOffListTo X′ count B W n T′ D′
     done-after r p h b f = go (ℕ-discrete r (64 * i + k)) (ℕ-discrete p q)
       where
-        gone : (r ≡ 64 * i + k → p ≡ q → ⊥) → ToDo count D₁ r p → ⊥
-        gone g t = f (subst (λ (X : List ℕ). ToDo count X r p) (sym is) (others-stay at inside r p h g t))
+        gone : (r ≡ 64 * i + k → p ≡ q → ⊥) → OnList count D₁ r p → ⊥
+        gone g t = f (subst (λ (X : List ℕ). OnList count X r p) (sym is) (others-stay at inside r p h g t))
 
         go : Dec (r ≡ 64 * i + k) → Dec (p ≡ q) → SettledTo X′ p W (Stands n T′) r (rowAt B r)
         go (yes e) (yes g) =
@@ -129,9 +129,9 @@ module _ {count n q i j k : ℕ} (B : List ℕ) (W : ℕ) (T T′ D D₁ D′ : 
         go (yes e) (no g) = still-settled r p h b (gone (λ a z. g z)) (λ z. g (z .1))
         go (no e) g = still-settled r p h b (gone (λ a z. e a)) (λ z. e (z .0))
 
-  -- The visit as a stretch: word j of the list falls, unless the table changed.
+  -- The visit as a series: word j of the list falls, unless the table changed.
   module _ {P : Program} {C : Marks} {x : ℕ} (v : Visited count B n P W (64 * i + k) q C T T′ D D₁ x) where
-    stretch : {F G : List ℕ → List ℕ → Type 0} → (F T D → G T′ D′) → Stretch F G n P W NoWord T T′ D D′ x
+    stretch : {F G : List ℕ → List ℕ → Type 0} → (F T D → G T′ D′) → VisitSeries F G n P W NoWord T T′ D D′ x
     stretch f = record {
       infers = v .infers;
       tells = v .tells;
@@ -149,7 +149,7 @@ module _ {count n q i j k : ℕ} (B : List ℕ) (W : ℕ) (T T′ D D₁ D′ : 
     long = ap length is ∙ length-set D₁ j (getD D₁ j 0 - 2 ^ k) ∙ v .heeds .keeps .size
 
   module _ (coded : Coded count B) where
-    pub taken : Visits count B (64 * i + k) q W n T T′ D D₁ → Taken count B W n j T T′ D D′
+    pub taken : Visits count B (64 * i + k) q W n T T′ D D₁ → TakesOff count B W n j T T′ D D′
     taken f = record {
       works = record {
         changed = f .changed;
@@ -160,7 +160,7 @@ module _ {count n q i j k : ℕ} (B : List ℕ) (W : ℕ) (T T′ D D₁ D′ : 
     }
 
     -- A look: what it gives its child is gathered.
-    pub looked : (o y : ℕ) (G G′ : Marks) → rowAt B (64 * i + k) ≡ look o y → Looks o y count B (64 * i + k) q W n G G′ T T′ D D₁ → TakenLook count B W n j G G′ T T′ D D′
+    pub looked : (o y : ℕ) (G G′ : Marks) → rowAt B (64 * i + k) ≡ look o y → VisitsLook o y count B (64 * i + k) q W n G G′ T T′ D D₁ → TakesOffLook count B W n j G G′ T T′ D D′
     looked o y G G′ e f = record {
       changed = f .changed;
       long = long (visit (coded .program) (coded .codes) .0);

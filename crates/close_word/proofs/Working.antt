@@ -13,16 +13,16 @@ use Rattle.spec_ticks.proofs.Bits.{bit-shr, has-below}
 use Rattle.spec_ticks.proofs.Counts.{first-has}
 use Rattle.spec_tilco.specs.Inference.{Program}
 use Rattle.close_rules.specs.Codes.{Coded}
-use Rattle.table_words.specs.Gains.{room}
+use Rattle.table_words.specs.WordTicks.{room}
 use Rattle.table_words.proofs.Telling.{some-or-none, tells-none, tells-then}
-use Rattle.close_rules.proofs.Moving.{infers-none, infers-then}
+use Rattle.close_rules.proofs.Inferring.{infers-none, infers-then}
 use Rattle.close_list.specs.Workable.{Workable}
 use Rattle.close_list.proofs.Workable.{workable-after}
-use Rattle.close_word.specs.Stretches.{Stretch, Works, Taken, NoWord, OneWord}
+use Rattle.close_word.specs.VisitSeries.{VisitSeries, WorksList, TakesOff, NoWord, OneWord}
 
--- One stretch after another.
+-- One series after another.
 pub stretch-then : {F G H : List ℕ → List ℕ → Type 0} {n : ℕ} {P : Program} {W : ℕ} {Y Z : ℕ → Type 0} (U : ℕ → Type 0) {T T′ T″ D D′ D″ : List ℕ} {x y : ℕ} → ((j : ℕ) → U j → Y j ⊎ Z j)
-    → Stretch F G n P W Y T T′ D D′ x → Stretch G H n P W Z T′ T″ D′ D″ y → Stretch F H n P W U T T″ D D″ (x + y)
+    → VisitSeries F G n P W Y T T′ D D′ x → VisitSeries G H n P W Z T′ T″ D′ D″ y → VisitSeries F H n P W U T T″ D D″ (x + y)
 stretch-then U among m k = record {
   infers = infers-then (m .infers) (k .infers);
   tells = tells-then (m .tells) (k .tells);
@@ -33,7 +33,7 @@ stretch-then U among m k = record {
 
 -- Other words of the list that are 0 if nothing changed.
 stretch-as : {F G : List ℕ → List ℕ → Type 0} {n : ℕ} {P : Program} {W : ℕ} {Y : ℕ → Type 0} (Z : ℕ → Type 0) {T T′ D D′ : List ℕ} {x : ℕ}
-    → ((j : ℕ) → Z j → Y j ⊎ (getD D′ j 0 ≡ 0)) → Stretch F G n P W Y T T′ D D′ x → Stretch F G n P W Z T T′ D D′ x
+    → ((j : ℕ) → Z j → Y j ⊎ (getD D′ j 0 ≡ 0)) → VisitSeries F G n P W Y T T′ D D′ x → VisitSeries F G n P W Z T T′ D D′ x
 stretch-as Z f m = record {
   infers = m .infers;
   tells = m .tells;
@@ -43,7 +43,7 @@ stretch-as Z f m = record {
 
 module _ (count : ℕ) (B : List ℕ) (W n : ℕ) where
   -- Nothing done, and no word among those that are 0.
-  pub works-none : (Z : ℕ → Type 0) (T D : List ℕ) → ((j : ℕ) → Z j → ⊥) → Works count B W n Z T T D D
+  pub works-none : (Z : ℕ → Type 0) (T D : List ℕ) → ((j : ℕ) → Z j → ⊥) → WorksList count B W n Z T T D D
   works-none Z T D f = record {
     changed = 0;
     long = refl;
@@ -55,11 +55,11 @@ module _ (count : ℕ) (B : List ℕ) (W n : ℕ) where
     };
   }
 
-  pub works-as : (Y Z : ℕ → Type 0) {T T′ D D′ : List ℕ} → ((j : ℕ) → Z j → Y j) → Works count B W n Y T T′ D D′ → Works count B W n Z T T′ D D′
+  pub works-as : (Y Z : ℕ → Type 0) {T T′ D D′ : List ℕ} → ((j : ℕ) → Z j → Y j) → WorksList count B W n Y T T′ D D′ → WorksList count B W n Z T T′ D D′
   works-as Y Z f a = record { changed = a .changed; long = a .long; each = λ P c. stretch-as Z (λ j z. inl (f j z)) (a .each P c) }
 
   -- A word of the list that is 0.
-  pub works-word : (j : ℕ) {T T′ D D′ : List ℕ} → getD D′ j 0 ≡ 0 → Works count B W n NoWord T T′ D D′ → Works count B W n (OneWord j) T T′ D D′
+  pub works-word : (j : ℕ) {T T′ D D′ : List ℕ} → getD D′ j 0 ≡ 0 → WorksList count B W n NoWord T T′ D D′ → WorksList count B W n (OneWord j) T T′ D D′
   works-word j {D′ = D′} z a = record {
     changed = a .changed;
     long = a .long;
@@ -67,11 +67,11 @@ module _ (count : ℕ) (B : List ℕ) (W n : ℕ) where
   }
 
   -- Items can be visited still.
-  pub works-workable : (Z : ℕ → Type 0) {H N T T′ D D′ : List ℕ} → Workable count n W B H N D T → Works count B W n Z T T′ D D′ → Workable count n W B H N D′ T′
+  pub works-workable : (Z : ℕ → Type 0) {H N T T′ D D′ : List ℕ} → Workable count n W B H N D T → WorksList count B W n Z T T′ D D′ → Workable count n W B H N D′ T′
   works-workable Z k a = workable-after k (a .long) (a .each (k .coded .program) (k .coded .codes) .infers)
 
-  -- One stretch after another.
-  pub works-then : (Y Z U : ℕ → Type 0) {T T′ T″ D D′ D″ : List ℕ} → ((j : ℕ) → U j → Y j ⊎ Z j) → Works count B W n Y T T′ D D′ → Works count B W n Z T′ T″ D′ D″ → Works count B W n U T T″ D D″
+  -- One series after another.
+  pub works-then : (Y Z U : ℕ → Type 0) {T T′ T″ D D′ D″ : List ℕ} → ((j : ℕ) → U j → Y j ⊎ Z j) → WorksList count B W n Y T T′ D D′ → WorksList count B W n Z T′ T″ D′ D″ → WorksList count B W n U T T″ D D″
   works-then Y Z U among a b = record { changed = a .changed + b .changed; long = b .long ∙ a .long; each = λ P c. stretch-then U among (a .each P c) (b .each P c) }
 
 -- ---- the items of one word of the list, the lowest first
@@ -90,10 +90,10 @@ lowest-from x k small f =
     (has-below x 64 _ small h, h)
 
 -- Visits to items of a word of the list leave the table less room, whatever the word is then, or the word smaller.
-pub stretch-less : {F G : List ℕ → List ℕ → Type 0} {n : ℕ} {P : Program} {W : ℕ} {Z : ℕ → Type 0} {T T′ D D′ : List ℕ} {x : ℕ} (j : ℕ) → Stretch F G n P W Z T T′ D D′ x
+pub stretch-less : {F G : List ℕ → List ℕ → Type 0} {n : ℕ} {P : Program} {W : ℕ} {Z : ℕ → Type 0} {T T′ D D′ : List ℕ} {x : ℕ} (j : ℕ) → VisitSeries F G n P W Z T T′ D D′ x
     → (x ≡ 0 → getD D′ j 0 < getD D j 0) → getD D′ j 0 < 2 ^ 64 → room T′ * 2 ^ 64 + getD D′ j 0 < room T * 2 ^ 64 + getD D j 0
 stretch-less {x = x} j m less small = ⊎-elim (λ l. omega (arith, m .tells .less-room l)) (λ e. omega (arith, less e, ap room (m .tells .still e))) (some-or-none x)
 
-pub taken-less : (count : ℕ) (B : List ℕ) (W n j : ℕ) {T T′ D D′ : List ℕ} → Coded count B → Taken count B W n j T T′ D D′ → getD D′ j 0 < 2 ^ 64
+pub taken-less : (count : ℕ) (B : List ℕ) (W n j : ℕ) {T T′ D D′ : List ℕ} → Coded count B → TakesOff count B W n j T T′ D D′ → getD D′ j 0 < 2 ^ 64
     → room T′ * 2 ^ 64 + getD D′ j 0 < room T * 2 ^ 64 + getD D j 0
 taken-less count B W n j k a small = stretch-less j (a .works .each (k .program) (k .codes)) (a .less) small

@@ -4,7 +4,7 @@ use close_gates::visit;
 use close_looks::Child;
 use close_looks::child_at;
 use close_looks::visit_look;
-use close_store::mark_child;
+use close_store::store_child;
 use spec_limits::ABOVE;
 use spec_limits::KINDS;
 use table_words::Words;
@@ -17,7 +17,7 @@ ghost use Rattle.close_rules.specs.Codes.{LooksAt};
 ghost use Rattle.close_looks.specs.Parts.{Sees, GatheredFor};
 ghost use Rattle.close_list.specs.Items.{per};
 ghost use Rattle.close_list.specs.Workable.{Workable};
-ghost use Rattle.close_word.specs.Stretches.{ItemAt, Works, OneWord, Taken, TakenLook};
+ghost use Rattle.close_word.specs.VisitSeries.{ItemAt, WorksList, OneWord, TakesOff, TakesOffLook};
 
 // Clears bit k, which is set, of word j of the list.
 fn clear_bit(todo: &mut [u64], j: usize, k: u64)
@@ -77,7 +77,7 @@ fn take_look(
     requires { ⌜ Workable count n window (now rows) (now heads) (now nexts) (now todo) (now marks) ⌝ }
     requires { ⌜ ItemAt count n (child .q) i j k (now todo) × LooksAt (now rows) (64 * i + k) (child .row) ⌝ }
     requires { ⌜ Sees n window (now marks) child ⌝ }
-    ensures { λ g. ⌜ TakenLook count (now (rows .entry)) window n j (GatheredFor child given) (GatheredFor child g) (now (marks .entry)) (now (marks .exit)) (now (todo .entry)) (now (todo .exit)) ⌝ }
+    ensures { λ g. ⌜ TakesOffLook count (now (rows .entry)) window n j (GatheredFor child given) (GatheredFor child g) (now (marks .entry)) (now (marks .exit)) (now (todo .entry)) (now (todo .exit)) ⌝ }
     ensures { λ _. ⌜ Sees n window (now (marks .exit)) child ⌝ }
 {
     let row = 64 * i + (k as usize);
@@ -117,7 +117,7 @@ fn take_looks(
 )
     requires { ⌜ Workable count n window (now rows) (now heads) (now nexts) (now todo) (now marks) ⌝ }
     requires { ⌜ ItemAt count n q i j first (now todo) × (getD (now rows) (64 * i + first) 0 % codeKinds ≡ 3) ⌝ }
-    ensures { λ _. ⌜ Taken count (now (rows .entry)) window n j (now (marks .entry)) (now (marks .exit)) (now (todo .entry)) (now (todo .exit)) ⌝ }
+    ensures { λ _. ⌜ TakesOff count (now (rows .entry)) window n j (now (marks .entry)) (now (marks .exit)) (now (todo .entry)) (now (todo .exit)) ⌝ }
 {
     let start = 64 * i;
     let kind = rows[start + (first as usize)] % ABOVE;
@@ -143,7 +143,7 @@ fn take_looks(
         );
         k = next_look(rows, start, todo[j], k, kind);
     }
-    mark_child(rows, count, n, q, c, true, given, heads, nexts, todo, marks);
+    store_child(rows, count, n, q, c, true, given, heads, nexts, todo, marks);
 }
 
 // Visits the item that bit k of word j of the list stands for, and takes it off the list after that; of a look also the looks at the same row after it.
@@ -163,7 +163,7 @@ fn take(
 )
     requires { ⌜ Workable count n window (now rows) (now heads) (now nexts) (now todo) (now marks) ⌝ }
     requires { ⌜ ItemAt count n q i j k (now todo) ⌝ }
-    ensures { λ _. ⌜ Taken count (now (rows .entry)) window n j (now (marks .entry)) (now (marks .exit)) (now (todo .entry)) (now (todo .exit)) ⌝ }
+    ensures { λ _. ⌜ TakesOff count (now (rows .entry)) window n j (now (marks .entry)) (now (marks .exit)) (now (todo .entry)) (now (todo .exit)) ⌝ }
 {
     let row = 64 * i + (k as usize);
     let w = rows[row];
@@ -203,7 +203,7 @@ pub fn work_word(
 )
     requires { ⌜ Workable count n window (now rows) (now heads) (now nexts) (now todo) (now marks) ⌝ }
     requires { ⌜ (q < n) × (i < per count) ⌝ }
-    ensures { λ _. ⌜ Works count (now (rows .entry)) window n (OneWord (q * per count + i)) (now (marks .entry)) (now (marks .exit)) (now (todo .entry)) (now (todo .exit)) ⌝ }
+    ensures { λ _. ⌜ WorksList count (now (rows .entry)) window n (OneWord (q * per count + i)) (now (marks .entry)) (now (marks .exit)) (now (todo .entry)) (now (todo .exit)) ⌝ }
 {
     let stride = (count + 63) / 64;
     let j = q * stride + i;

@@ -14,7 +14,7 @@ use Rattle.spec_tilco.specs.Table.{Standing, factsOf, Answer}
 use Rattle.spec_tilco.proofs.Demand1.{asked-one}
 use Rattle.read_sheet.specs.Sheet.{Contents, meant}
 use Rattle.open_sheet.specs.Results.{Result, accepted, refused}
-use Rattle.spec_operations.specs.Results.{Gain, gain}
+use Rattle.spec_operations.specs.Gain.{Gain, gain}
 use Rattle.open_sheet.specs.SheetIn.{sheetIn, namesIn, blank}
 use Rattle.spec_operations.specs.Operations.{Adds}
 use Rattle.open_table.proofs.Tables.{accepted-one, accepted-refused}

@@ -9,7 +9,7 @@ use native.Mathlib.Nat.{mul-le-mul, mul-le-mul-right, zero-add}
 use native.Mathlib.Omega.{arith}
 use lib.ListN.{length, take, replicate, length-replicate}
 use Rattle.spec_limits.specs.Limits.{mostRows, mostListed, mostClosed}
-use Rattle.read_names.specs.Words.{namesAt}
+use Rattle.read_names.specs.Spellings.{namesAt}
 use Rattle.read_names.proofs.Names.{names-many}
 use Rattle.spec_ticks.specs.Ticks.{empty}
 use Rattle.spec_ticks.proofs.Tables.{empty-tally}
@@ -25,10 +25,10 @@ use Rattle.write_bytes.specs.Writes.{Wrote, Counted}
 use Rattle.op_add.specs.declared.Adding.{Adding}
 use Rattle.op_add.specs.declared.Adding.the-variants as adding
 use Rattle.open_sheet.specs.Results.{accepted, refused}
-use Rattle.spec_operations.specs.Results.{gain}
-use Rattle.op_add.specs.Results.{addingSays}
+use Rattle.spec_operations.specs.Gain.{gain}
+use Rattle.op_add.specs.AddingSays.{addingSays}
 use Rattle.open_sheet.specs.SheetIn.{sheetIn, namesIn, blank}
-use Rattle.open_sheet.specs.Ready.{Ready}
+use Rattle.open_sheet.specs.OpenedSheet.{OpenedSheet}
 use Rattle.spec_operations.specs.Operations.{Adds}
 use Rattle.spec_operations.specs.Operations.Adds.{added}
 use Rattle.open_table.proofs.Tables.{accepted-one, InSheet, in-sheet, window-range, row-range, row-words}
@@ -161,7 +161,7 @@ module _ {s places : List ℕ} {w count : ℕ} {T : List ℕ} (b : Begun s place
             ∙ ap (λ (i : ℕ). listingText (namesIn s k) (k .window) (rowCount (meant k)) i clash answers) (told .facts)
 
 -- The sheet is opened: its empty table can be begun with, or its refusal is printed.
-module _ {s places B tops : List ℕ} {w t count : ℕ} (y : Ready s places B tops w t count) (n : ℕ) (e : n ≡ words w) where
+module _ {s places B tops : List ℕ} {w t count : ℕ} (y : OpenedSheet s places B tops w t count) (n : ℕ) (e : n ≡ words w) where
   -- The words of a table with the most rows and the widest window are enough.
   pub words-most : (w ≤ mostClosed) × (2 * count ≤ 2 * mostRows) × (2 * count * n ≤ mostTableWords)
   words-most =

@@ -11,7 +11,7 @@ use Rattle.spec_tilco.specs.Lowering.{rowCount}
 use Rattle.spec_tilco.specs.Table.{Standing, factsOf, Answer}
 use Rattle.read_sheet.specs.Sheet.{Contents, meant}
 use Rattle.open_sheet.specs.Results.{accepted, refused}
-use Rattle.spec_operations.specs.Results.{gain}
+use Rattle.spec_operations.specs.Gain.{gain}
 use Rattle.open_sheet.specs.SheetIn.{sheetIn, namesIn, blank}
 use Rattle.spec_operations.specs.Operations.{Adds}
 use Rattle.list_signals.specs.Signals.{Answers}

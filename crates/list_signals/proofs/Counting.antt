@@ -5,7 +5,7 @@ use mathlib.Core.List.{List, [], _∷_}
 use Prim.Native.Nat.{ℕ, _+_, _-_, _<_}
 use native.Mathlib.Omega.{arith}
 use lib.ListN.{length, getD, drop, length-append}
-use Rattle.read_names.specs.Words.{wordAt, namesAt}
+use Rattle.read_names.specs.Spellings.{spellingAt, namesAt}
 use Rattle.spec_tilco.specs.Table.{Answer}
 use Rattle.write_bytes.specs.Writes.{Wrote, Counted}
 use Rattle.list_signals.specs.Signals.{signs, signalText, signalsText}
@@ -20,9 +20,9 @@ module _ (f : ℕ → Answer) (t W : ℕ) {b : ℕ} (h : t < W) (k : Counted b (
   signs-counted w = record { below = omega (arith, signs-length f t (W - t), signs-length f (t + 1) (W - (t + 1))) }
 
 pub signals-counted : (s ps : List ℕ) (W : ℕ) (f : ℕ → ℕ → Answer) (x : ℕ) {b : ℕ} → x < length ps → Counted b (signalsText W f x (namesAt s (drop x ps)))
-    → (g : ℕ → Answer) {m m₁ : List ℕ} {u : ℕ} → Wrote (signalText (wordAt s (getD ps x 0)) (signs g 0 W)) b m m₁ u → Counted u (signalsText W f (x + 1) (namesAt s (drop (x + 1) ps)))
+    → (g : ℕ → Answer) {m m₁ : List ℕ} {u : ℕ} → Wrote (signalText (spellingAt s (getD ps x 0)) (signs g 0 W)) b m m₁ u → Counted u (signalsText W f (x + 1) (namesAt s (drop (x + 1) ps)))
 signals-counted s ps W f x h k g w =
-    let name = wordAt s (getD ps x 0) in
+    let name = spellingAt s (getD ps x 0) in
     let rest = signalsText W f (x + 1) (namesAt s (drop (x + 1) ps)) in
     let one = signal-length name (signs (f x) 0 W) in
     let other = signal-length name (signs g 0 W) in

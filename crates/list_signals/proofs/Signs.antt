@@ -8,7 +8,7 @@ use native.Mathlib.Nat.{mul-le-mul-right}
 use native.Mathlib.Numerals.{add-one}
 use native.Mathlib.Omega.{arith}
 use lib.ListN.{length, getD, drop, drop-of-length-le}
-use Rattle.read_names.specs.Words.{wordAt, namesAt}
+use Rattle.read_names.specs.Spellings.{spellingAt, namesAt}
 use Rattle.read_bytes.proofs.Places.{drop-in}
 use Rattle.spec_tilco.specs.Table.{Stands, Answer, Asked, clashes}
 use Rattle.spec_tilco.proofs.Demand1.{asked-one}
@@ -37,7 +37,7 @@ module _ (f : ℕ → Answer) (t W : ℕ) where
   signs-end h = let e : W - t ≡ 0 = omega arith in rw e
 
 module _ (s ps : List ℕ) (W : ℕ) (f : ℕ → ℕ → Answer) (x : ℕ) where
-  pub signals-next : x < length ps → signalsText W f x (namesAt s (drop x ps)) ≡ signalText (wordAt s (getD ps x 0)) (signs (f x) 0 W) ++ signalsText W f (x + 1) (namesAt s (drop (x + 1) ps))
+  pub signals-next : x < length ps → signalsText W f x (namesAt s (drop x ps)) ≡ signalText (spellingAt s (getD ps x 0)) (signs (f x) 0 W) ++ signalsText W f (x + 1) (namesAt s (drop (x + 1) ps))
   unfolding signalsText namesAt
   signals-next h = rw (drop-in ps x 0 h, add-one)
 

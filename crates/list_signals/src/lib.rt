@@ -9,7 +9,7 @@ ghost use mathlib.Core.Path.{_≡_};
 ghost use Prim.Native.Nat.{ℕ, _+_};
 ghost use lib.ListN.{length};
 ghost use Rattle.read_bytes.specs.Bytes.{bytes};
-ghost use Rattle.read_names.specs.Words.{wordAt, namesAt};
+ghost use Rattle.read_names.specs.Spellings.{spellingAt, namesAt};
 ghost use Rattle.spec_tilco.specs.Table.{Stands, Answer, Asked};
 ghost use Rattle.write_bytes.specs.Writes.{Counted, Wrote};
 ghost use Rattle.write_lines.specs.LineTexts.{lineText};
@@ -82,8 +82,8 @@ fn write_signal(
     out: &mut [u8],
     used: usize,
 ) -> usize
-    requires { ⌜ Listable (signal + 1) window n (now table) clash × ((f : ℕ → Answer) → Counted used (signalText (wordAt (now s) name) (signs f 0 window))) ⌝ }
-    ensures { λ r. ⌜ ((f : ℕ → Answer) → AnswersAt (Stands n (now (table .entry))) signal window f → Wrote (signalText (wordAt (now (s .entry)) name) (signs f 0 window)) used (now (out .entry)) (now (out .exit)) r) ⌝ }
+    requires { ⌜ Listable (signal + 1) window n (now table) clash × ((f : ℕ → Answer) → Counted used (signalText (spellingAt (now s) name) (signs f 0 window))) ⌝ }
+    ensures { λ r. ⌜ ((f : ℕ → Answer) → AnswersAt (Stands n (now (table .entry))) signal window f → Wrote (signalText (spellingAt (now (s .entry)) name) (signs f 0 window)) used (now (out .entry)) (now (out .exit)) r) ⌝ }
 {
     let marks = write_name_line(s, name, out, used);
     write_marks_line(table, n, signal, window, clash, out, marks)

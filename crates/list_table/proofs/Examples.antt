@@ -6,7 +6,7 @@ use Prim.Native.Nat.{ℕ}
 use lib.Dec.{T}
 use lib.ListN.{getD}
 use Rattle.read_bytes.specs.Bytes.{bytes}
-use Rattle.read_names.specs.Words.{sameText}
+use Rattle.read_names.specs.Spellings.{sameText}
 use Rattle.spec_tilco.specs.Table.{Answer}
 use Rattle.spec_tilco.specs.Table.Answer.{Unsettled, True, Contradiction}
 use Rattle.write_bytes.specs.Writes.{lastDigits, decimalText}

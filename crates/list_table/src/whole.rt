@@ -4,7 +4,7 @@ use write_lines::write_number_line;
 ghost use mathlib.Core.Path.{_≡_};
 ghost use Prim.Native.Nat.{ℕ};
 ghost use lib.ListN.{length};
-ghost use Rattle.read_names.specs.Words.{namesAt};
+ghost use Rattle.read_names.specs.Spellings.{namesAt};
 ghost use Rattle.spec_tilco.specs.Table.{Stands, Answer};
 ghost use Rattle.write_bytes.specs.Writes.{Counted, Wrote};
 ghost use Rattle.list_signals.specs.Signals.{Listable, Answers};

@@ -5,7 +5,7 @@ use mathlib.Core.List.{List}
 use Prim.Native.Nat.{ℕ}
 use Rattle.spec_tilco.specs.Formula.{Formula, Op}
 use Rattle.spec_tilco.specs.Lowering.{BTL, lowered}
-use Rattle.read_arena.specs.Readings.{formAt}
+use Rattle.read_arena.specs.NodeRules.{formAt}
 
 -- The formula at node n.
 abbrev pub loweredAt : List ℕ → Bool → ℕ → BTL

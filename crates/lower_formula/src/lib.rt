@@ -2,7 +2,7 @@
 // the rows in use. The functions call one another in a cycle, and the formula's size falls.
 use lower_rows::interval::spread;
 use lower_rows::words::Lowered;
-use lower_rows::words::gate_word;
+use lower_rows::words::gate_code;
 use lower_rows::words::name_row;
 use lower_rows::words::push_row;
 use read_arena::Node;
@@ -12,8 +12,8 @@ ghost use mathlib.Core.Path.{_≡_};
 ghost use Rattle.spec_tilco.specs.Formula.{Iff};
 ghost use Rattle.spec_tilco.specs.Lowering.{join as joinOf, timed as timedOf, turn};
 ghost use Rattle.read_arena.specs.Nodes.{opOf};
-ghost use Rattle.read_arena.specs.Readings.{NodeIn, NodesIn};
-ghost use Rattle.lower_rows.specs.Writes.{RowBuffer, NearInterval, Lowers};
+ghost use Rattle.read_arena.specs.NodeRules.{NodeIn, NodesIn};
+ghost use Rattle.lower_rows.specs.RowWrites.{RowBuffer, NearInterval, Lowers};
 ghost use Rattle.lower_formula.specs.Lowers.{loweredAt, pairAt};
 
 // And (true) for @ and or (false) for ?, traded in the false sense.
@@ -90,7 +90,7 @@ fn join(
     let Lowered::Top { row: b, used: last } = lower(arena, right, right_sense, out, next) else {
         return Lowered::Full;
     };
-    push_row(gate_word(gate, a, b), out, last)
+    push_row(gate_code(gate, a, b), out, last)
 }
 
 // Two formulas that are to be the same: each gives the other.
@@ -131,7 +131,7 @@ fn same(
     ) else {
         return Lowered::Full;
     };
-    push_row(gate_word(sense, a, b), out, last)
+    push_row(gate_code(sense, a, b), out, last)
 }
 
 // A formula, its looks over an interval, and their joins.

@@ -11,8 +11,8 @@ use Rattle.spec_tilco.specs.Lowering.{BTL, size}
 use Rattle.spec_tilco.proofs.Lists.{total-append}
 use Rattle.read_bytes.specs.Read.{Read}
 use Rattle.read_bytes.specs.Read.Read.{got}
-use Rattle.lower_rule.specs.Rules.{Buffers, LowersAll, allLoweredSays}
-use Rattle.lower_rows.specs.Writes.{noRoom}
+use Rattle.lower_rule.specs.RuleRows.{Buffers, LowersAll, allLoweredSays}
+use Rattle.lower_rows.specs.RowWrites.{noRoom}
 use Rattle.lower_rule.specs.declared.rules.AllLowered.{AllLowered}
 use Rattle.lower_rule.specs.declared.rules.AllLowered.the-variants.{Next, Full}
 use Rattle.lower_rule.proofs.InTurn.{went-all, all-none, all-then}

@@ -13,12 +13,12 @@ use Rattle.spec_tilco.specs.Lowering.{BTL, lowered, lows}
 use Rattle.spec_tilco.proofs.Lists.{total-append, laid-append}
 use Rattle.read_arena.proofs.Puts.{arena-fewer}
 use Rattle.read_sheet.specs.Sheet.{ruleLine}
-use Rattle.read_sheet.specs.Reading.{Ready, Rule, Rules}
+use Rattle.read_sheet.specs.RuleAnswers.{LineReady, RuleHeld, AllRules}
 use Rattle.read_head.proofs.Signals.{up-to}
 use Rattle.read_sheet.proofs.Ruled.{Passed, passed-none, passed-one, passed-all}
 use Rattle.read_bytes.specs.Read.{Read}
-use Rattle.read_names.specs.Words.{namesAt}
-use Rattle.lower_rule.specs.Rules.{Buffers, RuleIn, wholeAt, allLoweredSays}
+use Rattle.read_names.specs.Spellings.{namesAt}
+use Rattle.lower_rule.specs.RuleRows.{Buffers, RuleIn, wholeAt, allLoweredSays}
 use Rattle.lower_rule.specs.declared.rules.AllLowered.{AllLowered}
 use Rattle.lower_rule.specs.declared.rules.AllLowered.the-variants.{Next}
 use Rattle.lower_rule.proofs.Spelled.{held-definings, held-spelled}
@@ -34,7 +34,7 @@ spelled-more ws w n =
     ∙ map-append (lowered true) (laid hiddens spelled ws n) (spelled w (n + total hiddens ws))
 
 -- A rule that was read into the arena, its hidden signals' rows from x on.
-module _ {a : List ℕ} {x : ℕ} {R : Read Written} {q u y : ℕ} (w : Rule a x R q u y) where
+module _ {a : List ℕ} {x : ℕ} {R : Read Written} {q u y : ℕ} (w : RuleHeld a x R q u y) where
   -- its node stands in the arena, with so many defining rules
   pub rule-in : RuleIn a (u - 1) (y - x)
   rule-in = record { stands = arena-fewer (u - 1 + 1) (omega (arith, w .some)) (w .arena); hidden = omega (arith, held-definings (w .held), w .next) }
@@ -88,7 +88,7 @@ module _ (o : Lines) where
 
   module _ {z : State} {ws : List Written} (k : Underway o z ws) where
     -- the next line can be read
-    pub line-ready : Legible (o .text) (o .places) (o .many) (o .first) → (a : List ℕ) → length a ≡ arenaNumbers → Ready (o .text) a (o .places) (z .place) (z .row)
+    pub line-ready : Legible (o .text) (o .places) (o .many) (o .first) → (a : List ℕ) → length a ≡ arenaNumbers → LineReady (o .text) a (o .places) (z .place) (z .row)
     line-ready g a e = record {
       within = k .passed .inside;
       before = up-to (k .passed .ahead) (o .places) (g .before);
@@ -98,7 +98,7 @@ module _ (o : Lines) where
     }
 
     -- one more is read and lowered
-    pub underway-one : {a : List ℕ} {q u y : ℕ} → z .done < o .many → (w : Rule a (z .row) (ruleLine names (o .text) (z .place)) q u y) → (r : AllLowered) (B : Buffers)
+    pub underway-one : {a : List ℕ} {q u y : ℕ} → z .done < o .many → (w : RuleHeld a (z .row) (ruleLine names (o .text) (z .place)) q u y) → (r : AllLowered) (B : Buffers)
         → length (B .rows) ≡ length (z .now .rows) → length (B .tops) ≡ length (z .now .tops) → Follows (wholeAt a (u - 1)) (z .now) B (z .lowered) r
         → Underway o (stateOf (z .done + 1) q y r B) (ws ++ (w .rule ∷ []))
     underway-one {a} {q} {u} h w r B e f follows =
@@ -119,5 +119,5 @@ module _ (o : Lines) where
     pub underway-all : o .many ≤ z .done
         → RulesRead (rulesAt (o .text) (o .places) (o .many) (o .first)) (length (o .places)) (o .base) (o .start) (z .now) (lines.Read (z .row - length (o .places)) (z .place) (z .lowered))
     underway-all h =
-        let w : Rules (rulesAt (o .text) (o .places) (o .many) (o .first)) (z .row - length (o .places)) (z .place) = record { all = ws; reads = passed-all names (o .text) (o .many) (o .first) (k .passed) h; hidden = omega (arith, k .row) } in
+        let w : AllRules (rulesAt (o .text) (o .places) (o .many) (o .first)) (z .row - length (o .places)) (z .place) = record { all = ws; reads = passed-all names (o .text) (o .many) (o .first) (k .passed) h; hidden = omega (arith, k .row) } in
         read w (k .tried)

@@ -11,11 +11,11 @@ use Rattle.read_bytes.specs.Read.Read.{got, refused}
 use Rattle.spec_tilco.specs.Lists.{All, total, laid}
 use Rattle.spec_tilco.specs.Formula.{Written, hiddens, spelled}
 use Rattle.spec_tilco.specs.Lowering.{BTL, size, lows}
-use Rattle.read_names.specs.Words.{namesAt}
+use Rattle.read_names.specs.Spellings.{namesAt}
 use Rattle.read_sheet.specs.Sheet.{rules}
-use Rattle.read_sheet.specs.Reading.{Rules}
-use Rattle.lower_rule.specs.Rules.{Buffers, LowersAll, allLoweredSays}
-use Rattle.lower_rows.specs.Writes.{RowBuffer, noRoom}
+use Rattle.read_sheet.specs.RuleAnswers.{AllRules}
+use Rattle.lower_rule.specs.RuleRows.{Buffers, LowersAll, allLoweredSays}
+use Rattle.lower_rows.specs.RowWrites.{RowBuffer, noRoom}
 use Rattle.lower_rule.specs.declared.rules.AllLowered.{AllLowered}
 use Rattle.lower_rule.specs.declared.rules.AllLowered.the-variants.{Next}
 use Rattle.lower_lines.specs.declared.RuleLines.{RuleLines}
@@ -63,5 +63,5 @@ Follows ds B B′ r r′ =
 
 -- What each case of reading the rules' lines says, with their rows from row b on.
 pub data RulesRead (R : Read (List Written)) (n b : ℕ) (B B′ : Buffers) : RuleLines → Type 0 where
-  read : {h q : ℕ} {r : AllLowered} (w : Rules R h q) → Tried (spelledAll (w .all) n) b B B′ (allLoweredSays r) → RulesRead R n b B B′ (lines.Read h q r)
+  read : {h q : ℕ} {r : AllLowered} (w : AllRules R h q) → Tried (spelledAll (w .all) n) b B B′ (allLoweredSays r) → RulesRead R n b B B′ (lines.Read h q r)
   refused-at : {k p : ℕ} → R ≡ refused k p → RulesRead R n b B B′ (lines.Refused k p)

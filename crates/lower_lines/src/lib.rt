@@ -8,7 +8,7 @@ use spec_limits::ARENA;
 ghost use Prim.Native.Nat.{_+_, _≤_};
 ghost use lib.ListN.{length};
 ghost use Rattle.spec_limits.specs.Limits.{mostHidden};
-ghost use Rattle.lower_rule.specs.Rules.{buffers, RuleIn, wholeAt, allLoweredSays};
+ghost use Rattle.lower_rule.specs.RuleRows.{buffers, RuleIn, wholeAt, allLoweredSays};
 ghost use Rattle.lower_lines.specs.InTurn.{Legible, rulesAt, FullSize, RoomIn, Follows, RulesRead};
 
 // How many hidden signals the rules have, the place after their lines, and how far they are lowered. Or a refusal's number and place.

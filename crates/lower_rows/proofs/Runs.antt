@@ -13,8 +13,8 @@ use lib.Seq.{sets, length-sets, getD-set-same, getD-set-other}
 use Rattle.spec_tilco.specs.Lists.{tab}
 use Rattle.spec_tilco.specs.Inference.{Node, gate, look}
 use Rattle.spec_tilco.specs.Lowering.{joined}
-use Rattle.lower_rows.specs.Words.{word}
-use Rattle.lower_rows.specs.Writes.{RowBuffer, CountsUp, Fits, looks, gates, lastGate, Wrote, Spreads}
+use Rattle.lower_rows.specs.RowCodes.{rowCode}
+use Rattle.lower_rows.specs.RowWrites.{RowBuffer, CountsUp, Fits, looks, gates, lastGate, WroteRows, Spreads}
 use Rattle.lower_rows.specs.declared.words.Lowered.{Lowered}
 use Rattle.lower_rows.specs.declared.words.Lowered.the-variants.{Top, Full}
 
@@ -24,8 +24,8 @@ sets-append m b [] vs = rw add-zero
 sets-append m b (w ∷ ws) vs = rw (add-suc, ← suc-add) (sets-append (set m b w) (suc b) ws vs)
 
 -- What is known where the row codes fit.
-pub fits : (ws : List ℕ) (t b : ℕ) (m m₁ : List ℕ) (r : Lowered) (row u : ℕ) → r ≡ Top row u → Wrote ws t b m m₁ r → Fits ws t b m m₁ row u
-unfolding Wrote
+pub fits : (ws : List ℕ) (t b : ℕ) (m m₁ : List ℕ) (r : Lowered) (row u : ℕ) → r ≡ Top row u → WroteRows ws t b m m₁ r → Fits ws t b m m₁ row u
+unfolding WroteRows
 fits ws t b m m₁ r row u e h = rw e at h
 
 -- After a writer the buffer is a row buffer with other rows in use.
@@ -34,8 +34,8 @@ buffer-on B room long = record { few = omega (arith, B .few); used-in = omega ar
 
 -- One write after another is one write, whatever the second answers.
 extend : (ws vs : List ℕ) (t t′ b : ℕ) (m m₁ m₂ : List ℕ) (row u : ℕ) (r : Lowered)
-    → Fits ws t b m m₁ row u → Wrote vs t′ u m₁ m₂ r → Wrote (ws ++ vs) t′ b m m₂ r
-unfolding Wrote
+    → Fits ws t b m m₁ row u → WroteRows vs t′ u m₁ m₂ r → WroteRows (ws ++ vs) t′ b m m₂ r
+unfolding WroteRows
 extend ws vs t t′ b m m₁ m₂ row u (Top row′ v) R k = record {
   top = k .top;
   next = omega (arith, length-append ws vs);
@@ -46,60 +46,60 @@ extend ws vs t t′ b m m₁ m₂ row u (Top row′ v) R k = record {
 extend ws vs t t′ b m m₁ m₂ row u Full R k = record { over = omega (arith, length-append ws vs); long = k .long ∙ R .long }
 
 pub and-then : (ws vs : List ℕ) (t t′ b : ℕ) (m m₁ m₂ : List ℕ) (r₁ : Lowered) (row u : ℕ) (r : Lowered)
-    → r₁ ≡ Top row u → Wrote ws t b m m₁ r₁ → Wrote vs t′ u m₁ m₂ r → Wrote (ws ++ vs) t′ b m m₂ r
+    → r₁ ≡ Top row u → WroteRows ws t b m m₁ r₁ → WroteRows vs t′ u m₁ m₂ r → WroteRows (ws ++ vs) t′ b m m₂ r
 and-then ws vs t t′ b m m₁ m₂ r₁ row u r e h k = extend ws vs t t′ b m m₁ m₂ row u r (fits ws t b m m₁ r₁ row u e h) k
 
 -- Where the first part does not fit, the whole does not.
-pub no-room : (ws vs : List ℕ) (t t′ b : ℕ) (m m₁ : List ℕ) (r₁ : Lowered) → r₁ ≡ Full → Wrote ws t b m m₁ r₁ → Wrote (ws ++ vs) t′ b m m₁ Full
-unfolding Wrote
+pub no-room : (ws vs : List ℕ) (t t′ b : ℕ) (m m₁ : List ℕ) (r₁ : Lowered) → r₁ ≡ Full → WroteRows ws t b m m₁ r₁ → WroteRows (ws ++ vs) t′ b m m₁ Full
+unfolding WroteRows
 no-room ws vs t t′ b m m₁ r₁ e h = let k = rw e at h in record { over = omega (arith, length-append ws vs); long = k .long }
 
 -- One row code more fits.
-pub stored : (w b : ℕ) (m : List ℕ) → b < length m → Wrote (w ∷ []) b b m (set m b w) (Top b (b + 1))
-unfolding Wrote
+pub stored : (w b : ℕ) (m : List ℕ) → b < length m → WroteRows (w ∷ []) b b m (set m b w) (Top b (b + 1))
+unfolding WroteRows
 stored w b m h = record { top = refl; next = refl; room = omega arith; holds = refl; long = length-set m b w }
 
 -- It does not.
-pub not-stored : (w b : ℕ) (m : List ℕ) → length m ≤ b → Wrote (w ∷ []) b b m m Full
-unfolding Wrote
+pub not-stored : (w b : ℕ) (m : List ℕ) → length m ≤ b → WroteRows (w ∷ []) b b m m Full
+unfolding WroteRows
 not-stored w b m h = record { over = omega arith; long = refl }
 
 -- Nothing is written.
-pub nothing : (t b : ℕ) (m : List ℕ) → b ≤ length m → Wrote [] t b m m (Top t b)
-unfolding Wrote
+pub nothing : (t b : ℕ) (m : List ℕ) → b ≤ length m → WroteRows [] t b m m (Top t b)
+unfolding WroteRows
 nothing t b m h = record { top = refl; next = rw add-zero; room = h; holds = refl; long = refl }
 
 -- A run of rows that grows by one at the end: r i is the row that comes after i rows.
 module _ (R : ℕ → List Node) (r : ℕ → Node) (start : R zero ≡ []) (next : (i : ℕ) → R (suc i) ≡ R i ++ (r i ∷ [])) where
   -- It has n row codes.
-  pub run-length : (n : ℕ) → length (map word (R n)) ≡ n
+  pub run-length : (n : ℕ) → length (map rowCode (R n)) ≡ n
   run-length zero = rw start
   run-length (suc n) = rw (next n, map-append, length-append, run-length n) (add-one n)
 
   -- One more of them stored.
-  pub run-step : (m : List ℕ) (b i : ℕ) → set (sets m b (map word (R i))) (b + i) (word (r i)) ≡ sets m b (map word (R (i + 1)))
+  pub run-step : (m : List ℕ) (b i : ℕ) → set (sets m b (map rowCode (R i))) (b + i) (rowCode (r i)) ≡ sets m b (map rowCode (R (i + 1)))
   run-step m b i =
       rw (add-one i, next i, map-append)
-      (ap (λ (k : ℕ). set (sets m b (map word (R i))) (b + k) (word (r i))) (sym (run-length i)) ∙ sets-append m b (map word (R i)) (word (r i) ∷ []))
+      (ap (λ (k : ℕ). set (sets m b (map rowCode (R i))) (b + k) (rowCode (r i))) (sym (run-length i)) ∙ sets-append m b (map rowCode (R i)) (rowCode (r i) ∷ []))
 
   -- None of them stored yet.
-  pub run-none : (m : List ℕ) (b : ℕ) → m ≡ sets m b (map word (R 0))
+  pub run-none : (m : List ℕ) (b : ℕ) → m ≡ sets m b (map rowCode (R 0))
   run-none m b = rw start
 
   -- All n of them stored.
-  pub run-done : (t n b : ℕ) (m m′ : List ℕ) → b + n ≤ length m → m′ ≡ sets m b (map word (R n)) → Wrote (map word (R n)) t b m m′ (Top t (b + n))
-  unfolding Wrote
+  pub run-done : (t n b : ℕ) (m m′ : List ℕ) → b + n ≤ length m → m′ ≡ sets m b (map rowCode (R n)) → WroteRows (map rowCode (R n)) t b m m′ (Top t (b + n))
+  unfolding WroteRows
   run-done t n b m m′ h e = record {
     top = refl;
     next = ap (λ (k : ℕ). b + k) (sym (run-length n));
     room = h;
     holds = e;
-    long = ap length e ∙ length-sets m b (map word (R n));
+    long = ap length e ∙ length-sets m b (map rowCode (R n));
   }
 
   -- They do not fit.
-  pub run-full : (t n b : ℕ) (m : List ℕ) → length m < b + n → Wrote (map word (R n)) t b m m Full
-  unfolding Wrote
+  pub run-full : (t n b : ℕ) (m : List ℕ) → length m < b + n → WroteRows (map rowCode (R n)) t b m m Full
+  unfolding WroteRows
   run-full t n b m h = record { over = omega (arith, run-length n); long = refl }
 
 tab-snoc : (f : ℕ → Node) (n : ℕ) → tab f (suc n) ≡ tab f n ++ (f n ∷ [])
@@ -128,8 +128,8 @@ unfolding lastGate
 last-next i b k = rw (add-one k)
 
 -- Its right child is the next row of those to be joined.
-pub gate-row : (g : Bool) (x i k : ℕ) → word (gate g x (i + k + 1)) ≡ word (gate g x (i + suc k))
-gate-row g x i k = let e : i + k + 1 ≡ i + suc k = omega arith in ap (λ (y : ℕ). word (gate g x y)) e
+pub gate-row : (g : Bool) (x i k : ℕ) → rowCode (gate g x (i + k + 1)) ≡ rowCode (gate g x (i + suc k))
+gate-row g x i k = let e : i + k + 1 ≡ i + suc k = omega arith in ap (λ (y : ℕ). rowCode (gate g x y)) e
 
 -- One number more of those that follow one another.
 pub numbers-more : (l : List ℕ) (i lo : ℕ) → i < length l → CountsUp lo i l → CountsUp lo (i + 1) (set l i (lo + i))
@@ -140,13 +140,13 @@ numbers-more l i lo h before j lt = go (ℕ-discrete j i)
     go (no ne) = getD-set-other l i j (lo + i) 0 ne ∙ before j (omega (arith, ne))
 
 -- The looks of an interval were tried: the joins follow.
-module _ (g : Bool) (lo k x b : ℕ) (m m₁ : List ℕ) (r₁ : Lowered) (w₁ : Wrote (map word (looks x lo (k + 1))) b b m m₁ r₁) where
+module _ (g : Bool) (lo k x b : ℕ) (m m₁ : List ℕ) (r₁ : Lowered) (w₁ : WroteRows (map rowCode (looks x lo (k + 1))) b b m m₁ r₁) where
   pub spread-full : r₁ ≡ Full → Spreads g lo k x b m m₁ Full
   unfolding Spreads
   spread-full e = rw map-append (no-room _ _ _ _ _ _ _ _ e (rw add-one at w₁))
 
   pub spread-then : (row u : ℕ) (m₂ : List ℕ) (r : Lowered) → r₁ ≡ Top row u
-      → Wrote (map word (gates g b u k)) (lastGate b u k) u m₁ m₂ r → Spreads g lo k x b m m₂ r
+      → WroteRows (map rowCode (gates g b u k)) (lastGate b u k) u m₁ m₂ r → Spreads g lo k x b m m₂ r
   unfolding Spreads
   spread-then row u m₂ r e h =
       let R = fits _ _ _ _ _ _ row u e w₁ in

@@ -1,3 +1,3 @@
 -- The definitions that the contracts cite, lowest layer first.
-pub mod Words
-pub mod Writes
+pub mod RowCodes
+pub mod RowWrites

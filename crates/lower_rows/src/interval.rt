@@ -1,14 +1,14 @@
 // The looks of an interval and their joins. Offsets are written with 64 added.
 use crate::words::Lowered;
-use crate::words::gate_word;
-use crate::words::look_word;
+use crate::words::gate_code;
+use crate::words::look_code;
 use spec_limits::OFFSET;
 ghost use mathlib.Core.List.{map};
 ghost use Prim.Native.Nat.{_≤_};
 ghost use lib.ListN.{getD};
 ghost use Rattle.spec_limits.specs.Limits.{mostRows, mostOffset};
-ghost use Rattle.lower_rows.specs.Words.{word};
-ghost use Rattle.lower_rows.specs.Writes.{RowBuffer, NearInterval, CountsUp, looks, gates, lastGate, Wrote, Spreads};
+ghost use Rattle.lower_rows.specs.RowCodes.{rowCode};
+ghost use Rattle.lower_rows.specs.RowWrites.{RowBuffer, NearInterval, CountsUp, looks, gates, lastGate, WroteRows, Spreads};
 
 // The offsets from the first up, as many as an interval can have.
 fn offsets_from(first: u16) -> [u16; OFFSET]
@@ -35,14 +35,14 @@ fn write_looks(
     requires { ⌜ n ≤ mostOffset ⌝ }
     requires { ⌜ RowBuffer (now out) used ⌝ }
     requires { ⌜ CountsUp (getD (now offsets) 0 0) n (now offsets) ⌝ }
-    ensures { λ r. ⌜ Wrote (map word (looks child (getD (now (offsets .entry)) 0 0) n)) used used (now (out .entry)) (now (out .exit)) r ⌝ }
+    ensures { λ r. ⌜ WroteRows (map rowCode (looks child (getD (now (offsets .entry)) 0 0) n)) used used (now (out .entry)) (now (out .exit)) r ⌝ }
 {
     if out.len() - used < n {
         return Lowered::Full;
     }
     let mut i: usize = 0;
     while i < n {
-        out[used + i] = look_word(child, offsets[i]);
+        out[used + i] = look_code(child, offsets[i]);
         i += 1;
     }
     let row = used as u16;
@@ -54,7 +54,7 @@ fn write_looks(
 fn write_gates(gate: bool, first: usize, n: usize, out: &mut [u64], used: usize) -> Lowered
     requires { ⌜ (first ≤ mostRows) × (n ≤ mostOffset) ⌝ }
     requires { ⌜ RowBuffer (now out) used ⌝ }
-    ensures { λ r. ⌜ Wrote (map word (gates gate first used n)) (lastGate first used n) used (now (out .entry)) (now (out .exit)) r ⌝ }
+    ensures { λ r. ⌜ WroteRows (map rowCode (gates gate first used n)) (lastGate first used n) used (now (out .entry)) (now (out .exit)) r ⌝ }
 {
     if out.len() - used < n {
         return Lowered::Full;
@@ -64,7 +64,7 @@ fn write_gates(gate: bool, first: usize, n: usize, out: &mut [u64], used: usize)
     while i < n {
         let left = last as u16;
         let right = (first + i + 1) as u16;
-        out[used + i] = gate_word(gate, left, right);
+        out[used + i] = gate_code(gate, left, right);
         last = used + i;
         i += 1;
     }

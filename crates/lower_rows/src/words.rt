@@ -6,8 +6,8 @@ ghost use mathlib.Core.Path.{_≡_};
 ghost use mathlib.Core.List.{[], _∷_};
 ghost use Rattle.spec_tilco.specs.Inference.{gate as gateOf, look};
 ghost use Rattle.spec_tilco.specs.Lowering.{lit};
-ghost use Rattle.lower_rows.specs.Words.{word};
-ghost use Rattle.lower_rows.specs.Writes.{RowBuffer, Wrote, Lowers};
+ghost use Rattle.lower_rows.specs.RowCodes.{rowCode};
+ghost use Rattle.lower_rows.specs.RowWrites.{RowBuffer, WroteRows, Lowers};
 
 // The row code of a signal: of kind 0, with the number 1.
 pub const SIGNAL: u64 = KINDS;
@@ -19,8 +19,8 @@ pub enum Lowered {
 }
 
 // The row code of a gate: an and (true) or an or (false) of the rows a and b.
-pub fn gate_word(gate: bool, a: u16, b: u16) -> u64
-    ensures { λ r. ⌜ r ≡ word (gateOf gate a b) ⌝ }
+pub fn gate_code(gate: bool, a: u16, b: u16) -> u64
+    ensures { λ r. ⌜ r ≡ rowCode (gateOf gate a b) ⌝ }
 {
     let left = a as u64;
     let right = b as u64;
@@ -29,8 +29,8 @@ pub fn gate_word(gate: bool, a: u16, b: u16) -> u64
 }
 
 // The row code of a look at the row child, at an offset with 64 added.
-pub fn look_word(child: u16, offset: u16) -> u64
-    ensures { λ r. ⌜ r ≡ word (look offset child) ⌝ }
+pub fn look_code(child: u16, offset: u16) -> u64
+    ensures { λ r. ⌜ r ≡ rowCode (look offset child) ⌝ }
 {
     let row = child as u64;
     let ticks = offset as u64;
@@ -38,14 +38,14 @@ pub fn look_word(child: u16, offset: u16) -> u64
 }
 
 // One row more.
-pub fn push_row(word: u64, out: &mut [u64], used: usize) -> Lowered
+pub fn push_row(code: u64, out: &mut [u64], used: usize) -> Lowered
     requires { ⌜ RowBuffer (now out) used ⌝ }
-    ensures { λ r. ⌜ Wrote (word ∷ []) used used (now (out .entry)) (now (out .exit)) r ⌝ }
+    ensures { λ r. ⌜ WroteRows (code ∷ []) used used (now (out .entry)) (now (out .exit)) r ⌝ }
 {
     if out.len() - used < 1 {
         return Lowered::Full;
     }
-    out[used] = word;
+    out[used] = code;
     let row = used as u16;
     let next = used + 1;
     Lowered::Top { row, used: next }

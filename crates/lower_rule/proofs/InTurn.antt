@@ -14,9 +14,9 @@ use Rattle.spec_tilco.specs.Inference.{Node}
 use Rattle.spec_tilco.specs.Lowering.{BTL, size, rowsOf, topOf, rowsAll, topsAll, lowered, lows}
 use Rattle.spec_tilco.proofs.Lists.{total-append, laid-append}
 use Rattle.spec_tilco.proofs.Rows.{length-rows, length-rowsAll}
-use Rattle.lower_rows.specs.Words.{word}
-use Rattle.lower_rows.specs.Writes.{Wrote, Lowers}
-use Rattle.lower_rule.specs.Rules.{Buffers, buffers, WentAll, LowersAll}
+use Rattle.lower_rows.specs.RowCodes.{rowCode}
+use Rattle.lower_rows.specs.RowWrites.{WroteRows, Lowers}
+use Rattle.lower_rule.specs.RuleRows.{Buffers, buffers, WentAll, LowersAll}
 use Rattle.lower_rows.specs.declared.words.Lowered.{Lowered}
 use Rattle.lower_rows.specs.declared.words.Lowered.the-variants.{Top, Full as NoRoom}
 use Rattle.lower_rule.specs.declared.rules.AllLowered.{AllLowered}
@@ -50,20 +50,20 @@ all-none b k B h = record {
 -- One formula was tried.
 module _ (c : BTL) (b : ℕ) (m m₁ : List ℕ) (k : ℕ) (ts : List ℕ) (r : Lowered) (w : Lowers c b m m₁ r) where
   pub one-full : r ≡ NoRoom → LowersAll (c ∷ []) b k (buffers m ts) (buffers m₁ ts) Full
-  unfolding LowersAll Lowers Wrote
+  unfolding LowersAll Lowers WroteRows
   one-full e =
       let h = rw e at w in
-      record { over = omega (arith, h .over, length-map (rowsOf c b) word, length-rows c b); long = h .long }
+      record { over = omega (arith, h .over, length-map (rowsOf c b) rowCode, length-rows c b); long = h .long }
 
   pub one-then : (row u : ℕ) → r ≡ Top row u → LowersAll (c ∷ []) b k (buffers m ts) (buffers m₁ (set ts k row)) (Next (k + 1) u)
-  unfolding LowersAll Lowers Wrote
+  unfolding LowersAll Lowers WroteRows
   one-then row u e =
       let h = rw e at w in
       record {
         tops = refl;
-        next = omega (arith, h .next, length-map (rowsOf c b) word, length-rows c b);
+        next = omega (arith, h .next, length-map (rowsOf c b) rowCode, length-rows c b);
         room = h .room;
-        rows = h .holds ∙ ap (λ (l : List Node). sets m b (map word l)) (sym (append-nil (rowsOf c b)));
+        rows = h .holds ∙ ap (λ (l : List Node). sets m b (map rowCode l)) (sym (append-nil (rowsOf c b)));
         holds = ap (set ts k) (h .top);
         long = h .long;
         wide = length-set ts k row;
@@ -91,12 +91,12 @@ module _ (cs ds : List BTL) (b k : ℕ) (B B₁ : Buffers) (r₁ : AllLowered) (
       wide = h .wide ∙ W .wide;
     }
       where
-        rows : sets (B₁ .rows) u (map word (rowsAll ds u)) ≡ sets (B .rows) b (map word (rowsAll (cs ++ ds) b))
+        rows : sets (B₁ .rows) u (map rowCode (rowsAll ds u)) ≡ sets (B .rows) b (map rowCode (rowsAll (cs ++ ds) b))
         rows =
-            let n : u ≡ b + length (map word (rowsAll cs b)) = omega (arith, W .next, length-map (rowsAll cs b) word, length-rowsAll cs b) in
-            ap₂ (λ (l : List ℕ) (i : ℕ). sets l i (map word (rowsAll ds u))) (W .rows) n
-            ∙ sets-append (B .rows) b (map word (rowsAll cs b)) (map word (rowsAll ds u))
-            ∙ ap (sets (B .rows) b) (sym (map-append word (rowsAll cs b) (rowsAll ds u)) ∙ ap (map word) (sym (laid-append size rowsOf cs ds b u (W .next))))
+            let n : u ≡ b + length (map rowCode (rowsAll cs b)) = omega (arith, W .next, length-map (rowsAll cs b) rowCode, length-rowsAll cs b) in
+            ap₂ (λ (l : List ℕ) (i : ℕ). sets l i (map rowCode (rowsAll ds u))) (W .rows) n
+            ∙ sets-append (B .rows) b (map rowCode (rowsAll cs b)) (map rowCode (rowsAll ds u))
+            ∙ ap (sets (B .rows) b) (sym (map-append rowCode (rowsAll cs b) (rowsAll ds u)) ∙ ap (map rowCode) (sym (laid-append size rowsOf cs ds b u (W .next))))
 
         tops : sets (B₁ .tops) at (topsAll ds u) ≡ sets (B .tops) k (topsAll (cs ++ ds) b)
         tops =

@@ -13,13 +13,13 @@ use Rattle.spec_tilco.specs.Inference.{Node, signal, notOf, gate, look, node}
 use Rattle.spec_tilco.specs.Lowering.{rowsAll, lows, program, rowCount}
 use Rattle.spec_tilco.proofs.Rows.{length-rowsAll}
 use Rattle.spec_tilco.proofs.Order.{Ordered, row-count, children-before}
-use Rattle.lower_rows.specs.Words.{rowAt, Blank}
-use Rattle.lower_rule.specs.Rules.{Buffers, LowersAll}
+use Rattle.lower_rows.specs.RowCodes.{rowAt, Blank}
+use Rattle.lower_rule.specs.RuleRows.{Buffers, LowersAll}
 use Rattle.lower_rule.specs.declared.rules.AllLowered.the-variants.{Next}
-use Rattle.lower_rows.proofs.Decoding.{Coded, row-at}
+use Rattle.lower_rows.proofs.Decoding.{Decodable, row-at}
 
 -- A row's code tells it, where its children stand before it.
-coded : (m r : ℕ) (n : Node) → Ordered m r n → r < codeNumbers → Coded n
+coded : (m r : ℕ) (n : Node) → Ordered m r n → r < codeNumbers → Decodable n
 coded m r signal o h = tt
 coded m r (notOf x) o h = omega arith
 coded m r (gate u a b) o h = omega arith
@@ -33,10 +33,10 @@ module _ (s : Sheet) (k : ℕ) (B B′ : Buffers) where
 
 module _ (s : Sheet) (declared : Declared s) where
   -- Past the last row the row code is a signal's.
-  row-coded : rowCount s ≤ mostRows → (r : ℕ) → Coded (node (program s) r)
+  row-coded : rowCount s ≤ mostRows → (r : ℕ) → Decodable (node (program s) r)
   row-coded few r =
       ⊎-elim (λ h. coded (signalRows s) r (node (program s) r) (children-before s declared r) (omega arith))
-      (λ h. subst Coded (sym (List·getD-eq-default (program s .rows) signal {n = r} h)) tt)
+      (λ h. subst Decodable (sym (List·getD-eq-default (program s .rows) signal {n = r} h)) tt)
       (lt-or-ge r (rowCount s))
 
   -- The buffer says each row, those of signals and those past the last too.

@@ -6,7 +6,7 @@ use Prim.Native.Nat.{ℕ, suc, _+_}
 use native.Mathlib.Omega.{arith}
 use lib.ListN.{length, length-append}
 use Rattle.spec_tilco.specs.Formula.{Written, Formula, hiddens, definings, spelled}
-use Rattle.read_arena.specs.Readings.{formAt, definingsAt, Held}
+use Rattle.read_arena.specs.NodeRules.{formAt, definingsAt, Held}
 
 -- One defining rule for each hidden signal.
 pub definings-length : (x : ℕ) (w : Written) → length (definings x w) ≡ hiddens w

@@ -8,9 +8,9 @@ ghost use mathlib.Core.List.{[], _∷_, _++_};
 ghost use Prim.Native.Nat.{_+_, _≤_, _<_};
 ghost use lib.ListN.{length};
 ghost use Rattle.spec_tilco.specs.Lowering.{lows};
-ghost use Rattle.read_arena.specs.Readings.{formAt, definingsAt, NodeIn, NodesIn};
-ghost use Rattle.lower_rows.specs.Writes.{RowBuffer};
-ghost use Rattle.lower_rule.specs.Rules.{buffers, RuleIn, wholeAt, LowersAll};
+ghost use Rattle.read_arena.specs.NodeRules.{formAt, definingsAt, NodeIn, NodesIn};
+ghost use Rattle.lower_rows.specs.RowWrites.{RowBuffer};
+ghost use Rattle.lower_rule.specs.RuleRows.{buffers, RuleIn, wholeAt, LowersAll};
 
 // The tops and rows in use after several formulas; or there is no room.
 pub enum AllLowered {

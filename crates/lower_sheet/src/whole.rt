@@ -6,10 +6,10 @@ use lower_rows::words::SIGNAL;
 use lower_rule::rules::AllLowered;
 use spec_limits::HIDDEN;
 ghost use lib.ListN.{length};
-ghost use Rattle.lower_rows.specs.Words.{Blank};
-ghost use Rattle.lower_rule.specs.Rules.{buffers};
+ghost use Rattle.lower_rows.specs.RowCodes.{Blank};
+ghost use Rattle.lower_rule.specs.RuleRows.{buffers};
 ghost use Rattle.lower_lines.specs.InTurn.{Legible, rulesAt};
-ghost use Rattle.lower_sheet.specs.Rules.{Lent, RulesStand};
+ghost use Rattle.lower_sheet.specs.SheetRows.{Lent, RulesStand};
 
 // Takes every row out of the buffer.
 fn blank_rows(out: &mut [u64])

@@ -10,7 +10,7 @@ use native.Mathlib.Omega.{arith}
 use lib.ListN.{length, getD}
 use Rattle.spec_limits.specs.Limits.{mostRows}
 use Rattle.read_bytes.specs.Read.Read.{got, refused as unread}
-use Rattle.read_names.specs.Words.{namesAt}
+use Rattle.read_names.specs.Spellings.{namesAt}
 use Rattle.spec_ticks.specs.Ticks.{Small}
 use Rattle.spec_tilco.specs.Inference.{Clash}
 use Rattle.spec_tilco.specs.Lowering.{program}
@@ -24,20 +24,20 @@ use Rattle.read_sheet.proofs.Accepted.{sheet-declared}
 use Rattle.read_readings.specs.Readings.{readings}
 use Rattle.read_readings.proofs.Bounds.{readings-within, puts-inside}
 use Rattle.read_readings.proofs.Outcomes.{Accepted-as}
-use Rattle.close_table.specs.Closes.{SettlesAll}
-use Rattle.close_list.specs.Items.{Roomy, per}
+use Rattle.close_table.specs.Closes.{ClosesWithTops}
+use Rattle.close_list.specs.Items.{ListFits, per}
 use Rattle.close_list.specs.Workable.{Closable}
-use Rattle.close_table.proofs.Outcomes.{settles-added}
+use Rattle.close_table.proofs.Outcomes.{closed-added}
 use Rattle.open_sheet.specs.Results.{accepted, refused}
-use Rattle.spec_operations.specs.Results.{gain}
-use Rattle.open_sheet.specs.Ready.{Ready}
-use Rattle.open_table.specs.Ready.{AtHand}
+use Rattle.spec_operations.specs.Gain.{gain}
+use Rattle.open_sheet.specs.OpenedSheet.{OpenedSheet}
+use Rattle.open_table.specs.OpenedTable.{OpenedTable}
 use Rattle.spec_operations.specs.Operations.{Adds}
 use Rattle.spec_operations.specs.Operations.Adds.{not-read, added}
 use Rattle.spec_operations.proofs.Opened.{known, to-contents, some-words, table-inside, some-window, table-length, signals-few}
 
-module _ {s T places B tops : List ℕ} {w t count : ℕ} (h : AtHand s T places B tops w t count) (n : ℕ) (e : n ≡ words w) where
-  abbrev k : Ready s places B tops w t count
+module _ {s T places B tops : List ℕ} {w t count : ℕ} (h : OpenedTable s T places B tops w t count) (n : ℕ) (e : n ≡ words w) where
+  abbrev k : OpenedSheet s places B tops w t count
   k = h .sheet
 
   abbrev c : Contents
@@ -47,15 +47,15 @@ module _ {s T places B tops : List ℕ} {w t count : ℕ} (h : AtHand s T places
   readings-refused r U {a} {p} f = not-read (h .table) (to-contents h n e (λ l v m. readings (namesAt s l) v r ≡ unread a p) (f .0)) (f .1)
 
   -- A list with a bit for each row, at each of m words, lists every item where a row has no more than m words.
-  list-fits : (m : ℕ) → n ≤ m → (D : List ℕ) → per mostRows * m ≤ length D → Roomy count n D
+  list-fits : (m : ℕ) → n ≤ m → (D : List ℕ) → per mostRows * m ≤ length D → ListFits count n D
   list-fits m f D l =
       let rows : per count ≤ per mostRows = omega (arith, signals-few h n e .2) in
       record { most = signals-few h n e .2; long = le-trans (mul-le-mul rows f) l }
 
   module _ (r T₁ : List ℕ) (a : Accepted-as (readings (namesAt s places) w r) n T T₁) where
-    pub settle-asks : (D : List ℕ) → per mostRows * mostWords ≤ length D
+    pub close-asks : (D : List ℕ) → per mostRows * mostWords ≤ length D
         → Closable count n w B D T₁ × ((t ≤ length tops) × ((i : ℕ) → i < t → getD tops i 0 < count))
-    settle-asks D l = (
+    close-asks D l = (
       record {
         coded = record { program = program (meant c); codes = k .codes };
         roomy = list-fits mostWords (some-words h n e .widest) D l;
@@ -65,12 +65,12 @@ module _ {s T places B tops : List ℕ} {w t count : ℕ} (h : AtHand s T places
       (k .few, λ i l. omega (arith, top-is-row (meant c) (sheet-declared s (known h n e .reads)) (getD tops i 0) (k .tops-are .given i l), k .rows)),
     )
 
-    module _ (U : List ℕ) (z : SettlesAll count B tops t w n T₁ U) where
+    module _ (U : List ℕ) (z : ClosesWithTops count B tops t w n T₁ U) where
       made : Added (meant c) T (a .marks) U
       made =
-          let y = to-contents h n e (λ p v m. SettlesAll count B tops t v m T₁ U) z (program (meant c)) (k .codes) (k .tops-are) in
+          let y = to-contents h n e (λ p v m. ClosesWithTops count B tops t v m T₁ U) z (program (meant c)) (k .codes) (k .tops-are) in
           let x = to-contents h n e (λ p v m. Puts m (a .marks) T T₁) (a .puts) in
-          added-from (meant c) T T₁ (a .marks) (x .size) (λ m i. x .exactly m .0 i) (λ m i. x .exactly m .1 i) (settles-added (meant c) T₁ U y)
+          added-from (meant c) T T₁ (a .marks) (x .size) (λ m i. x .exactly m .0 i) (λ m i. x .exactly m .1 i) (closed-added (meant c) T₁ U y)
 
       pub same-size : length U ≡ length T
       same-size = made .size

@@ -1,5 +1,5 @@
 // add: the readings are taken into the lent table, and the table is closed. Assumes nothing.
-use close_table::tops::settle;
+use close_table::tops::close_with_tops;
 use open_sheet::Opening;
 use open_table::open_table;
 use read_readings::whole::Outcome;
@@ -11,8 +11,8 @@ use table_facts::clash_in;
 use table_facts::count_facts;
 use table_marks::WORDS;
 use table_marks::words_of;
-ghost use Rattle.op_add.specs.Results.{addingSays};
-ghost use Rattle.open_table.specs.Ready.{AtHand};
+ghost use Rattle.op_add.specs.AddingSays.{addingSays};
+ghost use Rattle.open_table.specs.OpenedTable.{OpenedTable};
 ghost use Rattle.spec_operations.specs.Operations.{Adds};
 
 // The words of a list with a bit for each row, at each word of the widest window.
@@ -36,7 +36,7 @@ fn add_opened(
     readings: &[u8],
     table: &mut [u64],
 ) -> Adding
-    requires { ⌜ AtHand (now s) (now table) (now places) (now rows) (now tops) window k count ⌝ }
+    requires { ⌜ OpenedTable (now s) (now table) (now places) (now rows) (now tops) window k count ⌝ }
     ensures { λ r. ⌜ Adds (now (s .entry)) (now (readings .entry)) (now (table .entry)) (now (table .exit)) (addingSays r) ⌝ }
 {
     let n = words_of(window);
@@ -46,7 +46,7 @@ fn add_opened(
     match r {
         Outcome::Accepted => {
             let mut todo = [0u64; ITEM_WORDS];
-            settle(rows, count, tops, k, n, window, &mut todo, table);
+            close_with_tops(rows, count, tops, k, n, window, &mut todo, table);
             let after = count_facts(table, n, signals);
             let clash = clash_in(table, count, n);
             let new = after - before;

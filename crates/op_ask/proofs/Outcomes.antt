@@ -8,14 +8,14 @@ use native.Mathlib.Omega.{arith}
 use lib.ListN.{length}
 use Rattle.spec_tilco.specs.Table.{words, Stands, Answer, Asked}
 use Rattle.open_sheet.specs.Results.{accepted, refused}
-use Rattle.open_sheet.specs.Ready.{Ready}
-use Rattle.open_table.specs.Ready.{AtHand}
+use Rattle.open_sheet.specs.OpenedSheet.{OpenedSheet}
+use Rattle.open_table.specs.OpenedTable.{OpenedTable}
 use Rattle.spec_operations.specs.Operations.{Asks}
 use Rattle.spec_operations.specs.Operations.Asks.{out-of-range, asked}
 use Rattle.spec_operations.proofs.Opened.{to-contents, some-words, signals-fit}
 
-module _ {s T places B tops : List ℕ} {w t count : ℕ} (h : AtHand s T places B tops w t count) (n : ℕ) (e : n ≡ words w) where
-  abbrev k : Ready s places B tops w t count
+module _ {s T places B tops : List ℕ} {w t count : ℕ} (h : OpenedTable s T places B tops w t count) (n : ℕ) (e : n ≡ words w) where
+  abbrev k : OpenedSheet s places B tops w t count
   k = h .sheet
 
   pub signal-past : (x y : ℕ) → length places ≤ x → Asks s T x y (refused 17 0)

@@ -8,7 +8,7 @@ use table_facts::clash_in;
 use table_marks::Value;
 use table_marks::value_at;
 use table_marks::words_of;
-ghost use Rattle.op_ask.specs.Results.{askingSays};
+ghost use Rattle.op_ask.specs.AskingSays.{askingSays};
 ghost use Rattle.spec_operations.specs.Operations.{Asks};
 
 // The value of the cell, or a refusal's number and place.

@@ -5,7 +5,7 @@ use spec_limits::ROWS;
 use spec_limits::SIGNALS;
 use spec_limits::TOPS;
 ghost use mathlib.Core.Path.{_≡_};
-ghost use Rattle.op_check.specs.Results.{checkingSays};
+ghost use Rattle.op_check.specs.CheckingSays.{checkingSays};
 ghost use Rattle.spec_operations.specs.Operations.{checked};
 
 // The row count, or a refusal's number and place.

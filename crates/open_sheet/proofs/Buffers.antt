@@ -4,12 +4,12 @@ use mathlib.Core.Path.{_≡_, refl}
 use Prim.Native.Nat.{ℕ, zero, suc}
 use lib.ListN.{replicate}
 use Rattle.spec_limits.specs.Limits.{mostSignals, mostRows, mostTops}
-use Rattle.lower_rows.specs.Words.{packed, word, Blank}
+use Rattle.lower_rows.specs.RowCodes.{packed, rowCode, Blank}
 use Rattle.open_sheet.specs.Buffers.{Fresh}
 
 -- A buffer of signals' words has no rows.
 no-rows : (n : ℕ) → Blank (replicate n 8)
-unfolding word packed
+unfolding rowCode packed
 no-rows zero i = refl
 no-rows (suc n) zero = refl
 no-rows (suc n) (suc i) = no-rows n i

@@ -12,7 +12,7 @@ use lib.ListN.{length, getD, take, drop, List·getD-append}
 use lib.Seq.{sets, sets-eq, length-take-le}
 use Rattle.spec_limits.specs.Limits.{mostBytes, mostSignals, mostHidden, mostRows}
 use Rattle.read_bytes.specs.Read.Read.{got, refused as unread}
-use Rattle.read_names.specs.Words.{namesAt}
+use Rattle.read_names.specs.Spellings.{namesAt}
 use Rattle.spec_tilco.specs.Lists.{total}
 use Rattle.spec_tilco.specs.Formula.{stepOf, hiddens, Sheet, signalRows, formulas}
 use Rattle.spec_tilco.specs.Inference.{Node, signal, notOf, gate, look, node}
@@ -20,7 +20,7 @@ use Rattle.spec_tilco.specs.Lowering.{lows, topsAll, program, rowCount}
 use Rattle.spec_tilco.proofs.Order.{Ordered, LooksWithin, row-count, children-before, looks-within}
 use Rattle.read_head.specs.SheetHead.{headOf, head, Sizes, Headed}
 use Rattle.read_sheet.specs.Sheet.{rules, Contents, contents, sheetOf, meant, near}
-use Rattle.read_sheet.specs.Reading.{Rules}
+use Rattle.read_sheet.specs.RuleAnswers.{AllRules}
 use Rattle.read_head.specs.declared.Heading.{Heading}
 use Rattle.read_head.specs.declared.Heading.the-variants as heading
 use Rattle.read_sheet.proofs.Answers.{when-headed}
@@ -28,13 +28,13 @@ use Rattle.read_sheet.proofs.Accepted.{sheet-fits, sheet-declared}
 use Rattle.read_head.proofs.Heads.{head-past}
 use Rattle.read_sheet.proofs.Ruled.{rules-many}
 use Rattle.read_sheet.proofs.Wholes.{refused-rule, refused-more, sheet-is}
-use Rattle.lower_rule.specs.Rules.{Buffers, buffers, LowersAll, allLoweredSays}
+use Rattle.lower_rule.specs.RuleRows.{Buffers, buffers, LowersAll, allLoweredSays}
 use Rattle.lower_rule.specs.declared.rules.AllLowered.{AllLowered}
 use Rattle.lower_rule.specs.declared.rules.AllLowered.the-variants.{Next}
 use Rattle.lower_rule.proofs.InTurn.{tops-length, went-all}
 use Rattle.lower_rule.proofs.Sheets.{sheet-used, sheet-row}
 use Rattle.lower_lines.specs.InTurn.{Legible}
-use Rattle.lower_sheet.specs.Rules.{InPlace, RulesStand}
+use Rattle.lower_sheet.specs.SheetRows.{InPlace, RulesStand}
 use Rattle.lower_lines.specs.declared.RuleLines.{RuleLines}
 use Rattle.lower_lines.specs.declared.RuleLines.the-variants as lines
 use Rattle.lower_sheet.proofs.Standing.{tops-many, when-placed, when-over, when-stand, when-no-rules}
@@ -42,8 +42,8 @@ use Rattle.close_rules.specs.Codes.{Fine, TopsAre}
 use Rattle.open_sheet.specs.Results.{accepted, refused}
 use Rattle.open_sheet.specs.declared.Opening.the-variants as opening
 use Rattle.open_sheet.specs.SheetIn.{fits, sized, sheetIn}
-use Rattle.open_sheet.specs.Ready.{Ready, SheetOpens}
-use Rattle.open_sheet.specs.Ready.SheetOpens.{ready, refused-at}
+use Rattle.open_sheet.specs.OpenedSheet.{OpenedSheet, SheetOpens}
+use Rattle.open_sheet.specs.OpenedSheet.SheetOpens.{ready, refused-at}
 
 -- ---- what the text holds
 
@@ -137,7 +137,7 @@ module _ {s T : List ℕ} {w n m p : ℕ} (o : Begun s T w n m p) where
     rule-refused e = refused-at (in-refused s (refused-rule s (o .short) (o .head-is) (when-no-rules x e)))
 
     module _ {h q : ℕ} {l : AllLowered} (e : r ≡ lines.Read h q l) where
-      abbrev found : Rules (rules (namesAt s places) s m p) h q
+      abbrev found : AllRules (rules (namesAt s places) s m p) h q
       found = when-stand x e .0
 
       -- bytes follow the last line
@@ -156,7 +156,7 @@ module _ {s T : List ℕ} {w n m p : ℕ} (o : Begun s T w n m p) where
         not-fitting f =
             refused-at (in-over s reads (⊎-elim (λ i. inl (omega (arith, i, found .hidden))) (λ i. inr (omega (arith, i, found .hidden, row-count (meant held)))) (when-over (when-stand x e .1) f)))
 
-        readied : (t count : ℕ) → l ≡ Next t count → Ready s places B ts w t count
+        readied : (t count : ℕ) → l ≡ Next t count → OpenedSheet s places B ts w t count
         readied t count f =
             let a : InPlace (held .rules) (length places) h t count (buffers B ts) = when-placed (when-stand x e .1) (ap allLoweredSays f) in
             let few : total hiddens (held .rules) ≤ mostHidden = omega (arith, a .few, found .hidden) in

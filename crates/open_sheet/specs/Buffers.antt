@@ -5,7 +5,7 @@ use mathlib.Core.List.{List}
 use lib.ListN.{length}
 use Prim.Native.Nat.{ℕ}
 use Rattle.spec_limits.specs.Limits.{mostSignals}
-use Rattle.lower_sheet.specs.Rules.{Lent}
+use Rattle.lower_sheet.specs.SheetRows.{Lent}
 
 -- There is a place for each name, and room for every row and top, with no row in it yet.
 pub record Fresh (places B tops : List ℕ) : Type 0 where

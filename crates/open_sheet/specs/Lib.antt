@@ -2,4 +2,4 @@
 pub mod Results
 pub mod SheetIn
 pub mod Buffers
-pub mod Ready
+pub mod OpenedSheet

@@ -8,7 +8,7 @@ use Rattle.spec_limits.specs.Limits.{mostHidden, mostRows}
 use Rattle.read_bytes.specs.Read.{Read}
 use Rattle.read_bytes.specs.Read.Read.{got, refused as unread}
 use Rattle.read_bytes.specs.Bytes.{pick}
-use Rattle.read_names.specs.Words.{namesAt}
+use Rattle.read_names.specs.Spellings.{namesAt}
 use Rattle.spec_ticks.specs.Ticks.{empty}
 use Rattle.spec_tilco.specs.Lists.{total}
 use Rattle.spec_tilco.specs.Formula.{hiddens, Sheet}

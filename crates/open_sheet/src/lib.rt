@@ -12,7 +12,7 @@ ghost use Rattle.read_bytes.specs.Read.Read.{refused};
 ghost use Rattle.read_head.specs.SheetHead.{headSays};
 ghost use Rattle.open_sheet.specs.declared.Opening.the-variants.{Refused};
 ghost use Rattle.open_sheet.specs.Buffers.{Fresh};
-ghost use Rattle.open_sheet.specs.Ready.{SheetOpens};
+ghost use Rattle.open_sheet.specs.OpenedSheet.{SheetOpens};
 
 // An accepted sheet: its window, and how many signals, top rows and rows it has. Or a refusal's number and place.
 pub enum Opening {

@@ -26,12 +26,12 @@ use Rattle.open_sheet.specs.declared.Opening.{Opening}
 use Rattle.open_sheet.specs.declared.Opening.the-variants as opening
 use Rattle.open_sheet.specs.Results.{accepted, refused}
 use Rattle.open_sheet.specs.SheetIn.{fits, sized, sheetIn}
-use Rattle.open_table.specs.Opening.{Opens}
-use Rattle.open_sheet.specs.Ready.{Ready, SheetOpens}
-use Rattle.open_table.specs.Ready.{AtHand, TableOpens}
-use Rattle.open_table.specs.Opening.Opens.{both, not-the-sheet, not-the-length, not-inside}
-use Rattle.open_sheet.specs.Ready.SheetOpens.{ready, refused-at}
-use Rattle.open_table.specs.Ready.TableOpens.{ready as at-hand, refused-at as not-opened}
+use Rattle.open_table.specs.Opens.{Opens}
+use Rattle.open_sheet.specs.OpenedSheet.{OpenedSheet, SheetOpens}
+use Rattle.open_table.specs.OpenedTable.{OpenedTable, TableOpens}
+use Rattle.open_table.specs.Opens.Opens.{both, not-the-sheet, not-the-length, not-inside}
+use Rattle.open_sheet.specs.OpenedSheet.SheetOpens.{ready, refused-at}
+use Rattle.open_table.specs.OpenedTable.TableOpens.{ready as at-hand, refused-at as not-opened}
 
 pub accepted-one : {A : Type 0} {x y : A} → accepted x ≡ accepted y → x ≡ y
 accepted-one e = cc
@@ -75,22 +75,22 @@ module _ (s : List ℕ) {k : Contents} where
 
 -- ---- the sheet's answer, case by case
 
-of-ready : {s places B tops : List ℕ} {w n t count : ℕ} → SheetOpens s places B tops (opening.Sheet w n t count) → (n ≤ length places) × Ready s (take n places) B tops w t count
+of-ready : {s places B tops : List ℕ} {w n t count : ℕ} → SheetOpens s places B tops (opening.Sheet w n t count) → (n ≤ length places) × OpenedSheet s (take n places) B tops w t count
 of-ready (ready l k) = (l, k)
 
 of-refused : {s places B tops : List ℕ} {n p : ℕ} → SheetOpens s places B tops (opening.Refused n p) → sheetIn s ≡ refused n p
 of-refused (refused-at e) = e
 
 module _ {s places B tops : List ℕ} {r : Opening} (x : SheetOpens s places B tops r) where
-  pub when-ready : {w n t count : ℕ} → r ≡ opening.Sheet w n t count → (n ≤ length places) × Ready s (take n places) B tops w t count
-  when-ready e = of-ready (subst (SheetOpens s places B tops) e x)
+  pub when-sheet : {w n t count : ℕ} → r ≡ opening.Sheet w n t count → (n ≤ length places) × OpenedSheet s (take n places) B tops w t count
+  when-sheet e = of-ready (subst (SheetOpens s places B tops) e x)
 
   pub when-refused : {n p : ℕ} → r ≡ opening.Refused n p → sheetIn s ≡ refused n p
   when-refused e = of-refused (subst (SheetOpens s places B tops) e x)
 
 -- ---- the numbers of a sheet that stands ready
 
-module _ {s places B tops : List ℕ} {w t count : ℕ} (k : Ready s places B tops w t count) where
+module _ {s places B tops : List ℕ} {w t count : ℕ} (k : OpenedSheet s places B tops w t count) where
   abbrev known : InSheet s (k .contents)
   known = in-sheet s (k .holds)
 
@@ -119,7 +119,7 @@ table-most {count} c h = let r : 2 * count ≤ 2 * mostRows = omega arith in mul
 
 -- ---- the table beside it
 
-module _ {s places B tops : List ℕ} {w t count : ℕ} (k : Ready s places B tops w t count) (T : List ℕ) (n : ℕ) (e : n ≡ words w) where
+module _ {s places B tops : List ℕ} {w t count : ℕ} (k : OpenedSheet s places B tops w t count) (T : List ℕ) (n : ℕ) (e : n ≡ words w) where
   same-words : 2 * count * n ≡ tableWords (meant (k .contents))
   same-words =
       ap (λ (c : ℕ). 2 * c * n) (k .rows) ∙ ap (λ (m : ℕ). 2 * rowCount (meant (k .contents)) * m) (e ∙ ap words (k .window-is))
@@ -147,15 +147,15 @@ sheet-refused {s} {places} {B} {tops} T x e = subst (TableOpens s T places B top
 
 -- ---- the answer of both, case by case
 
-of-hand : {s T places B tops : List ℕ} {w n t count : ℕ} → TableOpens s T places B tops (opening.Sheet w n t count) → (n ≤ length places) × AtHand s T (take n places) B tops w t count
+of-hand : {s T places B tops : List ℕ} {w n t count : ℕ} → TableOpens s T places B tops (opening.Sheet w n t count) → (n ≤ length places) × OpenedTable s T (take n places) B tops w t count
 of-hand (at-hand l k) = (l, k)
 
 of-not : {s T places B tops : List ℕ} {n p : ℕ} → TableOpens s T places B tops (opening.Refused n p) → Opens s T (refused n p)
 of-not (not-opened o) = o
 
 module _ {s T places B tops : List ℕ} {r : Opening} (x : TableOpens s T places B tops r) where
-  pub when-hand : {w n t count : ℕ} → r ≡ opening.Sheet w n t count → (n ≤ length places) × AtHand s T (take n places) B tops w t count
-  when-hand e = of-hand (subst (TableOpens s T places B tops) e x)
+  pub when-opened : {w n t count : ℕ} → r ≡ opening.Sheet w n t count → (n ≤ length places) × OpenedTable s T (take n places) B tops w t count
+  when-opened e = of-hand (subst (TableOpens s T places B tops) e x)
 
-  pub when-not : {n p : ℕ} → r ≡ opening.Refused n p → Opens s T (refused n p)
-  when-not e = of-not (subst (TableOpens s T places B tops) e x)
+  pub when-not-opened : {n p : ℕ} → r ≡ opening.Refused n p → Opens s T (refused n p)
+  when-not-opened e = of-not (subst (TableOpens s T places B tops) e x)

@@ -1,3 +1,3 @@
 -- The definitions that the contracts cite, lowest layer first; `Ready` serves the functions.
-pub mod Opening
-pub mod Ready
+pub mod Opens
+pub mod OpenedTable

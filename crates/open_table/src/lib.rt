@@ -5,7 +5,7 @@ use open_sheet::open_sheet;
 use table_facts::inside_window;
 use table_marks::words_of;
 ghost use Rattle.open_sheet.specs.Buffers.{Fresh};
-ghost use Rattle.open_table.specs.Ready.{TableOpens};
+ghost use Rattle.open_table.specs.OpenedTable.{TableOpens};
 
 // Opens the sheet, and compares the lent table with it.
 pub fn open_table(

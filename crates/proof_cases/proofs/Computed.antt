@@ -17,7 +17,7 @@ use Rattle.spec_ticks.proofs.Tables.{empty-small, empty-bare}
 use Rattle.spec_tilco.specs.Formula.{Sheet}
 use Rattle.spec_tilco.specs.Inference.{Mark, mark, Marks, start, _or_, Clash}
 use Rattle.spec_tilco.specs.Lowering.{program, rowCount}
-use Rattle.spec_tilco.specs.Table.{words, Standing, tableWords, Taken, Leads, Added, Answer, Unsettled, True, False, Contradiction, Asked, clashes, holds, fails, neither}
+use Rattle.spec_tilco.specs.Table.{words, Standing, tableWords, ReadMarks, Leads, Added, Answer, Unsettled, True, False, Contradiction, Asked, clashes, holds, fails, neither}
 use Rattle.spec_tilco.proofs.OneWord.{one-word, table-length, standing-bit}
 use Rattle.proof_cases.proofs.ComputedClosing.{and-left, and-right, both-so, allOf, allOf-all, someBelow, some-found, found-some, Plain, stands, stands-is, is-stands, closing, closed, closing-derived, inside-word, closed-exactly}
 
@@ -148,16 +148,16 @@ module _ (s : Sheet) (R : List Mark) where
     none : (m : Mark) → Standing s (blank s) m → ⊥
     none (mark x t v) i = empty-bare 64 (words (s .window)) (tableWords s) x t v i
 
-    only : (m : Mark) → Plain U m → Leads s (_or_ (Standing s (blank s)) (Taken R)) m
+    only : (m : Mark) → Plain U m → Leads s (_or_ (Standing s (blank s)) (ReadMarks R)) m
     only =
-        closing-derived (program s) (s .window) (_or_ (Standing s (blank s)) (Taken R)) enough R (blank s) (λ m i. start (inr i))
+        closing-derived (program s) (s .window) (_or_ (Standing s (blank s)) (ReadMarks R)) enough R (blank s) (λ m i. start (inr i))
         (λ m i. absurd (plain-none m i))
       where
         plain-none : (m : Mark) → Plain (blank s) m → ⊥
         plain-none (mark x t v) i =
             none (mark x t v) (standing-bit s some most (blank s) x t (block x v) v (has-below (getD (blank s) (block x v) 0) 64 t (empty-small 64 (tableWords s) (block x v)) i) refl .1 i)
 
-    begun : ((m : Mark) → Taken R m → Plain U m) → (m : Mark) → _or_ (Standing s (blank s)) (Taken R) m → Plain U m
+    begun : ((m : Mark) → ReadMarks R m → Plain U m) → (m : Mark) → _or_ (Standing s (blank s)) (ReadMarks R) m → Plain U m
     begun f m (inl i) = absurd (none m i)
     begun f m (inr i) = f m i
 
@@ -165,7 +165,7 @@ module _ (s : Sheet) (R : List Mark) where
     added = record {
       size = length-is ∙ sym (length-replicate {A = ℕ} (tableWords s) 0);
       small = small;
-      exactly = λ m. let e = closed-exactly (program s) (s .window) U inside R (_or_ (Standing s (blank s)) (Taken R)) closed-test only begun m in
+      exactly = λ m. let e = closed-exactly (program s) (s .window) U inside R (_or_ (Standing s (blank s)) (ReadMarks R)) closed-test only begun m in
           (λ i. e .0 (standing-plain m .0 i), λ d. standing-plain m .1 (e .1 d));
     }
 

@@ -11,7 +11,7 @@ use lib.ListN.{length, length-replicate}
 use Rattle.spec_ticks.proofs.Tables.{empty-bare, empty-tally}
 use Rattle.read_bytes.specs.Read.{Read}
 use Rattle.read_bytes.specs.Read.Read.{got, refused as unread}
-use Rattle.read_names.specs.Words.{sameText}
+use Rattle.read_names.specs.Spellings.{sameText}
 use Rattle.read_names.proofs.Names.{same-text}
 use Rattle.spec_tilco.specs.Formula.{Sheet}
 use Rattle.spec_tilco.specs.Inference.{Mark}
@@ -21,10 +21,10 @@ use Rattle.read_sheet.specs.Sheet.{Contents, meant}
 use Rattle.read_readings.specs.Readings.{readings}
 use Rattle.list_table.specs.Listing.{listingText}
 use Rattle.open_sheet.specs.Results.{Result, accepted, refused}
-use Rattle.spec_operations.specs.Results.{gain}
+use Rattle.spec_operations.specs.Gain.{gain}
 use Rattle.open_sheet.specs.SheetIn.{sheetIn, namesIn, blank}
-use Rattle.open_table.specs.Opening.{Opens}
-use Rattle.open_table.specs.Opening.Opens.{both}
+use Rattle.open_table.specs.Opens.{Opens}
+use Rattle.open_table.specs.Opens.Opens.{both}
 use Rattle.spec_operations.specs.Operations.{Adds}
 use Rattle.spec_operations.specs.Operations.Adds.{added}
 use Rattle.list_settled.specs.Prints.{Prints}

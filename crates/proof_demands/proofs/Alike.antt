@@ -4,7 +4,7 @@ use mathlib.Core.Path.{_≡_, refl, sym, ap, _∙_}
 use mathlib.Core.List.{List, List·Permᴰ, Permᴰ·symm}
 use Prim.Native.Nat.{ℕ}
 use native.Mathlib.Omega.{arith}
-use Rattle.read_names.specs.Words.{namesAt}
+use Rattle.read_names.specs.Spellings.{namesAt}
 use Rattle.read_bytes.proofs.Answers.{same-value}
 use lib.ListN.{length}
 use Rattle.spec_tilco.specs.Formula.{hiddens, Sheet, withRules}

@@ -18,10 +18,10 @@ use Rattle.spec_tilco.specs.Table.{words, Stands, Standing, tableWords, factsOf
 use Rattle.read_sheet.specs.Sheet.{Contents, meant}
 use Rattle.read_readings.specs.Readings.{readings}
 use Rattle.open_sheet.specs.Results.{Result, accepted, refused}
-use Rattle.spec_operations.specs.Results.{Gain, gain}
+use Rattle.spec_operations.specs.Gain.{Gain, gain}
 use Rattle.open_sheet.specs.SheetIn.{sheetIn, namesIn, blank}
-use Rattle.open_table.specs.Opening.{Opens}
-use Rattle.open_table.specs.Opening.Opens.{both, not-the-sheet, not-the-length, not-inside}
+use Rattle.open_table.specs.Opens.{Opens}
+use Rattle.open_table.specs.Opens.Opens.{both, not-the-sheet, not-the-length, not-inside}
 use Rattle.spec_operations.specs.Operations.{counted, Adds, Asks}
 use Rattle.spec_operations.specs.Operations.Adds.{not-opened, not-read, added}
 use Rattle.spec_operations.specs.Operations.Asks.{not-opened as not-asked, out-of-range, asked}

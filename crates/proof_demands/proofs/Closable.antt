@@ -18,13 +18,13 @@ use Rattle.spec_tilco.specs.Lists.{All}
 use Rattle.spec_tilco.specs.Formula.{Sheet, signalRows, Declared}
 use Rattle.spec_tilco.specs.Inference.{Node, signal, notOf, gate, look, node, Mark, mark, Marks, One, down-left, down-right, up-left, up-right, look-down, look-up, not-down, not-up, Two, up-both, rest-right, rest-left, start, top, one, two, _or_}
 use Rattle.spec_tilco.specs.Lowering.{program, rowCount}
-use Rattle.spec_tilco.specs.Table.{words, Stands, Standing, tableWords, Inside, Taken, Reading, Leads, Added}
+use Rattle.spec_tilco.specs.Table.{words, Stands, Standing, tableWords, Inside, ReadMarks, InRange, Leads, Added}
 use Rattle.spec_tilco.proofs.Lists.{all-at}
 use Rattle.spec_tilco.proofs.Derives.{stays-inside}
 use Rattle.spec_tilco.proofs.Order.{Ordered, row-count, children-before, top-is-row}
 use Rattle.table_marks.proofs.Marks.{puts-word}
 use Rattle.table_marks.specs.Puts.{Puts}
-use Rattle.table_words.specs.Gains.{room}
+use Rattle.table_words.specs.WordTicks.{room}
 use Rattle.table_words.proofs.Gaining.{joins-some}
 use Rattle.proof_demands.proofs.Deciding.{stands-at}
 use Rattle.proof_demands.proofs.Missing.{Missing, closed-or-missing}
@@ -145,20 +145,20 @@ covers W = omega arith
 record Toward (s : Sheet) (T : List ℕ) (R : List Mark) (U : List ℕ) : Type 0 where
   size : length U ≡ length T
   small : Small 64 U
-  only : (m : Mark) → Standing s U m → Leads s (_or_ (Standing s T) (Taken R)) m
+  only : (m : Mark) → Standing s U m → Leads s (_or_ (Standing s T) (ReadMarks R)) m
   kept : (m : Mark) → Standing s T m → Standing s U m
 
-module _ (s : Sheet) (declared : Declared s) (T : List ℕ) (R : List Mark) (long : length T ≡ tableWords s) (in-window : Inside (s .window) (Standing s T)) (read : All (Reading s) R) where
+module _ (s : Sheet) (declared : Declared s) (T : List ℕ) (R : List Mark) (long : length T ≡ tableWords s) (in-window : Inside (s .window) (Standing s T)) (read : All (InRange s) R) where
   abbrev S : Marks
-  S = _or_ (Standing s T) (Taken R)
+  S = _or_ (Standing s T) (ReadMarks R)
 
-  low : (m : Mark) → _or_ (Standing s T) (Taken R) m → Low (rowCount s) m
+  low : (m : Mark) → _or_ (Standing s T) (ReadMarks R) m → Low (rowCount s) m
   low m (inl i) = stands-low (words (s .window)) (rowCount s) T long m i
-  low (mark x t v) (inr i) = omega (arith, row-count s, all-at (Reading s) R read (mark x t v) i .0)
+  low (mark x t v) (inr i) = omega (arith, row-count s, all-at (InRange s) R read (mark x t v) i .0)
 
   begun : Inside (s .window) S
   begun r t v (inl i) = in-window r t v i
-  begun r t v (inr i) = all-at (Reading s) R read (mark r t v) i .1
+  begun r t v (inr i) = all-at (InRange s) R read (mark r t v) i .1
 
   -- The missing mark put.
   nearer : (U : List ℕ) → Toward s T R U → (m : Mark) → Leads s S m → (Standing s U m → ⊥) → (X : List ℕ) × Toward s T R X × (room X < room U)

@@ -11,7 +11,7 @@ use Rattle.read_bytes.specs.Read.Read.{got}
 use Rattle.read_bytes.proofs.Answers.{not-both}
 use Rattle.spec_tilco.specs.Lists.{total}
 use Rattle.spec_tilco.specs.Inference.{Mark}
-use Rattle.spec_tilco.specs.Table.{factsOf, Taken}
+use Rattle.spec_tilco.specs.Table.{factsOf, ReadMarks}
 use Rattle.spec_tilco.specs.Calls.{Some}
 use Rattle.read_sheet.specs.Sheet.{Contents, meant}
 use Rattle.read_readings.specs.Readings.{readings}
@@ -23,8 +23,8 @@ use Rattle.spec_grammar.proofs.ReadingLines.{readings-accepted}
 use Rattle.spec_grammar.proofs.Prefixes.{reached-narrow}
 use Rattle.open_sheet.specs.Results.{Result, accepted, refused}
 use Rattle.open_sheet.specs.SheetIn.{sheetIn, namesIn, blank}
-use Rattle.open_table.specs.Opening.{Opens}
-use Rattle.spec_operations.specs.Results.{Gain}
+use Rattle.open_table.specs.Opens.{Opens}
+use Rattle.spec_operations.specs.Gain.{Gain}
 use Rattle.spec_operations.specs.Operations.{Adds}
 use Rattle.spec_operations.specs.Operations.Adds.{not-opened, not-read}
 use Rattle.proof_demands.specs.Refusals.{SheetAccepted, ReadingsAccepted}
@@ -170,8 +170,8 @@ module _ {s R : List ℕ} {k : Contents} {ms : List Mark} {parts : List (List �
         joined : marksIn s k parts ≡ marksIn s k (R ∷ [])
         joined = marks-of-all s k (all-parts y c .1) ∙ all-parts y c .2 ∙ sym (append-nil ms) ∙ sym (marks-of-all s k whole)
 
-        same : (m : Mark) → Taken (marksIn s k (left .texts)) m ↔ Taken (marksIn s k (R ∷ [])) m
+        same : (m : Mark) → ReadMarks (marksIn s k (left .texts)) m ↔ ReadMarks (marksIn s k (R ∷ [])) m
         same m = (
-          λ j. subst (λ (l : List Mark). Taken l m) joined (marks-among s k (left .texts) parts (left .within) m j),
-          λ j. marks-among s k parts (left .texts) among m (subst (λ (l : List Mark). Taken l m) (sym joined) j),
+          λ j. subst (λ (l : List Mark). ReadMarks l m) joined (marks-among s k (left .texts) parts (left .within) m j),
+          λ j. marks-among s k parts (left .texts) among m (subst (λ (l : List Mark). ReadMarks l m) (sym joined) j),
         )

@@ -14,13 +14,13 @@ use Rattle.spec_tilco.specs.Lists.{total}
 use Rattle.spec_tilco.specs.Formula.{Formula, defining}
 use Rattle.spec_tilco.specs.Inference.{Mark, _or_}
 use Rattle.spec_tilco.specs.Lowering.{rowCount}
-use Rattle.spec_tilco.specs.Meaning.{History, value, moved, Obeys}
-use Rattle.spec_tilco.specs.Table.{Standing, tableWords, factsOf, Taken, Leads, Answer, Contradiction, Asked}
+use Rattle.spec_tilco.specs.Meaning.{History, value, atOffset, Obeys}
+use Rattle.spec_tilco.specs.Table.{Standing, tableWords, factsOf, ReadMarks, Leads, Answer, Contradiction, Asked}
 use Rattle.spec_tilco.proofs.Values.{always-means, sometime-means, since-means, until-means}
 use Rattle.read_sheet.specs.Sheet.{Contents, meant, sheetText}
 use Rattle.open_sheet.specs.Results.{Result, accepted, refused}
 use Rattle.open_sheet.specs.SheetIn.{blank}
-use Rattle.spec_operations.specs.Results.{Gain, gain}
+use Rattle.spec_operations.specs.Gain.{Gain, gain}
 use Rattle.spec_operations.specs.Operations.{checked, Adds, Asks}
 use Rattle.spec_operations.specs.Operations.Adds.{added}
 use Rattle.list_settled.specs.Prints.{Prints}
@@ -81,8 +81,8 @@ demand-1 = record {
 
 -- What the signs of time mean: @ at every whole number of the interval, ? at one, and since and until by their recursion (004, section 4.1).
 pub record TimeMeans : Type 0 where
-  pub always : (h : History) (f : Formula) (lo n : ℕ) (t : ℤ) → (value h (Formula.time true lo n f) t ≡ true) ↔ ((j : ℕ) → j ≤ n → value h f (moved t (lo + j)) ≡ true)
-  pub sometime : (h : History) (f : Formula) (lo n : ℕ) (t : ℤ) → (value h (Formula.time false lo n f) t ≡ true) ↔ ((j : ℕ) × (j ≤ n) × (value h f (moved t (lo + j)) ≡ true))
+  pub always : (h : History) (f : Formula) (lo n : ℕ) (t : ℤ) → (value h (Formula.time true lo n f) t ≡ true) ↔ ((j : ℕ) → j ≤ n → value h f (atOffset t (lo + j)) ≡ true)
+  pub sometime : (h : History) (f : Formula) (lo n : ℕ) (t : ℤ) → (value h (Formula.time false lo n f) t ≡ true) ↔ ((j : ℕ) × (j ≤ n) × (value h f (atOffset t (lo + j)) ≡ true))
   pub since : (h : History) (x : ℕ) (f g : Formula) (t : ℤ) → value h (defining true x f g) t ≡ true → h x t ≡ value h f t || (value h g t && h x (t -ℤ pos 1))
   pub until : (h : History) (x : ℕ) (f g : Formula) (t : ℤ) → value h (defining false x f g) t ≡ true → h x t ≡ value h f t || (value h g t && h x (t +ℤ pos 1))
 
@@ -92,7 +92,7 @@ pub record Led (s r T U : List ℕ) : Type 0 where
   pub marks : List Mark
   pub taken : TakenUp s T contents
   pub reads : ReadingsAccepted s contents r marks
-  pub exactly : (m : Mark) → Standing (meant contents) U m ↔ Leads (meant contents) (_or_ (Standing (meant contents) T) (Taken marks)) m
+  pub exactly : (m : Mark) → Standing (meant contents) U m ↔ Leads (meant contents) (_or_ (Standing (meant contents) T) (ReadMarks marks)) m
 
 pub record Demand2 : Type 0 where
   -- "A rule means what the TILCO papers say, as the build paper condenses them": `value` and `Obeys` of tilco/specs/Meaning.antt, of which this is read back.

@@ -8,13 +8,13 @@ use lib.IntN.{pos}
 use Rattle.spec_tilco.specs.Lists.{All}
 use Rattle.spec_tilco.specs.Inference.{mark, Clash}
 use Rattle.spec_tilco.specs.Meaning.{History, Obeys}
-use Rattle.spec_tilco.specs.Table.{Standing, tableWords, Reading, Agrees, Answer, Contradiction, Asked, clashes, holds, fails}
+use Rattle.spec_tilco.specs.Table.{Standing, tableWords, InRange, Agrees, Answer, Contradiction, Asked, clashes, holds, fails}
 use Rattle.spec_tilco.proofs.Lists.{all-of}
 use Rattle.spec_tilco.proofs.Demand3.{values-hold, clash-has-no-history}
 use Rattle.read_sheet.specs.Sheet.{Contents, meant}
 use Rattle.open_sheet.specs.Results.{Result, accepted}
 use Rattle.open_sheet.specs.SheetIn.{sheetIn}
-use Rattle.spec_operations.specs.Results.{Gain, gain}
+use Rattle.spec_operations.specs.Gain.{Gain, gain}
 use Rattle.spec_operations.specs.Operations.{Asks}
 use Rattle.spec_operations.specs.Operations.Asks.{asked}
 use Rattle.proof_demands.specs.Runs.{FromBlank, AgreesWith, valued}
@@ -32,20 +32,20 @@ module _ {s : List ℕ} {k : Contents} {rs : List (List ℕ)} {U : List ℕ} {an
   agrees-all h agrees = all-of (Agrees h) (marksIn s k rs) (λ m i. agrees m (marks-read s k rs m i))
 
   -- What ask answers on the last table is what the table says.
-  said : {y t : ℕ} {a : Answer} → Asks s U y t (accepted a) → Reading (meant k) (mark y t true) × Asked (Standing (meant k) U) y t a
+  said : {y t : ℕ} {a : Answer} → Asks s U y t (accepted a) → InRange (meant k) (mark y t true) × Asked (Standing (meant k) U) y t a
   said {y} {t} {a} (asked o i u) =
       let z = opens-same o (as-run x .opened) in
-      (subst (λ (c : Contents). Reading (meant c) (mark y t true)) z i, subst (λ (c : Contents). Asked (Standing (meant c) U) y t a) z u)
+      (subst (λ (c : Contents). InRange (meant c) (mark y t true)) z i, subst (λ (c : Contents). Asked (Standing (meant c) U) y t a) z u)
 
   module _ (h : History) (obeys : Obeys (meant k) h) (agrees : AgreesWith s k rs h) where
     no-clash : Clash (Standing (meant k) U) → ⊥
     no-clash = clash-has-no-history (meant k) (all-declared s k sheet-is) (tableWords (meant k)) (as-run x .run) (all-within s k sheet-is rs) h obeys (agrees-all h agrees)
 
-    of-cell : {y t : ℕ} {v : Bool} → Reading (meant k) (mark y t true) → Standing (meant k) U (mark y t v) → h y (pos t) ≡ v
+    of-cell : {y t : ℕ} {v : Bool} → InRange (meant k) (mark y t true) → Standing (meant k) U (mark y t v) → h y (pos t) ≡ v
     of-cell {y} {t} {v} i j = values-hold (meant k) (all-declared s k sheet-is) (tableWords (meant k)) (as-run x .run) (all-within s k sheet-is rs) h obeys (agrees-all h agrees) y t v (i .0) j
 
     -- What the table says is the history's value.
-    pub told-holds : {y t : ℕ} (v : Bool) → Reading (meant k) (mark y t true) → Asked (Standing (meant k) U) y t (valued v) → h y (pos t) ≡ v
+    pub told-holds : {y t : ℕ} (v : Bool) → InRange (meant k) (mark y t true) → Asked (Standing (meant k) U) y t (valued v) → h y (pos t) ≡ v
     told-holds true i (holds f j) = of-cell i j
     told-holds false i (fails f j) = of-cell i j
 

@@ -8,7 +8,7 @@ use Prim.Native.Nat.{ℕ, _-_}
 use native.Mathlib.Omega.{arith}
 use Rattle.read_bytes.specs.Read.Read.{got}
 use Rattle.read_bytes.specs.Bytes.{bytes, peek, classOf, nameByte, starts, run, runAt, runEnd}
-use Rattle.read_names.specs.Words.{namesAt, sameText, findName, isWord, nameAt}
+use Rattle.read_names.specs.Spellings.{namesAt, sameText, findName, isSpelled, nameAt}
 use Rattle.read_bytes.specs.Numbers.{digits, number}
 use Rattle.read_lines.specs.Lines.{inLine, line, numberLine, rangedLine, nameLine, inTurn, upTo}
 use Rattle.read_bytes.proofs.Answers.{not-both, same-value}
@@ -16,7 +16,7 @@ use Rattle.spec_ticks.proofs.Tables.{empty-bare}
 use Rattle.spec_tilco.specs.Lists.{total}
 use Rattle.spec_tilco.specs.Inference.{Node, signal, notOf, gate, look, node, Mark, mark, Marks, One, down-left, down-right, up-left, up-right, look-down, look-up, not-down, not-up, Two, up-both, rest-right, rest-left, start, top, one, two, _or_}
 use Rattle.spec_tilco.specs.Lowering.{program}
-use Rattle.spec_tilco.specs.Table.{words, Standing, tableWords, factsOf, Taken, Leads, Added, Unsettled, neither}
+use Rattle.spec_tilco.specs.Table.{words, Standing, tableWords, factsOf, ReadMarks, Leads, Added, Unsettled, neither}
 use Rattle.spec_tilco.proofs.At.{at-getD}
 use Rattle.spec_tilco.proofs.Demand2.{added-keeps}
 use Rattle.read_head.specs.SheetHead.{signalLine, head}
@@ -24,9 +24,9 @@ use Rattle.read_sheet.specs.Sheet.{ruleTo, ruleLine, rules, Contents, contents,
 use Rattle.read_reading.specs.OneReading.{knownLine, reading}
 use Rattle.read_readings.specs.Readings.{readings}
 use Rattle.open_sheet.specs.Results.{Result, accepted, refused}
-use Rattle.spec_operations.specs.Results.{Gain, gain}
+use Rattle.spec_operations.specs.Gain.{Gain, gain}
 use Rattle.open_sheet.specs.SheetIn.{sheetIn, namesIn, blank}
-use Rattle.open_table.specs.Opening.{Opens}
+use Rattle.open_table.specs.Opens.{Opens}
 use Rattle.spec_operations.specs.Operations.{counted, checked, Adds, Asks}
 use Rattle.spec_operations.specs.Operations.Asks.{asked}
 use Rattle.open_sheet.proofs.Sheets.{in-fits}
@@ -52,18 +52,18 @@ abbrev pub false-text : List ℕ
 false-text = bytes "at=0\nsignal=a\nvalue=0\n"
 
 reads : sheetOf sheet-text ≡ got sheet 36
-unfolding peek classOf nameByte starts run runAt runEnd namesAt sameText findName isWord nameAt digits number inLine line numberLine rangedLine nameLine inTurn signalLine head ruleTo ruleLine rules sheetOf
+unfolding peek classOf nameByte starts run runAt runEnd namesAt sameText findName isSpelled nameAt digits number inLine line numberLine rangedLine nameLine inTurn signalLine head ruleTo ruleLine rules sheetOf
 reads = refl
 
 pub sheet-accepted : sheetIn sheet-text ≡ accepted sheet
 sheet-accepted = in-fits sheet-text reads (omega arith) (omega arith)
 
 pub true-read : readings (namesIn sheet-text sheet) 1 true-text ≡ got (mark 0 0 true ∷ []) 22
-unfolding peek classOf nameByte starts run runAt runEnd namesAt sameText findName isWord nameAt digits number inLine line numberLine rangedLine nameLine upTo knownLine reading readings
+unfolding peek classOf nameByte starts run runAt runEnd namesAt sameText findName isSpelled nameAt digits number inLine line numberLine rangedLine nameLine upTo knownLine reading readings
 true-read = refl
 
 pub false-read : readings (namesIn sheet-text sheet) 1 false-text ≡ got (mark 0 0 false ∷ []) 22
-unfolding peek classOf nameByte starts run runAt runEnd namesAt sameText findName isWord nameAt digits number inLine line numberLine rangedLine nameLine upTo knownLine reading readings
+unfolding peek classOf nameByte starts run runAt runEnd namesAt sameText findName isSpelled nameAt digits number inLine line numberLine rangedLine nameLine upTo knownLine reading readings
 false-read = refl
 
 -- What an add of the first readings to the table without a mark has to make of it.
@@ -115,12 +115,12 @@ calls-all-unsettled x y = not-unsettled (opened x) true (added-keeps (meant shee
 
 -- A table in which a mark is missing that the rules lead to is not left as it is.
 pub not-untouched : {s r T : List ℕ} {k : Contents} {ms : List Mark} {q : ℕ} {a : Result Gain} → Opens s T (accepted k) → readings (namesIn s k) (k .window) r ≡ got ms q
-    → (m : Mark) → Leads (meant k) (_or_ (Standing (meant k) T) (Taken ms)) m → (Standing (meant k) T m → ⊥) → Adds s r T T a → ⊥
+    → (m : Mark) → Leads (meant k) (_or_ (Standing (meant k) T) (ReadMarks ms)) m → (Standing (meant k) T m → ⊥) → Adds s r T T a → ⊥
 not-untouched {s} {r} {T} {k} o f m d out x = go (step-of o x)
   where
     go : {b : Result Gain} → Step s k r T T b → ⊥
     go (unchanged g e) = not-both (sym f ∙ g)
-    go (changed g A n c) = out (A .exactly m .1 (subst (λ (R : List Mark). Leads (meant k) (_or_ (Standing (meant k) T) (Taken R)) m) (same-value (sym f ∙ g)) d))
+    go (changed g A n c) = out (A .exactly m .1 (subst (λ (R : List Mark). Leads (meant k) (_or_ (Standing (meant k) T) (ReadMarks R)) m) (same-value (sym f ∙ g)) d))
 
 -- And there is such a table.
 pub returns-untouched : {a : Result Gain} → Adds sheet-text true-text (blank sheet) (blank sheet) a → ⊥
@@ -168,7 +168,7 @@ unlike e = let z : false ≡ true = cc in true≢false (sym z)
 pub ignores-later : {U : List ℕ} {a a′ : Result Gain} → Adds sheet-text true-text (blank sheet) U a → Adds sheet-text false-text U U a′ → ⊥
 ignores-later x y = not-untouched (opened x) false-read (mark 0 0 false) (start (inr (List·Memᴰ·head refl))) (λ i. from-start (only-started (made x .exactly (mark 0 0 false) .0 i))) y
   where
-    from-start : _or_ (Standing (meant sheet) (blank sheet)) (Taken (mark 0 0 true ∷ [])) (mark 0 0 false) → ⊥
+    from-start : _or_ (Standing (meant sheet) (blank sheet)) (ReadMarks (mark 0 0 true ∷ [])) (mark 0 0 false) → ⊥
     from-start (inl i) = empty-bare 64 (words 1) (tableWords (meant sheet)) 0 0 false i
     from-start (inr i) = ⊎-elim unlike (λ j. List·Memᴰ·not-nil j) (List·Memᴰ·cases-cons i)
 

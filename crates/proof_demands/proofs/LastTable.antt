@@ -6,13 +6,13 @@ use mathlib.Core.Logic.{_↔_}
 use Prim.Native.Nat.{ℕ}
 use Rattle.spec_tilco.specs.Lists.{total}
 use Rattle.spec_tilco.specs.Inference.{Mark}
-use Rattle.spec_tilco.specs.Table.{Standing, tableWords, factsOf, Taken, Leads}
+use Rattle.spec_tilco.specs.Table.{Standing, tableWords, factsOf, ReadMarks, Leads}
 use Rattle.spec_tilco.specs.Calls.{Some}
 use Rattle.spec_tilco.proofs.Derives.{monotone}
 use Rattle.spec_tilco.proofs.Demand3.{table-only, table-every, reports-add-up, cuts-change-nothing}
 use Rattle.read_sheet.specs.Sheet.{Contents, meant}
 use Rattle.open_sheet.specs.Results.{Result}
-use Rattle.spec_operations.specs.Results.{Gain}
+use Rattle.spec_operations.specs.Gain.{Gain}
 use Rattle.proof_demands.specs.Refusals.{ReadingsAccepted}
 use Rattle.proof_demands.specs.Runs.{FromBlank, newIn, ReadIn}
 use Rattle.proof_demands.proofs.Refusals.{in-sheet-text}
@@ -38,7 +38,7 @@ module _ {s : List ℕ} {k : Contents} {rs : List (List ℕ)} {U : List ℕ} {an
 
   module _ {rs′ : List (List ℕ)} {U′ : List ℕ} {answers′ : List (Result Gain)} (x′ : FromBlank s k rs′ U′ answers′) where
     -- Two runs whose accepted texts hold the same marks end in one table,
-    pub by-marks : Some (calls s k rs) → Some (calls s k rs′) → ((m : Mark) → Taken (marksIn s k rs) m ↔ Taken (marksIn s k rs′) m) → U ≡ U′
+    pub by-marks : Some (calls s k rs) → Some (calls s k rs′) → ((m : Mark) → ReadMarks (marksIn s k rs) m ↔ ReadMarks (marksIn s k rs′) m) → U ≡ U′
     by-marks c c′ same = cuts-change-nothing (meant k) (window-some s k (in-sheet-text s (x .sheet))) (tableWords (meant k)) (as-run x .run) c (as-run x′ .run) c′ same
 
     -- and so do two with the same readings, where a text of each is accepted.

@@ -12,7 +12,7 @@ use lib.IntN.{pos}
 use lib.ListN.{length, getD, drop, List·getD-eq-default}
 use lib.Seq.{getD-append-add}
 use Rattle.read_bytes.specs.Bytes.{byte, bytes, nameByte, run, runAt, InLine}
-use Rattle.read_names.specs.Words.{namesAt}
+use Rattle.read_names.specs.Spellings.{namesAt}
 use Rattle.read_names.proofs.Names.{names-many}
 use Rattle.spec_tilco.specs.Lists.{All}
 use Rattle.spec_tilco.specs.Meaning.{History, Obeys}
@@ -30,7 +30,7 @@ use Rattle.spec_grammar.proofs.Lines.{in-line-by, in-line-then}
 use Rattle.open_sheet.specs.Results.{accepted}
 use Rattle.open_sheet.specs.SheetIn.{namesIn}
 use Rattle.open_table.proofs.Tables.{accepted-one}
-use Rattle.spec_operations.specs.Results.{gain}
+use Rattle.spec_operations.specs.Gain.{gain}
 use Rattle.proof_demands.specs.Refusals.{SheetAccepted}
 use Rattle.proof_demands.specs.Runs.{AgreesWith, valued}
 use Rattle.proof_demands.specs.Runs.RunTexts.{done, call}

@@ -9,7 +9,7 @@ use native.Mathlib.Decide.{ℕ-discrete, decLt}
 use native.Mathlib.Omega.{arith}
 use lib.ListN.{length}
 use Rattle.spec_tilco.specs.Inference.{Node, signal, notOf, gate, look, Program, node, Mark, mark, Marks, Shifted, down-left, down-right, up-left, up-right, look-down, look-up, not-down, not-up, up-both, rest-right, rest-left, Derives, start, top, one, two, GateSettled, _or_}
-use Rattle.spec_tilco.specs.Table.{Stands, Inside, Taken}
+use Rattle.spec_tilco.specs.Table.{Stands, Inside, ReadMarks}
 use Rattle.spec_tilco.proofs.Closing.{SettledAt, finished}
 use Rattle.proof_demands.proofs.Deciding.{stands-told}
 
@@ -178,16 +178,16 @@ module _ (P : Program) (W n : ℕ) (S : Marks) (U : List ℕ) (only : (m : Mark)
   tops-stand = all-listed (λ r. (t : ℕ) → t < W → In (mark r t true)) (P .tops) (λ r i. all-below (λ t. In (mark r t true)) W (λ t h. stood (mark r t true) (top i h)))
 
 -- The table has T's marks, and all that the rules lead to from T and the readings R; or a mark is missing.
-pub closed-or-missing : (P : Program) (W n : ℕ) (T : List ℕ) (R : List Mark) (U : List ℕ) → ((m : Mark) → Stands n U m → Derives P W (_or_ (Stands n T) (Taken R)) m) → Inside W (Stands n U)
-    → ((m : Mark) → Stands n T m → Stands n U m) → ((m : Mark) → Stands n U m ↔ Derives P W (_or_ (Stands n T) (Taken R)) m) ⊎ Missing P W n (_or_ (Stands n T) (Taken R)) U
+pub closed-or-missing : (P : Program) (W n : ℕ) (T : List ℕ) (R : List Mark) (U : List ℕ) → ((m : Mark) → Stands n U m → Derives P W (_or_ (Stands n T) (ReadMarks R)) m) → Inside W (Stands n U)
+    → ((m : Mark) → Stands n T m → Stands n U m) → ((m : Mark) → Stands n U m ↔ Derives P W (_or_ (Stands n T) (ReadMarks R)) m) ⊎ Missing P W n (_or_ (Stands n T) (ReadMarks R)) U
 closed-or-missing P W n T R U only inside kept =
     ⊎-elim (λ g. inl (finished P W (Stands n U) S only (begun (g .0)) (g .1 .0) (g .1 .1))) inr
     (join (all-listed (Stands n U) R (λ m i. stood P W n S U only inside m (start (inr i))))
     (join (tops-stand P W n S U only inside) (all-below (λ r. SettledAt W (Stands n U) r (node P r)) (length (P .rows)) (λ r h. settled P W n S U only inside r))))
   where
     S : Marks
-    S = _or_ (Stands n T) (Taken R)
+    S = _or_ (Stands n T) (ReadMarks R)
 
-    begun : ((m : Mark) → List·Memᴰ m R → Stands n U m) → (m : Mark) → _or_ (Stands n T) (Taken R) m → Stands n U m
+    begun : ((m : Mark) → List·Memᴰ m R → Stands n U m) → (m : Mark) → _or_ (Stands n T) (ReadMarks R) m → Stands n U m
     begun g m (inl i) = kept m i
     begun g m (inr i) = g m i

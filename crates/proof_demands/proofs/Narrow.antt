@@ -8,11 +8,11 @@ use native.Mathlib.Omega.{arith}
 use lib.Dec.{eqb}
 use lib.ListN.{length, drop, length-append, length-drop}
 use lib.Seq.{drop-append-le}
-use Rattle.read_names.specs.declared.Word.the-variants.{Name}
+use Rattle.read_names.specs.declared.NameRead.the-variants.{Name}
 use Rattle.read_bytes.specs.declared.numbers.Number.the-variants.{Value}
 use Rattle.read_bytes.specs.Read.Read.{got}
 use Rattle.read_bytes.specs.Bytes.{bytes, byte, peek, between, digit, nameByte, run, runAt, runEnd}
-use Rattle.read_names.specs.Words.{wordEnd, isWord, nameAt}
+use Rattle.read_names.specs.Spellings.{spellingEnd, isSpelled, nameAt}
 use Rattle.read_bytes.specs.Numbers.{digits, number}
 use Rattle.read_lines.specs.Lines.{inLine, lineEnd, line, numberLine, rangedLine, nameLine}
 use Rattle.read_bytes.proofs.Runs.{every}
@@ -46,7 +46,7 @@ module _ (r x : List ℕ) where
   unfolding runEnd
   runEnd-narrow P p h = ap (λ l. p + length l) (runAt-narrow P p h)
 
-  isWord-narrow : (p : ℕ) (w : List ℕ) → every nameByte w ≡ true → wordEnd (r ++ x) p < length r → isWord r p w ≡ isWord (r ++ x) p w
+  isWord-narrow : (p : ℕ) (w : List ℕ) → every nameByte w ≡ true → spellingEnd (r ++ x) p < length r → isSpelled r p w ≡ isSpelled (r ++ x) p w
   isWord-narrow p w all h = rw (is-word r p w all, is-word (r ++ x) p w all, runAt-narrow nameByte p h)
 
   nameAt-narrow : (p : ℕ) {q : ℕ} → nameAt (r ++ x) p ≡ Name q → q < length r → nameAt r p ≡ Name q
@@ -54,7 +54,7 @@ module _ (r x : List ℕ) where
   nameAt-narrow p e h =
       let n = named (r ++ x) p e in
       let a = name-reach (r ++ x) p e in
-      let l : wordEnd (r ++ x) p < length r = omega (arith, n .ends) in
+      let l : spellingEnd (r ++ x) p < length r = omega (arith, n .ends) in
       rw (sym (peek-kept r x p (omega (arith, a .0 .ahead))), runAt-narrow nameByte p l, runEnd-narrow nameByte p l, isWord-narrow p (bytes "since") refl l, isWord-narrow p (bytes "until") refl l) e
 
   digits-narrow : (k p v : ℕ) {y q : ℕ} → p ≤ length (r ++ x) → digits (r ++ x) k p v ≡ Value y q → q < length r → digits r k p v ≡ Value y q

@@ -13,7 +13,7 @@ use Rattle.spec_limits.specs.Limits.{mostBytes, mostTicks, mostSignals, mostRul
 use Rattle.read_bytes.specs.Read.{Read, andThen}
 use Rattle.read_bytes.specs.Read.Read.{got, refused}
 use Rattle.read_bytes.specs.Bytes.{bytes, pick}
-use Rattle.read_names.specs.Words.{wordAt, namesAt, findName}
+use Rattle.read_names.specs.Spellings.{spellingAt, namesAt, findName}
 use Rattle.read_lines.specs.Lines.{rangedLine, nameLine, inTurn}
 use Rattle.read_bytes.proofs.Answers.{not-both, same-place, through, came}
 use Rattle.read_lines.proofs.Loops.{turn-reach}
@@ -49,9 +49,9 @@ module _ (h x : List ℕ) where
   unfolding signalLine namesAt
   signal-narrow places p v q same e l =
       let d = came (nameLine (h ++ x) p (bytes "signal=") 2 4) _ e in
-      let t = through (eqb (findName (wordAt (h ++ x) (d .value)) (namesAt (h ++ x) places)) (length places)) (d .value) (d .place) 4 (d .value) (d .then) in
+      let t = through (eqb (findName (spellingAt (h ++ x) (d .value)) (namesAt (h ++ x) places)) (length places)) (d .value) (d .place) 4 (d .value) (d .then) in
       let n : nameLine h p (bytes "signal=") 2 4 ≡ got (d .value) (d .place) = nameLine-narrow h x p (bytes "signal=") 2 4 (d .first) (omega (arith, t .2)) in
-      let w : wordAt (h ++ x) (d .value) ≡ wordAt h (d .value) = word-kept h x p (bytes "signal=") 2 4 n in
+      let w : spellingAt (h ++ x) (d .value) ≡ spellingAt h (d .value) = word-kept h x p (bytes "signal=") 2 4 n in
       (rw (n, ← w, ← same) (d .then), rw (names-append (h ++ x) places (v ∷ []), names-append h places (v ∷ []), same, rw (t .1) at w))
 
   signals-narrow : (n : ℕ) (t : List ℕ) (p : ℕ) {u : List ℕ} {q : ℕ} → Same t → inTurn (signalLine (h ++ x)) n t p ≡ got u q → q ≤ length h → inTurn (signalLine h) n t p ≡ got u q

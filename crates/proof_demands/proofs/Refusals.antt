@@ -18,7 +18,7 @@ use Rattle.spec_tilco.specs.Lists.{total}
 use Rattle.spec_tilco.specs.Formula.{hiddens}
 use Rattle.spec_tilco.specs.Lowering.{rowCount}
 use Rattle.spec_tilco.specs.Inference.{Mark, mark}
-use Rattle.spec_tilco.specs.Table.{words, Stands, Standing, facts, Reading, Answer, Asked}
+use Rattle.spec_tilco.specs.Table.{words, Stands, Standing, facts, InRange, Answer, Asked}
 use Rattle.read_sheet.specs.Sheet.{Contents, sheetOf, meant}
 use Rattle.read_sheet.proofs.Wholes.{sheet-long}
 use Rattle.read_readings.specs.Readings.{readings}
@@ -28,8 +28,8 @@ use Rattle.spec_grammar.proofs.SheetLines.{sheet-refused, sheet-accepted, sheet
 use Rattle.spec_grammar.proofs.ReadingLines.{readings-refused, readings-accepted}
 use Rattle.open_sheet.specs.Results.{Result, accepted, refused}
 use Rattle.open_sheet.specs.SheetIn.{fits, sized, sheetIn, namesIn}
-use Rattle.open_table.specs.Opening.{Opens}
-use Rattle.open_table.specs.Opening.Opens.{both, not-the-sheet, not-the-length, not-inside}
+use Rattle.open_table.specs.Opens.{Opens}
+use Rattle.open_table.specs.Opens.Opens.{both, not-the-sheet, not-the-length, not-inside}
 use Rattle.spec_operations.specs.Operations.{counted, checked, Adds, Asks}
 use Rattle.spec_operations.specs.Operations.Adds.{not-opened, not-read}
 use Rattle.spec_operations.specs.Operations.Asks.{not-opened as not-asked, out-of-range, asked}
@@ -198,7 +198,7 @@ module _ {s r T U : List ℕ} where
   add-refusals = (add-case, λ x. case-add (x .0) (x .1 .words))
 
 -- A signal or a tick outside its range.
-out-case : (k : Contents) (x t : ℕ) → (Reading (meant k) (mark x t true) → ⊥) → (length (k .places) ≤ x) ⊎ (k .window ≤ t)
+out-case : (k : Contents) (x t : ℕ) → (InRange (meant k) (mark x t true) → ⊥) → (length (k .places) ≤ x) ⊎ (k .window ≤ t)
 out-case k x t f = go (decLt x (length (k .places))) (decLt t (k .window))
   where
     go : Dec (x < length (k .places)) → Dec (t < k .window) → (length (k .places) ≤ x) ⊎ (k .window ≤ t)

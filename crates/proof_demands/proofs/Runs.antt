@@ -14,7 +14,7 @@ use Rattle.spec_ticks.proofs.Tables.{empty-bare}
 use Rattle.spec_tilco.specs.Lists.{All, total}
 use Rattle.spec_tilco.specs.Formula.{Sheet, Declared}
 use Rattle.spec_tilco.specs.Inference.{Mark, mark, Clash}
-use Rattle.spec_tilco.specs.Table.{words, Standing, tableWords, factsOf, Reading, Added}
+use Rattle.spec_tilco.specs.Table.{words, Standing, tableWords, factsOf, InRange, Added}
 use Rattle.spec_tilco.specs.Calls.{Call, Run, readingsOf, Some, reported}
 use Rattle.spec_tilco.specs.Calls as tilco
 use Rattle.spec_tilco.proofs.Lists.{all-append}
@@ -24,10 +24,10 @@ use Rattle.read_sheet.proofs.Accepted.{sheet-declared}
 use Rattle.read_readings.specs.Readings.{readings}
 use Rattle.read_readings.proofs.Bounds.{readings-of-sheet}
 use Rattle.open_sheet.specs.Results.{Result, accepted, refused}
-use Rattle.spec_operations.specs.Results.{Gain, gain}
+use Rattle.spec_operations.specs.Gain.{Gain, gain}
 use Rattle.open_sheet.specs.SheetIn.{sheetIn, namesIn, blank}
-use Rattle.open_table.specs.Opening.{Opens}
-use Rattle.open_table.specs.Opening.Opens.{both}
+use Rattle.open_table.specs.Opens.{Opens}
+use Rattle.open_table.specs.Opens.Opens.{both}
 use Rattle.spec_operations.specs.Operations.{Adds}
 use Rattle.spec_operations.specs.Operations.Adds.{not-opened, not-read, added}
 use Rattle.open_table.proofs.Tables.{in-sheet}
@@ -73,15 +73,15 @@ module _ (s : List ℕ) (k : Contents) (e : sheetIn s ≡ accepted k) where
   pub all-declared : Declared (meant k)
   all-declared = sheet-declared s (in-sheet s e .reads)
 
-  pub marks-within : (r : List ℕ) {ms : List Mark} {q : ℕ} → readings (namesIn s k) (k .window) r ≡ got ms q → All (Reading (meant k)) ms
+  pub marks-within : (r : List ℕ) {ms : List Mark} {q : ℕ} → readings (namesIn s k) (k .window) r ≡ got ms q → All (InRange (meant k)) ms
   marks-within r f = readings-of-sheet (meant k) (namesIn s k) r window-some (names-many s (k .places)) f
 
-  pub all-within : (rs : List (List ℕ)) → All (Reading (meant k)) (marksIn s k rs)
+  pub all-within : (rs : List (List ℕ)) → All (InRange (meant k)) (marksIn s k rs)
   all-within [] = tt
   all-within (r ∷ rs) = go (readings (namesIn s k) (k .window) r) refl (all-within rs)
     where
-      go : (R : Read (List Mark)) → readings (namesIn s k) (k .window) r ≡ R → All (Reading (meant k)) (marksIn s k rs) → All (Reading (meant k)) (readingsOf (callOf R ∷ calls s k rs))
-      go (got ms q) f a = all-append (Reading (meant k)) ms (marksIn s k rs) (marks-within r f) a
+      go : (R : Read (List Mark)) → readings (namesIn s k) (k .window) r ≡ R → All (InRange (meant k)) (marksIn s k rs) → All (InRange (meant k)) (readingsOf (callOf R ∷ calls s k rs))
+      go (got ms q) f a = all-append (InRange (meant k)) ms (marksIn s k rs) (marks-within r f) a
       go (unread n p) f a = a
 
   -- The table without a mark is accepted.

@@ -12,7 +12,7 @@ use Rattle.spec_ticks.proofs.Tables.{empty-bare, empty-tally}
 use Rattle.spec_tilco.specs.Lists.{All}
 use Rattle.spec_tilco.specs.Formula.{Sheet}
 use Rattle.spec_tilco.specs.Inference.{Mark, mark}
-use Rattle.spec_tilco.specs.Table.{words, Standing, tableWords, factsOf, Reading, Added, Answer, Asked, clashes, holds, fails, neither}
+use Rattle.spec_tilco.specs.Table.{words, Standing, tableWords, factsOf, InRange, Added, Answer, Asked, clashes, holds, fails, neither}
 use Rattle.spec_tilco.specs.Calls.{Call, Run, readingsOf, Some}
 use Rattle.spec_tilco.specs.Calls as tilco
 use Rattle.spec_tilco.proofs.Lists.{all-append, all-left, all-right}
@@ -20,9 +20,9 @@ use Rattle.spec_tilco.proofs.Demand3.{SameSettled, shuffle-changes-nothing}
 use Rattle.read_sheet.specs.Sheet.{Contents, meant}
 use Rattle.read_readings.specs.Readings.{readings}
 use Rattle.open_sheet.specs.Results.{Result, accepted}
-use Rattle.spec_operations.specs.Results.{Gain}
+use Rattle.spec_operations.specs.Gain.{Gain}
 use Rattle.open_sheet.specs.SheetIn.{namesIn, blank}
-use Rattle.open_table.specs.Opening.{Opens}
+use Rattle.open_table.specs.Opens.{Opens}
 use Rattle.spec_operations.specs.Operations.{Asks}
 use Rattle.spec_operations.specs.Operations.Asks.{not-opened, out-of-range, asked}
 use Rattle.proof_demands.specs.Runs.{RunTexts}
@@ -61,7 +61,7 @@ module _ (s s′ : List ℕ) (k k′ : Contents) (x : Alike s s′ k k′) where
     ns′ : List ℕ
     run : Run (meant k) (blank k) cs T ns
     run′ : Run (meant k′) (blank k′) cs T′ ns′
-    within : All (Reading (meant k)) (readingsOf cs)
+    within : All (InRange (meant k)) (readingsOf cs)
 
   -- Before an accepted call.
   none-yet : SameSettled (meant k) (meant k′) (blank k) (blank k′)
@@ -102,7 +102,7 @@ module _ (s s′ : List ℕ) (k k′ : Contents) (x : Alike s s′ k k′) where
         ns′ = b .ns′ ++ ((factsOf (meant k′) U′ - factsOf (meant k′) T′) ∷ []);
         run = run-more (meant k) (b .run) A;
         run′ = run-more (meant k′) (b .run′) (subst (λ (R : List Mark). Added (meant k′) T′ R U′) same A′);
-        within = all-more (Reading (meant k)) (b .cs) ms (b .within) (marks-within s k (x .first) r f);
+        within = all-more (InRange (meant k)) (b .cs) ms (b .within) (marks-within s k (x .first) r f);
       } in
       let z = settled n in
       let news = g ∙ ap₂ (λ (i j : ℕ). i - j) (z .facts) (settled b .facts) ∙ sym g′ in
@@ -138,10 +138,10 @@ module _ (s s′ : List ℕ) (k k′ : Contents) (x : Alike s s′ k k′) {U U�
   asks-alike : {y t : ℕ} {a : Result Answer} → Asks s U y t a → Asks s′ U′ y t a
   asks-alike (not-opened n) = opens-or-not o n
   asks-alike {y} {t} (out-of-range {k = l} n i) =
-      out-of-range o′ (λ j. i (subst (λ (c : Contents). Reading (meant c) (mark y t true)) (opens-same o n) (subst (λ (w : Sheet). Reading w (mark y t true)) (x .means) j)))
+      out-of-range o′ (λ j. i (subst (λ (c : Contents). InRange (meant c) (mark y t true)) (opens-same o n) (subst (λ (w : Sheet). InRange w (mark y t true)) (x .means) j)))
   asks-alike {y} {t} (asked {k = l} {a = a} n i u) =
-      let j : Reading (meant k) (mark y t true) = subst (λ (c : Contents). Reading (meant c) (mark y t true)) (opens-same n o) i in
-      asked o′ (subst (λ (w : Sheet). Reading w (mark y t true)) (sym (x .means)) j)
+      let j : InRange (meant k) (mark y t true) = subst (λ (c : Contents). InRange (meant c) (mark y t true)) (opens-same n o) i in
+      asked o′ (subst (λ (w : Sheet). InRange w (mark y t true)) (sym (x .means)) j)
       (asked-alike (meant k) (meant k′) z (j .0) (subst (λ (c : Contents). Asked (Standing (meant c) U) y t a) (opens-same n o) u))
 
 -- ---- all of it

@@ -6,7 +6,7 @@ use mathlib.Core.Logic.{⊎-elim}
 use Prim.Native.Nat.{ℕ}
 use Rattle.read_bytes.specs.Read.{Read}
 use Rattle.spec_tilco.specs.Inference.{Mark}
-use Rattle.spec_tilco.specs.Table.{Taken}
+use Rattle.spec_tilco.specs.Table.{ReadMarks}
 use Rattle.spec_tilco.specs.Calls.{Call, readingsOf, Some}
 use Rattle.spec_tilco.specs.Calls as tilco
 use Rattle.read_sheet.specs.Sheet.{Contents}
@@ -23,18 +23,18 @@ use Rattle.proof_demands.proofs.Runs.{callOf, calls, marksIn}
 -- ---- calls by what is among them
 
 -- An accepted call, and a mark that is one of its readings.
-call-taken : (cs : List Call) {R : List Mark} {m : Mark} → List·Memᴰ (tilco.add R) cs → Taken R m → Taken (readingsOf cs) m
+call-taken : (cs : List Call) {R : List Mark} {m : Mark} → List·Memᴰ (tilco.add R) cs → ReadMarks R m → ReadMarks (readingsOf cs) m
 call-taken [] i j = absurd (List·Memᴰ·not-nil i)
 call-taken (c ∷ cs) {R} {m} i j = ⊎-elim (first c) (λ x. later c (call-taken cs x j)) (List·Memᴰ·cases-cons i)
   where
-    first : (c : Call) → tilco.add R ≡ c → Taken (readingsOf (c ∷ cs)) m
-    first c e = subst (λ (d : Call). Taken (readingsOf (d ∷ cs)) m) e (Memᴰ·append-left (readingsOf cs) j)
+    first : (c : Call) → tilco.add R ≡ c → ReadMarks (readingsOf (c ∷ cs)) m
+    first c e = subst (λ (d : Call). ReadMarks (readingsOf (d ∷ cs)) m) e (Memᴰ·append-left (readingsOf cs) j)
 
-    later : (c : Call) → Taken (readingsOf cs) m → Taken (readingsOf (c ∷ cs)) m
+    later : (c : Call) → ReadMarks (readingsOf cs) m → ReadMarks (readingsOf (c ∷ cs)) m
     later (tilco.add Q) x = Memᴰ·append-right Q x
     later tilco.refused x = x
 
-taken-call : (cs : List Call) {m : Mark} → Taken (readingsOf cs) m → (R : List Mark) × List·Memᴰ (tilco.add R) cs × Taken R m
+taken-call : (cs : List Call) {m : Mark} → ReadMarks (readingsOf cs) m → (R : List Mark) × List·Memᴰ (tilco.add R) cs × ReadMarks R m
 taken-call [] i = absurd (List·Memᴰ·not-nil i)
 taken-call (tilco.add R ∷ cs) i =
     ⊎-elim (λ j. (R, List·Memᴰ·head refl, j)) (λ j. let x = taken-call cs j in (x .0, List·Memᴰ·tail (x .1), x .2)) (List·Memᴰ·append-cases R i)
@@ -75,7 +75,7 @@ module _ (s : List ℕ) (k : Contents) where
     call-among i = let x = call-text rs i in subst (λ (c : Call). List·Memᴰ c (calls s k qs)) (x .2) (text-call qs (among (x .0) (x .1)))
 
     -- Texts that are among others: so are their marks,
-    pub marks-among : (m : Mark) → Taken (marksIn s k rs) m → Taken (marksIn s k qs) m
+    pub marks-among : (m : Mark) → ReadMarks (marksIn s k rs) m → ReadMarks (marksIn s k qs) m
     marks-among m i = let x = taken-call (calls s k rs) i in call-taken (calls s k qs) (call-among (x .1)) (x .2)
 
     -- and their accepted calls.
@@ -93,7 +93,7 @@ module _ (s : List ℕ) (k : Contents) where
   -- ---- the readings
 
   -- The marks of the accepted texts are the readings,
-  pub marks-read : (rs : List (List ℕ)) (m : Mark) → Taken (marksIn s k rs) m → ReadIn s k rs m
+  pub marks-read : (rs : List (List ℕ)) (m : Mark) → ReadMarks (marksIn s k rs) m → ReadIn s k rs m
   marks-read rs m i =
       let x = taken-call (calls s k rs) i in
       let y = call-text rs (x .1) in
@@ -102,7 +102,7 @@ module _ (s : List ℕ) (k : Contents) where
   read-call : (rs : List (List ℕ)) {r : List ℕ} {ms : List Mark} → List·Memᴰ r rs → ReadingsAccepted s k r ms → List·Memᴰ (tilco.add ms) (calls s k rs)
   read-call rs {r} i y = subst (λ (R : Read (List Mark)). List·Memᴰ (callOf R) (calls s k rs)) (in-readings s k r y) (text-call rs i)
 
-  pub read-marks : (rs : List (List ℕ)) (m : Mark) → ReadIn s k rs m → Taken (marksIn s k rs) m
+  pub read-marks : (rs : List (List ℕ)) (m : Mark) → ReadIn s k rs m → ReadMarks (marksIn s k rs) m
   read-marks rs m x = call-taken (calls s k rs) (read-call rs (x .among) (x .reads)) (x .is)
 
   -- and with an accepted text there is an accepted call.

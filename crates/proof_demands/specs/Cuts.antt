@@ -9,7 +9,7 @@ use Rattle.spec_tilco.specs.Inference.{Mark}
 use Rattle.read_sheet.specs.Sheet.{Contents}
 use Rattle.open_sheet.specs.Results.{Result, refused}
 use Rattle.open_sheet.specs.SheetIn.{namesIn}
-use Rattle.spec_operations.specs.Results.{Gain}
+use Rattle.spec_operations.specs.Gain.{Gain}
 use Rattle.spec_operations.specs.Operations.{Adds}
 use Rattle.spec_grammar.specs.Lines.{LineAt, after}
 use Rattle.spec_grammar.specs.ReadingLines.{Next, Right, Reached}

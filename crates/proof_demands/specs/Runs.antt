@@ -5,10 +5,10 @@ use mathlib.Core.List.{List, [], _∷_, List·Memᴰ}
 use Prim.Native.Nat.{ℕ}
 use Rattle.spec_tilco.specs.Inference.{Mark}
 use Rattle.spec_tilco.specs.Meaning.{History}
-use Rattle.spec_tilco.specs.Table.{Taken, Agrees, Answer, True, False}
+use Rattle.spec_tilco.specs.Table.{ReadMarks, Agrees, Answer, True, False}
 use Rattle.read_sheet.specs.Sheet.{Contents}
 use Rattle.open_sheet.specs.Results.{Result, accepted, refused}
-use Rattle.spec_operations.specs.Results.{Gain, gain}
+use Rattle.spec_operations.specs.Gain.{Gain, gain}
 use Rattle.open_sheet.specs.SheetIn.{blank}
 use Rattle.spec_operations.specs.Operations.{Adds}
 use Rattle.proof_demands.specs.Refusals.{SheetAccepted, ReadingsAccepted}
@@ -40,7 +40,7 @@ pub record ReadIn (s : List ℕ) (k : Contents) (rs : List (List ℕ)) (m : Mark
   pub among : List·Memᴰ text rs
   pub marks : List Mark
   pub reads : ReadingsAccepted s k text marks
-  pub is : Taken marks m
+  pub is : ReadMarks marks m
 
 -- The history agrees with the readings.
 abbrev pub AgreesWith : List ℕ → Contents → List (List ℕ) → History → Type 0

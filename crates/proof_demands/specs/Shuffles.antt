@@ -11,7 +11,7 @@ use Rattle.spec_tilco.specs.Table.{Standing, factsOf, Answer}
 use Rattle.spec_grammar.specs.SheetLines.{Next, Reached}
 use Rattle.read_sheet.specs.Sheet.{Contents, meant, sheetText}
 use Rattle.open_sheet.specs.Results.{Result}
-use Rattle.spec_operations.specs.Results.{Gain}
+use Rattle.spec_operations.specs.Gain.{Gain}
 use Rattle.read_bytes.specs.Bytes.{InLine}
 use Rattle.spec_operations.specs.Operations.{Asks}
 

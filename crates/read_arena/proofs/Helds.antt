@@ -7,19 +7,19 @@ use Prim.Native.Nat.{ℕ, _+_, _≤_, _<_}
 use Rattle.spec_limits.specs.Limits.{mostOffset}
 use Rattle.spec_tilco.specs.Formula.{Written, hiddens}
 use Rattle.read_arena.specs.Nodes.{opOf, putNode}
-use Rattle.read_arena.specs.Readings.{readingOf, readTo, readAt, formAt, writtenAt, definingsAt, Right, Arena, Room, Same, Held, ruleReading}
+use Rattle.read_arena.specs.NodeRules.{nodeRuleOf, nodeRuleTo, nodeRuleAt, formAt, writtenAt, definingsAt, ChildrenBefore, Arena, NodeRoom, Same, Held, nodeRuleFor}
 use Rattle.read_arena.specs.declared.Sign.{Sign}
 use Rattle.read_arena.specs.declared.Node.{Node}
 use Rattle.read_arena.specs.declared.Node.the-variants.{Name, Deny, Pair, Time}
 use Rattle.read_arena.proofs.Read.{read-same, read-put}
 
 -- A rule that stands at a node is the node's.
-pub held-read : {a : List ℕ} {x n : ℕ} {w : Written} → Held a x n w → readAt a n ≡ ruleReading x w
-unfolding formAt writtenAt definingsAt readAt readTo
+pub held-read : {a : List ℕ} {x n : ℕ} {w : Written} → Held a x n w → nodeRuleAt a n ≡ nodeRuleFor x w
+unfolding formAt writtenAt definingsAt nodeRuleAt nodeRuleTo
 held-read h = cc
 
 -- The node's rule stands at it.
-pub read-held : {a : List ℕ} {x n : ℕ} {w : Written} → readAt a n ≡ ruleReading x w → Held a x n w
+pub read-held : {a : List ℕ} {x n : ℕ} {w : Written} → nodeRuleAt a n ≡ nodeRuleFor x w → Held a x n w
 unfolding formAt writtenAt definingsAt
 read-held e = record { text = cc; form = cc; definings = cc }
 
@@ -27,9 +27,9 @@ read-held e = record { text = cc; form = cc; definings = cc }
 pub held-kept : {a b : List ℕ} {c x n : ℕ} {w : Written} → Arena c a → Same c a b → n < c → Held a x n w → Held b x n w
 held-kept {n = n} A s lt h = read-held (read-same A s n lt ∙ held-read h)
 
-module _ {a : List ℕ} {c : ℕ} (A : Arena c a) (R : Room a c 1) where
+module _ {a : List ℕ} {c : ℕ} (A : Arena c a) (R : NodeRoom a c 1) where
   -- A rule stands at the node that was put, where it is that node's.
-  held-put : (k : Node) (x : ℕ) (w : Written) → Right k c → readingOf k c (readAt a) ≡ ruleReading x w → Held (putNode a c k) x c w
+  held-put : (k : Node) (x : ℕ) (w : Written) → ChildrenBefore k c → nodeRuleOf k c (nodeRuleAt a) ≡ nodeRuleFor x w → Held (putNode a c k) x c w
   held-put k x w r e = read-held (read-put k A R r ∙ e)
 
   -- A name.

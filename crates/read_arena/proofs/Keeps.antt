@@ -11,7 +11,7 @@ use Rattle.spec_limits.specs.Limits.{mostOffset}
 use Rattle.spec_tilco.specs.Formula.{Written, hiddens, defining, stepOf}
 use lib.ListN.{getD}
 use Rattle.read_arena.specs.Nodes.{pick, nodeAt, putNode, putNodes, keepNodes, putKeep}
-use Rattle.read_arena.specs.Readings.{formOf, formAt, Rights, Arena, Room, Same, Held}
+use Rattle.read_arena.specs.NodeRules.{formOf, formAt, AllChildrenBefore, Arena, NodeRoom, Same, Held}
 use Rattle.read_arena.specs.declared.Sign.{Sign}
 use Rattle.read_arena.specs.declared.Node.the-variants.{Name, Pair, Time, Keep}
 use Rattle.read_arena.proofs.Puts.{node-puts, same-puts, arena-puts}
@@ -33,7 +33,7 @@ pub picked-right : (b : Bool) {step : ℕ} → step ≡ pick b 63 65 → (1 ≤ 
 picked-right b e = rw (e, step-is b) (step-right b)
 
 -- The six nodes are right.
-keep-rights : (c : ℕ) (b : Bool) (x l r : ℕ) → l < c → r < c → Rights (keepNodes c b x l r) c
+keep-rights : (c : ℕ) (b : Bool) (x l r : ℕ) → l < c → r < c → AllChildrenBefore (keepNodes c b x l r) c
 keep-rights c b x l r hl hr = (
   tt,
   (
@@ -47,7 +47,7 @@ pub same-put-keep : (a : List ℕ) (c : ℕ) (b : Bool) (x l r : ℕ) → Same c
 unfolding putKeep
 same-put-keep a c b x l r = same-puts a c c (keepNodes c b x l r) (omega arith)
 
-module _ {a : List ℕ} {c : ℕ} (b : Bool) (x : ℕ) {l r : ℕ} (A : Arena c a) (R : Room a c 6) (hl : l < c) (hr : r < c) where
+module _ {a : List ℕ} {c : ℕ} (b : Bool) (x : ℕ) {l r : ℕ} (A : Arena c a) (R : NodeRoom a c 6) (hl : l < c) (hr : r < c) where
   -- The arena grows by six nodes.
   pub arena-put-keep : Arena (c + 6) (putKeep a c b x l r)
   unfolding putKeep

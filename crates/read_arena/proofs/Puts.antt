@@ -10,7 +10,7 @@ use native.Mathlib.Omega.{arith}
 use lib.ListN.{length, getD, set, length-set}
 use lib.Seq.{sets, length-sets, getD-set-same, getD-set-other}
 use Rattle.read_arena.specs.Nodes.{signOf, nodeOf, nodeAt, codeOf, putNode, putNodes}
-use Rattle.read_arena.specs.Readings.{Right, Rights, Arena, Room, Same}
+use Rattle.read_arena.specs.NodeRules.{ChildrenBefore, AllChildrenBefore, Arena, NodeRoom, Same}
 use Rattle.read_arena.specs.declared.Sign.{Sign}
 use Rattle.read_arena.specs.declared.Node.{Node}
 use Rattle.read_arena.specs.declared.Node.the-variants.{Name, Deny, Pair, Time, Keep}
@@ -82,7 +82,7 @@ pub same-then : {a b d : List ℕ} {c : ℕ} → Same c a b → Same c b d → S
 same-then s t = record { node = λ n lt. t .node n lt ∙ s .node n lt }
 
 -- A node's children stand before a later number too.
-pub right-later : (k : Node) (n m : ℕ) → n ≤ m → Right k n → Right k m
+pub right-later : (k : Node) (n m : ℕ) → n ≤ m → ChildrenBefore k n → ChildrenBefore k m
 right-later (Name x) n m h r = tt
 right-later (Deny x) n m h r = omega arith
 right-later (Pair s x y) n m h r = (omega arith, omega arith)
@@ -94,10 +94,10 @@ pub arena-fewer : {a : List ℕ} {c : ℕ} (d : ℕ) → d ≤ c → Arena c a �
 arena-fewer d h A = record { inside = omega (arith, A .inside); right = λ n lt. A .right n (omega arith) }
 
 -- An arena grows by a node that is right.
-pub arena-put : {a : List ℕ} {c : ℕ} (k : Node) → Arena c a → Room a c 1 → Right k c → Arena (c + 1) (putNode a c k)
+pub arena-put : {a : List ℕ} {c : ℕ} (k : Node) → Arena c a → NodeRoom a c 1 → ChildrenBefore k c → Arena (c + 1) (putNode a c k)
 arena-put {a} {c} k A R r = record { inside = omega (arith, length-put a c k); right = λ n lt. go n lt (ℕ-discrete n c) }
   where
-    go : (n : ℕ) → n < c + 1 → Dec (n ≡ c) → Right (nodeAt (putNode a c k) n) n
+    go : (n : ℕ) → n < c + 1 → Dec (n ≡ c) → ChildrenBefore (nodeAt (putNode a c k) n) n
     go n lt (yes e) = rw (e, node-new a c k (omega arith)) r
     go n lt (no ne) = rw (node-other a c k n ne) (A .right n (omega (arith, ne)))
 
@@ -124,7 +124,7 @@ node-puts a c (suc j) (k ∷ ks) h fits =
     rw (add-suc, ← suc-add) (node-puts (putNode a c k) (suc c) j ks (omega arith) (omega (arith, length-put a c k)))
 
 -- An arena grows by nodes that are right.
-pub arena-puts : (a : List ℕ) (c d : ℕ) (ks : List Node) → d ≡ c + length ks → Arena c a → Room a c (length ks) → Rights ks c
+pub arena-puts : (a : List ℕ) (c d : ℕ) (ks : List Node) → d ≡ c + length ks → Arena c a → NodeRoom a c (length ks) → AllChildrenBefore ks c
     → Arena d (putNodes a c ks)
 unfolding putNodes
 arena-puts a c d [] e A R r = arena-fewer d (omega arith) A

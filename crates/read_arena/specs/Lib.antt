@@ -1,3 +1,3 @@
 -- The definitions, lowest layer first.
 pub mod Nodes
-pub mod Readings
+pub mod NodeRules

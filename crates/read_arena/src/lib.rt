@@ -4,7 +4,7 @@ ghost use mathlib.Core.Path.{_≡_};
 ghost use mathlib.Core.List.{[], _∷_};
 ghost use Prim.Native.Nat.{_<_};
 ghost use Rattle.read_arena.specs.Nodes.{pick, signOf, signNumber, nodeAt, codeOf, putNode, putKeep};
-ghost use Rattle.read_arena.specs.Readings.{Right, Storable, HasNode, Room};
+ghost use Rattle.read_arena.specs.NodeRules.{ChildrenBefore, Storable, HasNode, NodeRoom};
 
 // The signs & | => <=>.
 pub enum Sign {
@@ -113,8 +113,8 @@ fn code_of(node: Node) -> Code
 
 // A node more, past the first count of them.
 pub fn put_node(arena: &mut [u16], count: usize, node: Node)
-    requires { ⌜ Room (now arena) count 1 ⌝ }
-    requires { ⌜ Right node count ⌝ }
+    requires { ⌜ NodeRoom (now arena) count 1 ⌝ }
+    requires { ⌜ ChildrenBefore node count ⌝ }
     ensures { λ _. ⌜ now (arena .exit) ≡ putNode (now (arena .entry)) count node ⌝ }
 {
     let code = code_of(node);
@@ -128,7 +128,7 @@ pub fn put_node(arena: &mut [u16], count: usize, node: Node)
 // A since or an until with its arguments at left and right, past the first count nodes: first the five nodes of its hidden signal's
 // defining rule, x <=> A | (B & x@[-1,-1]) or with [1,1], then its own node.
 pub fn put_keep(arena: &mut [u16], count: usize, since: bool, row: u16, left: usize, right: usize)
-    requires { ⌜ Room (now arena) count 6 ⌝ }
+    requires { ⌜ NodeRoom (now arena) count 6 ⌝ }
     requires { ⌜ (left < count) × (right < count) ⌝ }
     ensures { λ _. ⌜ now (arena .exit) ≡ putKeep (now (arena .entry)) count since row left right ⌝ }
 {

@@ -18,9 +18,9 @@ use read_parts::parts::sign_len;
 use read_parts::parts::times_at;
 ghost use Prim.Native.Nat.{_-_};
 ghost use Rattle.read_arena.specs.Nodes.{opOf};
-ghost use Rattle.read_parts.specs.Parsed.{Ready};
+ghost use Rattle.read_parts.specs.Parsed.{PartReady};
 ghost use Rattle.read_parts.specs.Promise.{AtByte, AtLetter, AfterPart, AfterKeyword, AfterFirst};
-ghost use Rattle.read_parts.specs.Promise.{plainAt, timedAt, belowAt, levelAt, moreAt, negatedAt, parensAt, wordedAt, keptAt, secondAt, Reads, ReadsOn, ReadsSecond};
+ghost use Rattle.read_parts.specs.Promise.{plainAt, timedAt, belowAt, levelAt, moreAt, negatedAt, parensAt, nameOrKeepAt, sinceUntilAt, secondAt, Reads, ReadsOn, ReadsSecond};
 
 // A plain part and its intervals.
 fn timed(
@@ -32,7 +32,7 @@ fn timed(
     hidden: usize,
     depth: usize,
 ) -> Parsed
-    requires { ⌜ Ready (now s) (now arena) (now names) at used hidden ⌝ }
+    requires { ⌜ PartReady (now s) (now arena) (now names) at used hidden ⌝ }
     ensures { λ r. ⌜ Reads (timedAt s names depth at) s arena at used hidden r ⌝ }
 {
     let r = plain_part(s, names, arena, at, used, hidden, depth);
@@ -53,7 +53,7 @@ fn below_part(
     hidden: usize,
     depth: usize,
 ) -> Parsed
-    requires { ⌜ Ready (now s) (now arena) (now names) at used hidden ⌝ }
+    requires { ⌜ PartReady (now s) (now arena) (now names) at used hidden ⌝ }
     ensures { λ r. ⌜ Reads (belowAt s names depth (opOf sign) at) s arena at used hidden r ⌝ }
 {
     match sign {
@@ -75,7 +75,7 @@ pub fn joined(
     hidden: usize,
     depth: usize,
 ) -> Parsed
-    requires { ⌜ Ready (now s) (now arena) (now names) at used hidden ⌝ }
+    requires { ⌜ PartReady (now s) (now arena) (now names) at used hidden ⌝ }
     ensures { λ r. ⌜ Reads (levelAt s names depth (opOf sign) at) s arena at used hidden r ⌝ }
 {
     let r = below_part(sign, s, names, arena, at, used, hidden, depth);
@@ -128,7 +128,7 @@ fn plain_part(
     hidden: usize,
     depth: usize,
 ) -> Parsed
-    requires { ⌜ Ready (now s) (now arena) (now names) at used hidden ⌝ }
+    requires { ⌜ PartReady (now s) (now arena) (now names) at used hidden ⌝ }
     ensures { λ r. ⌜ Reads (plainAt s names depth at) s arena at used hidden r ⌝ }
 {
     let b = byte_at(s, at);
@@ -221,7 +221,7 @@ fn word(
     depth: usize,
 ) -> Parsed
     requires { ⌜ AtLetter (now s) (now arena) (now names) at used hidden ⌝ }
-    ensures { λ r. ⌜ Reads (wordedAt s names depth at) s arena at used hidden r ⌝ }
+    ensures { λ r. ⌜ Reads (nameOrKeepAt s names depth at) s arena at used hidden r ⌝ }
 {
     if is_since(s, at) {
         let next = at + 5;
@@ -248,7 +248,7 @@ fn keep(
     since: bool,
 ) -> Parsed
     requires { ⌜ AfterKeyword (now s) (now arena) (now names) at used hidden ⌝ }
-    ensures { λ r. ⌜ Reads (keptAt s names depth since at) s arena (at - 5) used hidden r ⌝ }
+    ensures { λ r. ⌜ Reads (sinceUntilAt s names depth since at) s arena (at - 5) used hidden r ⌝ }
 {
     let b = byte_at(s, at);
     if b != b'(' {

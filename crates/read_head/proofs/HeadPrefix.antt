@@ -8,7 +8,7 @@ use lib.ListN.{length}
 use Rattle.spec_limits.specs.Limits.{mostRules, mostSignals, mostTicks}
 use Rattle.read_bytes.specs.Read.Read.{got}
 use Rattle.read_bytes.specs.Bytes.{bytes}
-use Rattle.read_names.specs.Words.{wordAt, namesAt, findName}
+use Rattle.read_names.specs.Spellings.{spellingAt, namesAt, findName}
 use Rattle.read_lines.specs.Lines.{rangedLine, nameLine, inTurn}
 use Rattle.read_bytes.proofs.Answers.{same-value, through, came}
 use Rattle.read_lines.proofs.Loops.{turn-alike}
@@ -27,8 +27,8 @@ module _ (h x : List ℕ) where
   unfolding signalLine namesAt
   signal-kept places p v q same e =
       let d = came (nameLine h p (bytes "signal=") 2 4) _ e in
-      let w : wordAt (h ++ x) (d .value) ≡ wordAt h (d .value) = word-kept h x p (bytes "signal=") 2 4 (d .first) in
-      let i : d .value ≡ v = through (eqb (findName (wordAt h (d .value)) (namesAt h places)) (length places)) (d .value) (d .place) 4 (d .value) (d .then) .1 in
+      let w : spellingAt (h ++ x) (d .value) ≡ spellingAt h (d .value) = word-kept h x p (bytes "signal=") 2 4 (d .first) in
+      let i : d .value ≡ v = through (eqb (findName (spellingAt h (d .value)) (namesAt h places)) (length places)) (d .value) (d .place) 4 (d .value) (d .then) .1 in
       (rw (nameLine-kept h x p (bytes "signal=") 2 4 (d .first), w, same) (d .then), rw (names-append (h ++ x) places (v ∷ []), names-append h places (v ∷ []), same, rw i at w))
 
   module _ {k : Head} {p : ℕ} (e : head h ≡ got k p) where

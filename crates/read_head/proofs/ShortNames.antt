@@ -9,7 +9,7 @@ use Rattle.spec_limits.specs.Limits.{mostNameBytes, mostRules, mostSignals, mos
 use Rattle.read_bytes.specs.Read.{Read}
 use Rattle.read_bytes.specs.Read.Read.{got}
 use Rattle.read_bytes.specs.Bytes.{bytes}
-use Rattle.read_names.specs.Words.{wordAt, namesAt, findName}
+use Rattle.read_names.specs.Spellings.{spellingAt, namesAt, findName}
 use Rattle.read_lines.specs.Lines.{rangedLine, nameLine, inTurn}
 use Rattle.read_bytes.proofs.Answers.{same-value, through, came}
 use Rattle.read_lines.proofs.KeyedLines.{name-held}
@@ -28,15 +28,15 @@ turn-all Q P part (suc n) t p k e =
     turn-all Q P part n (t ++ (d .value ∷ [])) (d .place) (all-append Q t (d .value ∷ []) k (part t p (d .value) (d .place) (d .first), tt)) (d .then)
 
 module _ (s : List ℕ) where
-  -- The word at v is short.
+  -- The spelling at v is short.
   abbrev Short : ℕ → Type 0
-  Short v = length (wordAt s v) ≤ mostNameBytes
+  Short v = length (spellingAt s v) ≤ mostNameBytes
 
   signal-short : (t : List ℕ) (p v q : ℕ) → signalLine s t p ≡ got v q → Short v
   unfolding signalLine
   signal-short t p v q h =
       let d = came (nameLine s p (bytes "signal=") 2 4) _ h in
-      let x = through (eqb (findName (wordAt s (d .value)) (namesAt s t)) (length t)) (d .value) (d .place) 4 (d .value) (d .then) in
+      let x = through (eqb (findName (spellingAt s (d .value)) (namesAt s t)) (length t)) (d .value) (d .place) 4 (d .value) (d .then) in
       let w = name-held s p (bytes "signal=") 2 4 (d .first) in
       subst Short (w .what .1 ∙ x .1) (named s (w .value) (w .what .0) .short)
 

@@ -9,7 +9,7 @@ use lib.Dec.{eqb}
 use lib.ListN.{length, length-append}
 use Rattle.read_bytes.specs.Read.Read.{got, refused}
 use Rattle.read_bytes.specs.Bytes.{bytes}
-use Rattle.read_names.specs.Words.{wordAt, namesAt, findName}
+use Rattle.read_names.specs.Spellings.{spellingAt, namesAt, findName}
 use Rattle.read_lines.specs.Lines.{nameLine, inTurn}
 use Rattle.read_bytes.proofs.Places.{Reach}
 use Rattle.read_bytes.proofs.Answers.{same-value, same-place, through, came}
@@ -19,16 +19,16 @@ use Rattle.spec_tilco.proofs.Lists.{all-append, all-weaker}
 use Rattle.read_head.specs.SheetHead.{signalLine}
 
 -- A name that is read is new, or it is refused.
-module _ (s places : List ℕ) (p : ℕ) {v q : ℕ} (a : nameLine s p (bytes "signal=") 2 4 ≡ got v q) (i : ℕ) (e : i ≡ findName (wordAt s v) (namesAt s places)) where
+module _ (s places : List ℕ) (p : ℕ) {v q : ℕ} (a : nameLine s p (bytes "signal=") 2 4 ≡ got v q) (i : ℕ) (e : i ≡ findName (spellingAt s v) (namesAt s places)) where
   -- no name before it is the same
   pub signal-new : i ≡ length places → got v q ≡ signalLine s places p
   unfolding signalLine
-  signal-new h = rw (a, eq-eqb (findName (wordAt s v) (namesAt s places)) (length places) (sym e ∙ h))
+  signal-new h = rw (a, eq-eqb (findName (spellingAt s v) (namesAt s places)) (length places) (sym e ∙ h))
 
   -- one is
   pub signal-twice : (i ≡ length places → ⊥) → refused 4 v ≡ signalLine s places p
   unfolding signalLine
-  signal-twice h = rw (a, ne-eqb (findName (wordAt s v) (namesAt s places)) (length places) (λ x. h (e ∙ x)))
+  signal-twice h = rw (a, ne-eqb (findName (spellingAt s v) (namesAt s places)) (length places) (λ x. h (e ∙ x)))
 
 -- The line of a signal, from p on: its name stands at v, and what follows it at q.
 pub record Signal (s : List ℕ) (p v q : ℕ) : Type 0 where
@@ -53,7 +53,7 @@ unfolding signalLine
 signal-line s places p {v} {q} h =
     let d = came (nameLine s p (bytes "signal=") 2 4) _ h in
     let w = name-line s p (d .first) in
-    let x = through (eqb (findName (wordAt s (d .value)) (namesAt s places)) (length places)) (d .value) (d .place) 4 (d .value) (d .then) in
+    let x = through (eqb (findName (spellingAt s (d .value)) (namesAt s places)) (length places)) (d .value) (d .place) 4 (d .value) (d .then) in
     record {
       past = record { ahead = omega (arith, x .2, w .past .ahead); inside = omega (arith, x .2, w .past .inside) };
       name = omega (arith, x .1, x .2, w .name);

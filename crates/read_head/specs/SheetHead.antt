@@ -9,7 +9,7 @@ use Rattle.spec_limits.specs.Limits.{mostRules, mostSignals, mostTicks}
 use Rattle.read_bytes.specs.Read.{Read, andThen}
 use Rattle.read_bytes.specs.Read.Read.{got, refused}
 use Rattle.read_bytes.specs.Bytes.{bytes, pick}
-use Rattle.read_names.specs.Words.{wordAt, namesAt, findName}
+use Rattle.read_names.specs.Spellings.{spellingAt, namesAt, findName}
 use Rattle.read_lines.specs.declared.Step.{Step}
 use Rattle.read_lines.specs.declared.Step.the-variants as step
 use Rattle.read_lines.specs.Lines.{rangedLine, nameLine, inTurn}
@@ -20,7 +20,7 @@ use Rattle.read_head.specs.declared.Heading.the-variants as heading
 unfoldable pub signalLine : List ℕ → List ℕ → ℕ → Read ℕ
 signalLine s places p =
     andThen (nameLine s p (bytes "signal=") 2 4) (λ v q.
-    pick (eqb (findName (wordAt s v) (namesAt s places)) (length places)) (λ _. got v q) (refused 4 v))
+    pick (eqb (findName (spellingAt s v) (namesAt s places)) (length places)) (λ _. got v q) (refused 4 v))
 
 -- What stands before the rules: the window, the place of each signal's name, and how many rules there are.
 pub record Head : Type 0 where

@@ -8,13 +8,13 @@ use native.Mathlib.Omega.{arith}
 use borrow.Author.Tests.{eq-eqb, ne-eqb, eqb-true, not-false, ltb-true, lt-ltb, le-ltb}
 use lib.Dec.{eqb, ltb}
 use lib.ListN.{length}
-use Rattle.read_names.specs.declared.Word.{Word}
-use Rattle.read_names.specs.declared.Word.the-variants.{Name, Other}
+use Rattle.read_names.specs.declared.NameRead.{NameRead}
+use Rattle.read_names.specs.declared.NameRead.the-variants.{Name, Other}
 use Rattle.read_bytes.specs.declared.numbers.Number.{Number}
 use Rattle.read_bytes.specs.declared.numbers.Number.the-variants.{Value, Missing}
 use Rattle.read_bytes.specs.Read.Read.{got, refused}
 use Rattle.read_bytes.specs.Bytes.{byte, between, peek, starts, runEnd}
-use Rattle.read_names.specs.Words.{nameAt}
+use Rattle.read_names.specs.Spellings.{nameAt}
 use Rattle.read_bytes.specs.Numbers.{number}
 use Rattle.read_lines.specs.Lines.{inLine, lineEnd, line, whole, wholeNumber, wholeName, numberLine, rangedLine, nameLine}
 use Rattle.read_bytes.proofs.Tests.{between-in, between-is}
@@ -61,7 +61,7 @@ module _ (s : List ℕ) (p : ℕ) (key : List ℕ) (form : ℕ) where
     unfolding numberLine
     number-line-is b = rw (a, b)
 
-    pub name-line-is : (content : ℕ) {w : Word} → nameAt s v ≡ w → wholeName v content e w ≡ nameLine s p key form content
+    pub name-line-is : (content : ℕ) {w : NameRead} → nameAt s v ≡ w → wholeName v content e w ≡ nameLine s p key form content
     unfolding nameLine
     name-line-is content b = rw (a, b)
 
@@ -129,7 +129,7 @@ name-held s p key form content {x} {q} h =
     let w = go (d .value) (d .place) (nameAt s (d .value)) (d .then) in
     record { value = d .value; lf = d .place; at = placed s p key form (d .first); what = (w .0, w .1); next = w .2 }
   where
-    go : (v e : ℕ) (w : Word) → wholeName v content e w ≡ got x q → (w ≡ Name e) × (v ≡ x) × (e + 1 ≡ q)
+    go : (v e : ℕ) (w : NameRead) → wholeName v content e w ≡ got x q → (w ≡ Name e) × (v ≡ x) × (e + 1 ≡ q)
     go v e (Name z) f =
         let t = through (eqb z e) v (e + 1) content v f in
         let i = eqb-true z e (t .0) in

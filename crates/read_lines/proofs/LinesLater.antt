@@ -8,14 +8,14 @@ use native.Mathlib.Omega.{arith}
 use borrow.Author.Tests.{ltb-true, ltb-false, lt-ltb, le-ltb}
 use lib.Dec.{ltb, eqb}
 use lib.ListN.{length, length-append}
-use Rattle.read_names.specs.declared.Word.{Word}
-use Rattle.read_names.specs.declared.Word.the-variants.{Name, Other}
+use Rattle.read_names.specs.declared.NameRead.{NameRead}
+use Rattle.read_names.specs.declared.NameRead.the-variants.{Name, Other}
 use Rattle.read_bytes.specs.declared.numbers.Number.{Number}
 use Rattle.read_bytes.specs.declared.numbers.Number.the-variants.{Value, Missing}
 use Rattle.read_bytes.specs.Read.{Read, andThen}
 use Rattle.read_bytes.specs.Read.Read.{got, refused}
 use Rattle.read_bytes.specs.Bytes.{between, starts}
-use Rattle.read_names.specs.Words.{nameAt}
+use Rattle.read_names.specs.Spellings.{nameAt}
 use Rattle.read_bytes.specs.Numbers.{number}
 use Rattle.read_lines.specs.Lines.{inLine, lineEnd, line, whole, wholeNumber, wholeName, numberLine, rangedLine, nameLine, upTo}
 use Rattle.read_bytes.proofs.Later.{moved, later, laterNumber, pick-map, eqb-later, starts-later, runEnd-later, number-later}
@@ -48,7 +48,7 @@ module _ (d : ℕ) where
   wholeNumber-later p form e (Value x q) = whole-later (λ v. v) x q e form p
   wholeNumber-later p form e Missing = refl
 
-  wholeName-later : (v content e : ℕ) (w : Word) → wholeName (d + v) content (d + e) (laterWord d w) ≡ laterPlace d (wholeName v content e w)
+  wholeName-later : (v content e : ℕ) (w : NameRead) → wholeName (d + v) content (d + e) (laterWord d w) ≡ laterPlace d (wholeName v content e w)
   wholeName-later v content e (Name q) = whole-later (λ y. d + y) v q e content v
   wholeName-later v content e Other = refl
 

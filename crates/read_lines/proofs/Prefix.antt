@@ -8,11 +8,11 @@ use native.Mathlib.Omega.{arith}
 use lib.Dec.{eqb}
 use lib.ListN.{length, drop, length-append, length-drop, List·getD-append}
 use lib.Seq.{drop-append-le}
-use Rattle.read_names.specs.declared.Word.the-variants.{Name}
+use Rattle.read_names.specs.declared.NameRead.the-variants.{Name}
 use Rattle.read_bytes.specs.declared.numbers.Number.the-variants.{Value}
 use Rattle.read_bytes.specs.Read.Read.{got}
 use Rattle.read_bytes.specs.Bytes.{bytes, byte, peek, between, digit, nameByte, starts, run, runAt, runEnd}
-use Rattle.read_names.specs.Words.{wordAt, wordEnd, isWord, nameAt}
+use Rattle.read_names.specs.Spellings.{spellingAt, spellingEnd, isSpelled, nameAt}
 use Rattle.read_bytes.specs.Numbers.{digits, number}
 use Rattle.read_lines.specs.Lines.{inLine, lineEnd, line, numberLine, rangedLine, nameLine}
 use Rattle.read_bytes.proofs.Runs.{every}
@@ -54,8 +54,8 @@ module _ (r x : List ℕ) where
   unfolding runEnd
   runEnd-kept P p h = ap (λ l. p + length l) (runAt-kept P p h)
 
-  -- A word that is since or until stays so, as the word is the same.
-  isWord-kept : (p : ℕ) (w : List ℕ) → every nameByte w ≡ true → wordEnd r p < length r → isWord (r ++ x) p w ≡ isWord r p w
+  -- A spelling that is since or until stays so, as the spelling is the same.
+  isWord-kept : (p : ℕ) (w : List ℕ) → every nameByte w ≡ true → spellingEnd r p < length r → isSpelled (r ++ x) p w ≡ isSpelled r p w
   isWord-kept p w all h = rw (is-word (r ++ x) p w all, is-word r p w all, runAt-kept nameByte p h)
 
   -- names
@@ -64,7 +64,7 @@ module _ (r x : List ℕ) where
   nameAt-kept p e h =
       let n = named r p e in
       let a = name-reach r p e in
-      let l : wordEnd r p < length r = omega (arith, n .ends) in
+      let l : spellingEnd r p < length r = omega (arith, n .ends) in
       rw (peek-kept p (omega (arith, a .0 .ahead)), runAt-kept nameByte p l, runEnd-kept nameByte p l, isWord-kept p (bytes "since") refl l, isWord-kept p (bytes "until") refl l) e
 
   -- numbers
@@ -120,10 +120,10 @@ module _ (r x : List ℕ) where
         let n = nameAt-kept (h .value) (h .what .0) (h .at .inside) in
         sym (name-line-is (r ++ x) p key form (placed-kept (h .at)) content n) ∙ sym (whole-is (h .value) (h .lf) (h .lf) content (h .value) refl) ∙ cc (h .next, h .what .1)
 
-    -- the word of an accepted name
-    pub word-kept : (content : ℕ) {v q : ℕ} → nameLine r p key form content ≡ got v q → wordAt (r ++ x) v ≡ wordAt r v
+    -- the spelling of an accepted name
+    pub word-kept : (content : ℕ) {v q : ℕ} → nameLine r p key form content ≡ got v q → spellingAt (r ++ x) v ≡ spellingAt r v
     word-kept content {v} e =
         let h = name-held r p key form content e in
         let n = named r (h .value) (h .what .0) in
-        let l : wordEnd r (h .value) < length r = omega (arith, n .ends, h .at .inside) in
+        let l : spellingEnd r (h .value) < length r = omega (arith, n .ends, h .at .inside) in
         rw (h .what .1) at (runAt-kept nameByte (h .value) l)

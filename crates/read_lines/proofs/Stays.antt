@@ -9,14 +9,14 @@ use native.Mathlib.Omega.{arith}
 use borrow.Author.Tests.{ltb-true}
 use lib.Dec.{ltb, eqb}
 use lib.ListN.{length}
-use Rattle.read_names.specs.declared.Word.{Word}
-use Rattle.read_names.specs.declared.Word.the-variants.{Name, Other}
+use Rattle.read_names.specs.declared.NameRead.{NameRead}
+use Rattle.read_names.specs.declared.NameRead.the-variants.{Name, Other}
 use Rattle.read_bytes.specs.declared.numbers.Number.{Number}
 use Rattle.read_bytes.specs.declared.numbers.Number.the-variants.{Value, Missing}
 use Rattle.read_bytes.specs.Read.{Read, andThen}
 use Rattle.read_bytes.specs.Read.Read.{got, refused}
 use Rattle.read_bytes.specs.Bytes.{pick, between, starts, runEnd}
-use Rattle.read_names.specs.Words.{nameAt}
+use Rattle.read_names.specs.Spellings.{nameAt}
 use Rattle.read_bytes.specs.Numbers.{number}
 use Rattle.read_lines.specs.Lines.{lineEnd, line, wholeNumber, wholeName, numberLine, rangedLine, nameLine, upTo}
 use Rattle.read_bytes.proofs.Answers.{came}
@@ -105,6 +105,6 @@ module _ (s : List ℕ) (p : ℕ) (h : p ≤ length s) (key : List ℕ) (form : 
       then-stays (λ v. v ≤ length s) (length s) (λ v. v ≤ length s) (line s p key form) (λ v e. wholeName v content e (nameAt s v)) line-stays
       (λ v e f i l. go v e (nameAt s v) i (placed s p key form f .inside))
     where
-      go : (v e : ℕ) (x : Word) → v ≤ length s → e < length s → Stays (λ v. v ≤ length s) (length s) (wholeName v content e x)
+      go : (v e : ℕ) (x : NameRead) → v ≤ length s → e < length s → Stays (λ v. v ≤ length s) (length s) (wholeName v content e x)
       go v e (Name q) k l = pick-stays (λ v. v ≤ length s) (length s) (eqb q e) (got v (e + 1)) (refused content v) (λ _. (k, omega arith)) k
       go v e Other k l = k

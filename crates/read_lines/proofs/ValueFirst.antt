@@ -8,13 +8,13 @@ use native.Mathlib.Omega.{arith}
 use borrow.Author.Tests.{eqb-true, eq-eqb, ltb-true, lt-ltb, le-ltb, leb-true, le-leb, lt-leb, leb-false}
 use lib.Dec.{leb, ltb, eqb}
 use lib.ListN.{length, getD}
-use Rattle.read_names.specs.declared.Word.{Word}
-use Rattle.read_names.specs.declared.Word.the-variants.{Name, Other}
+use Rattle.read_names.specs.declared.NameRead.{NameRead}
+use Rattle.read_names.specs.declared.NameRead.the-variants.{Name, Other}
 use Rattle.read_bytes.specs.declared.numbers.Number.{Number}
 use Rattle.read_bytes.specs.declared.numbers.Number.the-variants.{Value, Missing}
 use Rattle.read_bytes.specs.Read.Read.{got, refused}
 use Rattle.read_bytes.specs.Bytes.{byte, peek, between, digit, nameByte, starts, runEnd}
-use Rattle.read_names.specs.Words.{nameAt}
+use Rattle.read_names.specs.Spellings.{nameAt}
 use Rattle.read_bytes.specs.Numbers.{digits, number}
 use Rattle.read_lines.specs.Lines.{inLine, lineEnd, keyedAt, lfAt, NoName, line, wholeNumber, wholeName, numberLine, nameLine}
 use Rattle.read_bytes.proofs.Places.{peek-in, inside-test}
@@ -151,7 +151,7 @@ module _ (s : List ℕ) (p : ℕ) (key : List ℕ) where
         let h = placed s p key form a in
         missed h (nameAt s v) refl ∙ name-line-is s p key form a content refl
       where
-        missed : Placed s p key v e → (w : Word) → nameAt s v ≡ w → refused content v ≡ wholeName v content e w
+        missed : Placed s p key v e → (w : NameRead) → nameAt s v ≡ w → refused content v ≡ wholeName v content e w
         missed h (Name q) f = whole-not v q e content v (lf-placed h (never q (sym (ap (nameAt s) (h .value)) ∙ f)))
         missed h Other f = refl
 

@@ -8,14 +8,14 @@ use lib.ListN.{length}
 use lib.Dec.{leb, ltb, eqb}
 use Rattle.read_lines.specs.declared.Step.{Step}
 use Rattle.read_lines.specs.declared.Step.the-variants.{Got, Refused}
-use Rattle.read_names.specs.declared.Word.{Word}
-use Rattle.read_names.specs.declared.Word.the-variants.{Name, Other}
+use Rattle.read_names.specs.declared.NameRead.{NameRead}
+use Rattle.read_names.specs.declared.NameRead.the-variants.{Name, Other}
 use Rattle.read_bytes.specs.declared.numbers.Number.{Number}
 use Rattle.read_bytes.specs.declared.numbers.Number.the-variants.{Value, Missing}
 use Rattle.read_bytes.specs.Read.{Read, andThen}
 use Rattle.read_bytes.specs.Read.Read.{got, refused}
 use Rattle.read_bytes.specs.Bytes.{byte, peek, pick, between, starts, runEnd}
-use Rattle.read_names.specs.Words.{nameAt}
+use Rattle.read_names.specs.Spellings.{nameAt}
 use Rattle.read_bytes.specs.Numbers.{number}
 
 -- What each case of an answer of a reader of lines says.
@@ -55,7 +55,7 @@ wholeNumber p form e (Value x q) = whole x q e form p
 wholeNumber p form e Missing = refused form p
 
 -- A name that takes the line whole from its value's place v on. Its place is its value.
-abbrev pub wholeName : ℕ → ℕ → ℕ → Word → Read ℕ
+abbrev pub wholeName : ℕ → ℕ → ℕ → NameRead → Read ℕ
 wholeName v content e (Name q) = whole v q e content v
 wholeName v content e Other = refused content v
 

@@ -3,7 +3,7 @@
 use read_bytes::bytes::stands_at;
 use read_bytes::numbers::Number;
 use read_bytes::numbers::number_at;
-use read_names::Word;
+use read_names::NameRead;
 use read_names::name_at;
 ghost use mathlib.Core.Path.{_≡_};
 ghost use Prim.Native.Nat.{_+_, _≤_};
@@ -135,7 +135,7 @@ pub fn name_line(s: &[u8], at: usize, key: &[u8], form: usize, content: usize) -
     }
     let v = at + key.len();
     let w = name_at(s, v);
-    let Word::Name(q) = w else {
+    let NameRead::Name(q) = w else {
         return no_name(s, at, key, form, content);
     };
     if lf_at(s, q) {

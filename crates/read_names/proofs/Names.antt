@@ -11,9 +11,9 @@ use lib.Dec.{leb, eqb}
 use lib.ListN.{length, getD, take, drop, drop-of-length-le}
 use lib.Seq.{getD-drop, getD-take}
 use Rattle.spec_limits.specs.Limits.{mostNameBytes}
-use Rattle.read_names.specs.declared.Word.the-variants.{Name, Other}
+use Rattle.read_names.specs.declared.NameRead.the-variants.{Name, Other}
 use Rattle.read_bytes.specs.Bytes.{bytes, byte, peek, pick, letter, nameByte, runEnd}
-use Rattle.read_names.specs.Words.{wordAt, wordEnd, namesAt, sameText, findName, isWord, nameAt}
+use Rattle.read_names.specs.Spellings.{spellingAt, spellingEnd, namesAt, sameText, findName, isSpelled, nameAt}
 use Rattle.read_bytes.proofs.Tests.{between-in}
 use Rattle.read_bytes.proofs.Places.{Reach, drop-in}
 use Rattle.read_bytes.proofs.Runs.{every, run-every, run-byte, run-slice}
@@ -52,37 +52,37 @@ same-sym (x ∷ a) (y ∷ b) = rw (eqb-sym x y, same-sym a b)
 pub same-text : (a b : List ℕ) → (sameText a b ≡ true) ↔ (a ≡ b)
 same-text a b = (same-is a b, λ e. rw e (same-self b))
 
--- The word at a, held against a word w.
+-- The spelling at a, held against a spelling w.
 module _ (s : List ℕ) (a : ℕ) (w : List ℕ) where
-  pub word-same : every nameByte w ≡ true → isWord s a w ≡ sameText (wordAt s a) w
-  word-same h = is-word s a w h ∙ same-sym w (wordAt s a)
+  pub word-same : every nameByte w ≡ true → isSpelled s a w ≡ sameText (spellingAt s a) w
+  word-same h = is-word s a w h ∙ same-sym w (spellingAt s a)
 
-  -- Where there is no room for w, or another byte in the place of the one at k, it is another word.
-  pub word-other : (k : ℕ) → k < length w → (a + length w ≤ length s → getD s (k + a) 0 ≡ getD w k 0 → ⊥) → sameText (wordAt s a) w ≡ false
-  word-other k h differs = go (sameText (wordAt s a) w) refl
+  -- Where there is no room for w, or another byte in the place of the one at k, it is another spelling.
+  pub word-other : (k : ℕ) → k < length w → (a + length w ≤ length s → getD s (k + a) 0 ≡ getD w k 0 → ⊥) → sameText (spellingAt s a) w ≡ false
+  word-other k h differs = go (sameText (spellingAt s a) w) refl
     where
-      go : (b : Bool) → sameText (wordAt s a) w ≡ b → b ≡ false
+      go : (b : Bool) → sameText (spellingAt s a) w ≡ b → b ≡ false
       go false e = refl
       go true e =
-          let i = same-is (wordAt s a) w e in
+          let i = same-is (spellingAt s a) w e in
           let n = ap length i in
           let r = run-byte nameByte s a k (omega arith) in
           absurd (differs (omega (arith, r .0)) (sym (r .1) ∙ ap (λ l. getD l k 0) i))
 
--- The word of r at p, cut out up to e, held against the word of s at a. The byte of s at a from k on is the one at k from a on.
-module _ (r : List ℕ) (p e : ℕ) (ends : e ≡ wordEnd r p) where
+-- The spelling of r at p, cut out up to e, held against the spelling of s at a. The byte of s at a from k on is the one at k from a on.
+module _ (r : List ℕ) (p e : ℕ) (ends : e ≡ spellingEnd r p) where
   pub cut-long : length (take (e - p) (drop p r)) ≡ e - p
   unfolding runEnd
   cut-long = rw (run-slice nameByte r p e ends) (omega arith)
 
   module _ (s : List ℕ) (a : ℕ) where
-    pub cut-same : isWord s a (take (e - p) (drop p r)) ≡ sameText (wordAt s a) (wordAt r p)
-    cut-same = rw (run-slice nameByte r p e ends) (word-same s a (wordAt r p) (run-every nameByte r p))
+    pub cut-same : isSpelled s a (take (e - p) (drop p r)) ≡ sameText (spellingAt s a) (spellingAt r p)
+    cut-same = rw (run-slice nameByte r p e ends) (word-same s a (spellingAt r p) (run-every nameByte r p))
 
-    pub cut-other : (k : ℕ) → k < e - p → (a + (e - p) ≤ length s → getD (take (length s - k) (drop k s)) a 0 ≡ getD (take (e - p) (drop p r)) k 0 → ⊥) → sameText (wordAt s a) (wordAt r p) ≡ false
+    pub cut-other : (k : ℕ) → k < e - p → (a + (e - p) ≤ length s → getD (take (length s - k) (drop k s)) a 0 ≡ getD (take (e - p) (drop p r)) k 0 → ⊥) → sameText (spellingAt s a) (spellingAt r p) ≡ false
     unfolding runEnd
     cut-other k h differs =
-        word-other s a (wordAt r p) k (omega arith)
+        word-other s a (spellingAt r p) k (omega arith)
         (λ l i. differs (omega arith) (getD-take (length s - k) (drop k s) a 0 (omega arith) ∙ getD-drop k s a 0 ∙ i ∙ sym (ap (λ w. getD w k 0) (run-slice nameByte r p e ends))))
 
 -- Whether the first name is w settles the search there, or moves it on by one.
@@ -149,15 +149,15 @@ module _ (s ps w : List ℕ) (i : ℕ) where
   unfolding namesAt findName
   search-end h = rw (drop-of-length-le ps h) (omega arith)
 
-  first : i < length ps → namesAt s (drop i ps) ≡ wordAt s (getD ps i 0) ∷ namesAt s (drop (i + 1) ps)
+  first : i < length ps → namesAt s (drop i ps) ≡ spellingAt s (getD ps i 0) ∷ namesAt s (drop (i + 1) ps)
   unfolding namesAt
   first h = ap (namesAt s) (drop-in ps i 0 h)
 
-  pub search-here : i < length ps → sameText (wordAt s (getD ps i 0)) w ≡ true → i + findName w (namesAt s (drop i ps)) ≡ i
-  search-here h e = rw (first h, find-here w (wordAt s (getD ps i 0)) (namesAt s (drop (i + 1) ps)) e) (omega arith)
+  pub search-here : i < length ps → sameText (spellingAt s (getD ps i 0)) w ≡ true → i + findName w (namesAt s (drop i ps)) ≡ i
+  search-here h e = rw (first h, find-here w (spellingAt s (getD ps i 0)) (namesAt s (drop (i + 1) ps)) e) (omega arith)
 
-  pub search-on : i < length ps → sameText (wordAt s (getD ps i 0)) w ≡ false → i + findName w (namesAt s (drop i ps)) ≡ i + 1 + findName w (namesAt s (drop (i + 1) ps))
-  search-on h e = rw (first h, find-later w (wordAt s (getD ps i 0)) (namesAt s (drop (i + 1) ps)) e) (omega arith)
+  pub search-on : i < length ps → sameText (spellingAt s (getD ps i 0)) w ≡ false → i + findName w (namesAt s (drop i ps)) ≡ i + 1 + findName w (namesAt s (drop (i + 1) ps))
+  search-on h e = rw (first h, find-later w (spellingAt s (getD ps i 0)) (namesAt s (drop (i + 1) ps)) e) (omega arith)
 
 -- NAMES OF A SHEET
 module _ (s : List ℕ) (p b : ℕ) (eb : b ≡ peek s p) where
@@ -165,38 +165,38 @@ module _ (s : List ℕ) (p b : ℕ) (eb : b ≡ peek s p) where
   unfolding nameAt
   name-not h = let m : letter (peek s p) ≡ false = rw eb at h in rw m
 
-  module _ (e : ℕ) (ee : e ≡ wordEnd s p) (lo : byte "a" ≤ b) (hi : b ≤ byte "z") where
+  module _ (e : ℕ) (ee : e ≡ spellingEnd s p) (lo : byte "a" ≤ b) (hi : b ≤ byte "z") where
     first-letter : letter (peek s p) ≡ true
     first-letter = rw eb at (between-in (byte "a") (byte "z") b lo hi)
 
     pub name-long : mostNameBytes < e - p → Other ≡ nameAt s p
     unfolding nameAt runEnd
-    name-long h = rw (first-letter, lt-leb (length (wordAt s p)) mostNameBytes (omega arith))
+    name-long h = rw (first-letter, lt-leb (length (spellingAt s p)) mostNameBytes (omega arith))
 
-    short : e - p ≤ mostNameBytes → leb (length (wordAt s p)) mostNameBytes ≡ true
+    short : e - p ≤ mostNameBytes → leb (length (spellingAt s p)) mostNameBytes ≡ true
     unfolding runEnd
-    short h = le-leb (length (wordAt s p)) mostNameBytes (omega arith)
+    short h = le-leb (length (spellingAt s p)) mostNameBytes (omega arith)
 
-    pub name-since : e - p ≤ mostNameBytes → isWord s p (bytes "since") ≡ true → Other ≡ nameAt s p
+    pub name-since : e - p ≤ mostNameBytes → isSpelled s p (bytes "since") ≡ true → Other ≡ nameAt s p
     unfolding nameAt
     name-since h a = rw (first-letter, short h, a)
 
-    module _ (h : e - p ≤ mostNameBytes) (a : isWord s p (bytes "since") ≡ false) where
-      pub name-until : isWord s p (bytes "until") ≡ true → Other ≡ nameAt s p
+    module _ (h : e - p ≤ mostNameBytes) (a : isSpelled s p (bytes "since") ≡ false) where
+      pub name-until : isSpelled s p (bytes "until") ≡ true → Other ≡ nameAt s p
       unfolding nameAt
       name-until d = rw (first-letter, short h, a, d)
 
-      pub name-is : isWord s p (bytes "until") ≡ false → Name e ≡ nameAt s p
+      pub name-is : isSpelled s p (bytes "until") ≡ false → Name e ≡ nameAt s p
       unfolding nameAt
       name-is d = rw (first-letter, short h, a, d, ← ee)
 
 -- What a name is.
 pub record Named (s : List ℕ) (p q : ℕ) : Type 0 where
   pub first : letter (peek s p) ≡ true
-  pub short : length (wordAt s p) ≤ mostNameBytes
-  pub not-since : isWord s p (bytes "since") ≡ false
-  pub not-until : isWord s p (bytes "until") ≡ false
-  pub ends : q ≡ wordEnd s p
+  pub short : length (spellingAt s p) ≤ mostNameBytes
+  pub not-since : isSpelled s p (bytes "since") ≡ false
+  pub not-until : isSpelled s p (bytes "until") ≡ false
+  pub ends : q ≡ spellingEnd s p
 
 passed : (b : Bool) (e : ℕ) {q : ℕ} → pick b (λ _. Name e) Other ≡ Name q → (b ≡ true) × (q ≡ e)
 passed true e f = (refl, cc)
@@ -205,15 +205,15 @@ passed false e f = let z : _≡_ {A = ℕ} 0 1 = cc in let w : ⊥ = omega arith
 pub named : (s : List ℕ) (p : ℕ) {q : ℕ} → nameAt s p ≡ Name q → Named s p q
 unfolding nameAt
 named s p h =
-    let t = passed _ (wordEnd s p) h in
-    let d = and-eq-true-iff _ (not (isWord s p (bytes "until"))) .0 (t .0) in
-    let b = and-eq-true-iff _ (not (isWord s p (bytes "since"))) .0 (d .0) in
-    let a = and-eq-true-iff (letter (peek s p)) (leb (length (wordAt s p)) mostNameBytes) .0 (b .0) in
+    let t = passed _ (spellingEnd s p) h in
+    let d = and-eq-true-iff _ (not (isSpelled s p (bytes "until"))) .0 (t .0) in
+    let b = and-eq-true-iff _ (not (isSpelled s p (bytes "since"))) .0 (d .0) in
+    let a = and-eq-true-iff (letter (peek s p)) (leb (length (spellingAt s p)) mostNameBytes) .0 (b .0) in
     record {
       first = a .0;
-      short = leb-true (length (wordAt s p)) mostNameBytes (a .1);
-      not-since = not-true (isWord s p (bytes "since")) (b .1);
-      not-until = not-true (isWord s p (bytes "until")) (d .1);
+      short = leb-true (length (spellingAt s p)) mostNameBytes (a .1);
+      not-since = not-true (isSpelled s p (bytes "since")) (b .1);
+      not-until = not-true (isSpelled s p (bytes "until")) (d .1);
       ends = t .1;
     }
 

@@ -1,4 +1,4 @@
--- Words: a word byte by byte, where it ends, and that it is the word that a list of letters and digits spells.
+-- Spellings: a spelling byte by byte, where it ends, and that it is the spelling that a list of letters and digits spells.
 -- Assumes nothing.
 use mathlib.Core.Path.{_≡_, refl, sym, ap, _∙_}
 use mathlib.Core.Bool.{Bool, true, false, true≢false, not, _&&_, and-eq-true-iff, or-true}
@@ -10,7 +10,7 @@ use borrow.Author.Tests.{eqb-true}
 use lib.Dec.{eqb}
 use lib.ListN.{length, take, drop}
 use Rattle.read_bytes.specs.Bytes.{peek, letter, digit, nameByte, starts, runEnd}
-use Rattle.read_names.specs.Words.{wordAt, wordEnd, sameText, isWord}
+use Rattle.read_names.specs.Spellings.{spellingAt, spellingEnd, sameText, isSpelled}
 use Rattle.read_bytes.proofs.Places.{Reach, peek-in, inside-test}
 use Rattle.read_bytes.proofs.Runs.{every, run-every, run-more, run-none, run-past, end-reach, run-slice}
 
@@ -34,21 +34,21 @@ module _ (s : List ℕ) (p : ℕ) where
   unfolding nameByte
   name-inside e = inside-test s p nameByte refl e
 
-  pub word-more : nameByte (peek s p) ≡ true → wordAt s p ≡ peek s p ∷ wordAt s (p + 1)
+  pub word-more : nameByte (peek s p) ≡ true → spellingAt s p ≡ peek s p ∷ spellingAt s (p + 1)
   word-more e =
       let h = name-inside e in
       let k = peek-in s p h in
       rw (← k) (run-more nameByte s p h (rw k e))
 
-  pub word-none : nameByte (peek s p) ≡ false → wordAt s p ≡ []
+  pub word-none : nameByte (peek s p) ≡ false → spellingAt s p ≡ []
   word-none e = go (decLt p (length s))
     where
-      go : Dec (p < length s) → wordAt s p ≡ []
+      go : Dec (p < length s) → spellingAt s p ≡ []
       go (yes h) = run-none nameByte s p h (rw (peek-in s p h) e)
       go (no h) = run-past nameByte s p (omega arith)
 
--- A word with a letter or a digit ends after it.
-pub word-ahead : (s : List ℕ) (p : ℕ) → nameByte (peek s p) ≡ true → Reach s (p + 1) (wordEnd s p)
+-- A spelling with a letter or a digit ends after it.
+pub word-ahead : (s : List ℕ) (p : ℕ) → nameByte (peek s p) ≡ true → Reach s (p + 1) (spellingEnd s p)
 unfolding runEnd
 word-ahead s p e =
     let i = name-inside s p e in
@@ -56,15 +56,15 @@ word-ahead s p e =
     let r = end-reach nameByte s p (omega arith) in
     record { ahead = omega (arith, m); inside = r .inside }
 
--- The word at p is w exactly if the two are the same text.
-pub is-word : (s : List ℕ) (p : ℕ) (w : List ℕ) → every nameByte w ≡ true → isWord s p w ≡ sameText w (wordAt s p)
-unfolding isWord starts sameText every
+-- The spelling at p is w exactly if the two are the same text.
+pub is-word : (s : List ℕ) (p : ℕ) (w : List ℕ) → every nameByte w ≡ true → isSpelled s p w ≡ sameText w (spellingAt s p)
+unfolding isSpelled starts sameText every
 is-word s p [] h = go (nameByte (peek s p)) refl
   where
     here : p + 0 ≡ p
     here = omega arith
 
-    go : (b : Bool) → nameByte (peek s p) ≡ b → not (nameByte (peek s (p + 0))) ≡ sameText [] (wordAt s p)
+    go : (b : Bool) → nameByte (peek s p) ≡ b → not (nameByte (peek s (p + 0))) ≡ sameText [] (spellingAt s p)
     go true e = rw (here, word-more s p e, e)
     go false e = rw (here, word-none s p e, e)
 is-word s p (x ∷ w) h = go (eqb x (peek s p)) refl (nameByte (peek s p)) refl (is-word s (p + 1) w (k .1))
@@ -75,26 +75,26 @@ is-word s p (x ∷ w) h = go (eqb x (peek s p)) refl (nameByte (peek s p)) refl 
     next : p + suc (length w) ≡ p + 1 + length w
     next = omega arith
 
-    go : (b : Bool) → eqb x (peek s p) ≡ b → (c : Bool) → nameByte (peek s p) ≡ c → isWord s (p + 1) w ≡ sameText w (wordAt s (p + 1)) → (eqb x (peek s p) && starts s (p + 1) w) && not (nameByte (peek s (p + suc (length w)))) ≡ sameText (x ∷ w) (wordAt s p)
+    go : (b : Bool) → eqb x (peek s p) ≡ b → (c : Bool) → nameByte (peek s p) ≡ c → isSpelled s (p + 1) w ≡ sameText w (spellingAt s (p + 1)) → (eqb x (peek s p) && starts s (p + 1) w) && not (nameByte (peek s (p + suc (length w)))) ≡ sameText (x ∷ w) (spellingAt s p)
     go true e true f i = rw (word-more s p f, next, e, i)
     go true e false f i = absurd (true≢false (sym (k .0) ∙ ap nameByte (eqb-true x (peek s p) e) ∙ f))
     go false e true f i = rw (word-more s p f, e)
     go false e false f i = rw (word-none s p f, e)
 
 module _ (s : List ℕ) (p : ℕ) (w : List ℕ) where
-  pub is-not : starts s p w ≡ false → false ≡ isWord s p w
-  unfolding isWord
+  pub is-not : starts s p w ≡ false → false ≡ isSpelled s p w
+  unfolding isSpelled
   is-not a = rw a
 
-  pub is-by : starts s p w ≡ true → not (nameByte (peek s (p + length w))) ≡ isWord s p w
-  unfolding isWord
+  pub is-by : starts s p w ≡ true → not (nameByte (peek s (p + length w))) ≡ isSpelled s p w
+  unfolding isSpelled
   is-by a = rw a
 
--- The word at a of s, cut out up to e, is the word at b of r exactly if the two words are the same.
+-- The spelling at a of s, cut out up to e, is the spelling at b of r exactly if the two spellings are the same.
 module _ (s : List ℕ) (a : ℕ) (r : List ℕ) (b : ℕ) where
-  pub same-cut : (e : ℕ) → e ≡ wordEnd s a → isWord r b (take (e - a) (drop a s)) ≡ sameText (wordAt s a) (wordAt r b)
-  same-cut e h = rw (run-slice nameByte s a e h) (is-word r b (wordAt s a) (run-every nameByte s a))
+  pub same-cut : (e : ℕ) → e ≡ spellingEnd s a → isSpelled r b (take (e - a) (drop a s)) ≡ sameText (spellingAt s a) (spellingAt r b)
+  same-cut e h = rw (run-slice nameByte s a e h) (is-word r b (spellingAt s a) (run-every nameByte s a))
 
-  pub same-past : length s ≤ a → isWord r b [] ≡ sameText (wordAt s a) (wordAt r b)
+  pub same-past : length s ≤ a → isSpelled r b [] ≡ sameText (spellingAt s a) (spellingAt r b)
   unfolding every
   same-past h = rw (run-past nameByte s a h) (is-word r b [] refl)

@@ -17,7 +17,7 @@ use Rattle.read_bytes.specs.declared.bytes.Class.the-variants.{Letter, Digit, S
 use Rattle.read_bytes.specs.Read.{Read, andThen}
 use Rattle.read_bytes.specs.Read.Read.{got, refused}
 use Rattle.read_bytes.specs.Bytes.{byte, bytes, peek, pick, oneOf, classOf, nameByte, starts, runEnd}
-use Rattle.read_names.specs.Words.{wordAt, wordEnd, findName, isWord}
+use Rattle.read_names.specs.Spellings.{spellingAt, spellingEnd, findName, isSpelled}
 use Rattle.read_bytes.proofs.Places.{peek-out}
 use Rattle.read_bytes.proofs.Later.{later, eqb-later, peek-later, starts-later, runAt-later, runEnd-later}
 use Rattle.read_names.proofs.NamesLater.{isWord-later}
@@ -25,7 +25,7 @@ use Rattle.spec_tilco.specs.Formula.{Op, And, Or, Implies, Iff, Written}
 use Rattle.read_interval.specs.declared.Span.{Span}
 use Rattle.read_interval.specs.declared.Span.the-variants.{Over, Refused}
 use Rattle.read_interval.specs.Interval.{interval}
-use Rattle.read_parts.specs.Grammar.{Reader, declared, spanThen, times, timedPart, signText, repeats, more, level, formula, negated, closed, inParens, second, arguments, kept, worded, plainBy, plainIn, inside, plain, rule}
+use Rattle.read_parts.specs.FormulaText.{Reader, declared, spanThen, times, timedPart, signText, repeats, more, level, formula, negated, thenParen, inParens, second, arguments, sinceUntil, nameOrKeep, plainPartBy, plainPartIn, inside, plainPart, rule}
 use Rattle.read_interval.proofs.Spans.{Sound, interval-sound}
 use Rattle.read_parts.proofs.Steps.{sign-some, more-none, times-none}
 use Rattle.read_interval.proofs.SpansLater.{laterSpan, interval-later}
@@ -83,8 +83,8 @@ no-sign Or t i h = rw (peek-out t i h)
 no-sign Implies t i h = rw (peek-out t i h)
 no-sign Iff t i h = rw (peek-out t i h)
 
--- A word ends where it starts or after that.
-word-ahead : (t : List ℕ) (i : ℕ) → i ≤ wordEnd t i
+-- A spelling ends where it starts or after that.
+word-ahead : (t : List ℕ) (i : ℕ) → i ≤ spellingEnd t i
 unfolding runEnd
 word-ahead t i = omega arith
 
@@ -156,7 +156,7 @@ module _ (u t : List ℕ) where
 
   -- ---- what opens something
 
-  closed-moved : (i : ℕ) {R R′ : Read Written} → Moved (length u) i R R′ → Moved (length u) i (closed (u ++ t) R) (closed t R′)
+  closed-moved : (i : ℕ) {R R′ : Read Written} → Moved (length u) i R R′ → Moved (length u) i (thenParen (u ++ t) R) (thenParen t R′)
   closed-moved i r =
       then-moved _ _ r
       (λ f q j.
@@ -188,8 +188,8 @@ module _ (u t : List ℕ) where
       (then-moved _ _ (shifts-on (formula P (u ++ t)) (formula P′ t) F i 1)
       (λ f q j. earlier j (second-shifts b (formula P (u ++ t)) (formula P′ t) F f q)))
 
-  kept-shifts : (I I′ : Option Reader) → ShiftsIn (length u) I I′ → (b : Bool) → Shifts (length u) (kept I b (u ++ t)) (kept I′ b t)
-  unfolding kept
+  kept-shifts : (I I′ : Option Reader) → ShiftsIn (length u) I I′ → (b : Bool) → Shifts (length u) (sinceUntil I b (u ++ t)) (sinceUntil I′ b t)
+  unfolding sinceUntil
   kept-shifts I I′ r b i =
       rw (peek-later u t i)
       (pick-moved (eqb (peek t i) (byte "(")) (arguments-shift I I′ r b i) refuses)
@@ -201,19 +201,19 @@ module _ (u t : List ℕ) where
     unfolding declared
     declared-shifts i =
         rw (runAt-later u t i nameByte, runEnd-later u t i nameByte)
-        (pick-moved (ltb (findName (wordAt t i) names) (length names)) (reads {q = wordEnd t i} (word-ahead t i)) refuses)
+        (pick-moved (ltb (findName (spellingAt t i) names) (length names)) (reads {q = spellingEnd t i} (word-ahead t i)) refuses)
 
-    worded-shifts : (I I′ : Option Reader) → ShiftsIn (length u) I I′ → Shifts (length u) (worded I names (u ++ t)) (worded I′ names t)
-    unfolding worded
+    worded-shifts : (I I′ : Option Reader) → ShiftsIn (length u) I I′ → Shifts (length u) (nameOrKeep I names (u ++ t)) (nameOrKeep I′ names t)
+    unfolding nameOrKeep
     worded-shifts I I′ r i =
         rw (isWord-later u t i (bytes "since"), isWord-later u t i (bytes "until"))
-        (pick-moved (isWord t i (bytes "since")) (word true)
-        (pick-moved (isWord t i (bytes "until")) (word false) (declared-shifts i)))
+        (pick-moved (isSpelled t i (bytes "since")) (word true)
+        (pick-moved (isSpelled t i (bytes "until")) (word false) (declared-shifts i)))
       where
-        word : (b : Bool) → Moved (length u) i (kept I b (u ++ t) (length u + i + 5)) (kept I′ b t (i + 5))
-        word b = earlier (omega arith) (shifts-on (kept I b (u ++ t)) (kept I′ b t) (kept-shifts I I′ r b) i 5)
+        word : (b : Bool) → Moved (length u) i (sinceUntil I b (u ++ t) (length u + i + 5)) (sinceUntil I′ b t (i + 5))
+        word b = earlier (omega arith) (shifts-on (sinceUntil I b (u ++ t)) (sinceUntil I′ b t) (kept-shifts I I′ r b) i 5)
 
-    plain-by-shifts : (k : Class) (I I′ : Option Reader) → ShiftsIn (length u) I I′ → Shifts (length u) (plainBy k I names (u ++ t)) (plainBy k I′ names t)
+    plain-by-shifts : (k : Class) (I I′ : Option Reader) → ShiftsIn (length u) I I′ → Shifts (length u) (plainPartBy k I names (u ++ t)) (plainPartBy k I′ names t)
     plain-by-shifts Letter I I′ r i = worded-shifts I I′ r i
     plain-by-shifts Digit I I′ r i = refuses
     plain-by-shifts Sign I I′ r i =
@@ -224,8 +224,8 @@ module _ (u t : List ℕ) where
         (pick-moved (eqb (peek t i) (byte "(")) (parens-shift I I′ r i) refuses)
     plain-by-shifts Other I I′ r i = refuses
 
-    plain-in-shifts : (I I′ : Option Reader) → ShiftsIn (length u) I I′ → Shifts (length u) (plainIn I names (u ++ t)) (plainIn I′ names t)
-    unfolding plainIn
+    plain-in-shifts : (I I′ : Option Reader) → ShiftsIn (length u) I I′ → Shifts (length u) (plainPartIn I names (u ++ t)) (plainPartIn I′ names t)
+    unfolding plainPartIn
     plain-in-shifts I I′ r i = rw (peek-later u t i) (plain-by-shifts (classOf (peek t i)) I I′ r i)
 
     inside-shifts : (d : ℕ) → ShiftsIn (length u) (inside d names (u ++ t)) (inside d names t)
@@ -234,9 +234,9 @@ module _ (u t : List ℕ) where
     inside-shifts (suc d) = both (plain-in-shifts (inside d names (u ++ t)) (inside d names t) (inside-shifts d))
 
     rule-shifts : Shifts (length u) (rule names (u ++ t)) (rule names t)
-    unfolding rule plain
+    unfolding rule plainPart
     rule-shifts i =
-        then-moved _ _ (formula-shifts (plain mostOpen names (u ++ t)) (plain mostOpen names t) (plain-in-shifts (inside mostOpen names (u ++ t)) (inside mostOpen names t) (inside-shifts mostOpen)) i)
+        then-moved _ _ (formula-shifts (plainPart mostOpen names (u ++ t)) (plainPart mostOpen names t) (plain-in-shifts (inside mostOpen names (u ++ t)) (inside mostOpen names t) (inside-shifts mostOpen)) i)
         (λ f q j.
         rw (length-append u t, eqb-later (length u) q (length t))
         (pick-moved (eqb q (length t)) (reads {q = q} j) refuses))

@@ -17,14 +17,14 @@ use Rattle.read_arena.specs.declared.Sign.{Sign}
 use Rattle.read_arena.specs.declared.Node.{Node}
 use Rattle.read_arena.specs.declared.Node.the-variants.{Name, Deny, Pair, Time}
 use Rattle.read_arena.specs.Nodes.{opOf, putNode, putKeep}
-use Rattle.read_arena.specs.Readings.{Arena, Room, Same, Held}
+use Rattle.read_arena.specs.NodeRules.{Arena, NodeRoom, Same, Held}
 use Rattle.read_arena.proofs.Puts.{same-put, same-then, arena-put}
 use Rattle.read_arena.proofs.Helds.{held-kept, held-name, held-neg, held-pair, held-time}
 use Rattle.read_arena.proofs.Keeps.{arena-put-keep, same-put-keep, held-keep}
 use Rattle.read_parts.specs.declared.parts.Parsed.{Parsed}
 use Rattle.read_parts.specs.declared.parts.Parsed.the-variants.{Got, Refused}
-use Rattle.read_parts.specs.Grammar.{closed}
-use Rattle.read_parts.specs.Parsed.{Far, Parses}
+use Rattle.read_parts.specs.FormulaText.{thenParen}
+use Rattle.read_parts.specs.Parsed.{Progress, Parses}
 use Rattle.read_parts.specs.Parsed.Parses.{parsed, refuses}
 
 -- ---- an answer taken apart
@@ -41,10 +41,10 @@ module _ {a a′ : List ℕ} {L e p m h x : ℕ} {R : Read Written} where
   from {r = r} z A = subst (λ (q : ℕ). Parses a a′ L e q m h x R r) z A
 
   -- How far a formula came.
-  pub far : {r : Parsed} {q u h′ : ℕ} → Parses a a′ L e p m h x R r → r ≡ Got q u h′ → Far L e p m h q u h′
+  pub far : {r : Parsed} {q u h′ : ℕ} → Parses a a′ L e p m h x R r → r ≡ Got q u h′ → Progress L e p m h q u h′
   far {r} {q} {u} {h′} A z = go (was A z)
     where
-      go : Parses a a′ L e p m h x R (Got q u h′) → Far L e p m h q u h′
+      go : Parses a a′ L e p m h x R (Got q u h′) → Progress L e p m h q u h′
       go (parsed w eq f ar sm he hh) = f
 
   -- The arena that it left.
@@ -98,7 +98,7 @@ after-put pq mu up hh hp sm (refuses eq) = refuses eq
 
 -- A sign, a part, the node over both, and then what follows.
 pub join : {a a₁ a′ : List ℕ} {L k m h x q u h₂ : ℕ} {R : Read Written} {r : Parsed} (a₂ : List ℕ) (p : ℕ) (s : Sign) (f : Written) (K : Written → ℕ → Read Written)
-    → 0 < m → p < k → Arena m a → Held a x (m - 1) f → h ≡ x + hiddens f → Parses a a₁ L 1 k m h h R (Got q u h₂) → Room a₁ u 1 → a₂ ≡ putNode a₁ u (Pair s (m - 1) (u - 1))
+    → 0 < m → p < k → Arena m a → Held a x (m - 1) f → h ≡ x + hiddens f → Parses a a₁ L 1 k m h h R (Got q u h₂) → NodeRoom a₁ u 1 → a₂ ≡ putNode a₁ u (Pair s (m - 1) (u - 1))
     → ((g : Written) → Held a₂ x ((u + 1) - 1) g → h₂ ≡ x + hiddens g → Arena (u + 1) a₂ → Parses a₂ a′ L 0 q (u + 1) h₂ x (K g q) r)
     → Parses a a′ L 0 p m h x (andThen R (λ g y. K (Written.pair (opOf s) f g) y)) r
 join {a} {a₁} {a′} {L} {k} {m} {h} {x} {q} {u} {h₂} {R} {r} a₂ p s f K some pk ar hf hs (parsed g eq w ar₁ sm hg hs₁) room e next =
@@ -118,7 +118,7 @@ join {a} {a₁} {a′} {L} {k} {m} {h} {x} {q} {u} {h₂} {R} {r} a₂ p s f K s
 -- ---- one node more
 
 -- A name's node.
-pub leaf : {a : List ℕ} {L m h : ℕ} {R : Read Written} (a′ : List ℕ) (p q n : ℕ) → R ≡ got (Written.name n) q → p < q → q ≤ L → Arena m a → Room a m 1
+pub leaf : {a : List ℕ} {L m h : ℕ} {R : Read Written} (a′ : List ℕ) (p q n : ℕ) → R ≡ got (Written.name n) q → p < q → q ≤ L → Arena m a → NodeRoom a m 1
     → a′ ≡ putNode a m (Name n) → Parses a a′ L 1 p m h h R (Got q (m + 1) h)
 leaf {a} {L} {m} {h} a′ p q n eq pq ql ar room e =
     let last : (m + 1) - 1 ≡ m = omega arith in
@@ -127,7 +127,7 @@ leaf {a} {L} {m} {h} a′ p q n eq pq ql ar room e =
     (rw e (arena-put (Name n) ar room tt)) (rw e (same-put a m m (Name n) (omega arith))) (rw (e, last) (held-name ar room h n)) (omega arith)
 
 -- A `!` and its node.
-pub wrap : {a a₁ : List ℕ} {L k m h q u h₂ : ℕ} {R : Read Written} (a₂ : List ℕ) (p : ℕ) → p < k → Parses a a₁ L 1 k m h h R (Got q u h₂) → Room a₁ u 1
+pub wrap : {a a₁ : List ℕ} {L k m h q u h₂ : ℕ} {R : Read Written} (a₂ : List ℕ) (p : ℕ) → p < k → Parses a a₁ L 1 k m h h R (Got q u h₂) → NodeRoom a₁ u 1
     → a₂ ≡ putNode a₁ u (Deny (u - 1)) → Parses a a₂ L 1 p m h h (andThen R (λ f y. got (Written.neg f) y)) (Got q (u + 1) h₂)
 wrap {a} {a₁} {L} {k} {m} {h} {q} {u} {h₂} a₂ p pk (parsed f eq w ar sm he hs) room e =
     let last : (u + 1) - 1 ≡ u = omega arith in
@@ -138,7 +138,7 @@ wrap {a} {a₁} {L} {k} {m} {h} {q} {u} {h₂} a₂ p pk (parsed f eq w ar sm he
 
 -- An interval over what stands last, and then what follows.
 pub spanned : {a a′ : List ℕ} {L m h x q : ℕ} {r : Parsed} (a₂ : List ℕ) (p first more : ℕ) (always : Bool) (f : Written) (K : Written → ℕ → Read Written)
-    → 0 < m → p < q → 1 ≤ first → first + more ≤ mostOffset → Arena m a → Room a m 1 → Held a x (m - 1) f → h ≡ x + hiddens f → a₂ ≡ putNode a m (Time always (m - 1) first more)
+    → 0 < m → p < q → 1 ≤ first → first + more ≤ mostOffset → Arena m a → NodeRoom a m 1 → Held a x (m - 1) f → h ≡ x + hiddens f → a₂ ≡ putNode a m (Time always (m - 1) first more)
     → ((g : Written) → Held a₂ x ((m + 1) - 1) g → h ≡ x + hiddens g → Arena (m + 1) a₂ → Parses a₂ a′ L 0 q (m + 1) h x (K g q) r)
     → Parses a a′ L 0 p m h x (K (Written.time always first more f) q) r
 spanned {a} {a′} {L} {m} {h} {x} {q} {r} a₂ p first more always f K some pq low high ar room he hs e next =
@@ -153,7 +153,7 @@ spanned {a} {a′} {L} {m} {h} {x} {q} {r} a₂ p first more always f K some pq 
 
 -- A `)` follows what was read, or it does not.
 pub shut : {a a₁ : List ℕ} {L k m h x q u h₂ : ℕ} {R : Read Written} (s : List ℕ) (p : ℕ) → p < k → Parses a a₁ L 1 k m h x R (Got q u h₂) → peek s q ≡ byte ")" → q < L
-    → Parses a a₁ L 1 p m h x (closed s R) (Got (q + 1) u h₂)
+    → Parses a a₁ L 1 p m h x (thenParen s R) (Got (q + 1) u h₂)
 shut {q = q} {u} {h₂} s p pk (parsed f eq w ar sm he hs) b ql =
     parsed {q = q + 1} {u = u} {h′ = h₂} f (rw (eq, eq-eqb (peek s q) (byte ")") b))
     (record { ahead = omega (arith, w .ahead); inside = omega arith; fresh = w .fresh; nodes = omega (arith, w .nodes); rows = w .rows; hidden = omega (arith, w .hidden) }) ar sm he hs
@@ -164,14 +164,14 @@ unshut {q = q} s K (parsed f eq w ar sm he hs) n e = refuses {n = 5} {k = q} (rw
 
 -- The second formula of a since or until: its `)`, and the six nodes.
 module _ {a a₁ : List ℕ} {L k m h q u h₂ : ℕ} {R : Read Written} (s : List ℕ) (b : Bool) (f : Written) (A : Parses a a₁ L 1 k m h h R (Got q u h₂)) where
-  pub shut-keep : (a₂ : List ℕ) (p row : ℕ) → 0 < m → p + 5 ≤ k → Arena m a → Held a (suc row) (m - 1) f → h ≡ suc row + hiddens f → Room a₁ u 6 → a₂ ≡ putKeep a₁ u b row (m - 1) (u - 1)
-      → peek s q ≡ byte ")" → q < L → Parses a a₂ L 0 p m h row (closed s (andThen R (λ g y. got (Written.keep b f g) y))) (Got (q + 1) (u + 6) h₂)
+  pub shut-keep : (a₂ : List ℕ) (p row : ℕ) → 0 < m → p + 5 ≤ k → Arena m a → Held a (suc row) (m - 1) f → h ≡ suc row + hiddens f → NodeRoom a₁ u 6 → a₂ ≡ putKeep a₁ u b row (m - 1) (u - 1)
+      → peek s q ≡ byte ")" → q < L → Parses a a₂ L 0 p m h row (thenParen s (andThen R (λ g y. got (Written.keep b f g) y))) (Got (q + 1) (u + 6) h₂)
   shut-keep a₂ p row some pk ar he hs room e z ql = go A
     where
       last : (u + 6) - 1 ≡ u + 5
       last = omega arith
 
-      go : Parses a a₁ L 1 k m h h R (Got q u h₂) → Parses a a₂ L 0 p m h row (closed s (andThen R (λ g y. got (Written.keep b f g) y))) (Got (q + 1) (u + 6) h₂)
+      go : Parses a a₁ L 1 k m h h R (Got q u h₂) → Parses a a₂ L 0 p m h row (thenParen s (andThen R (λ g y. got (Written.keep b f g) y))) (Got (q + 1) (u + 6) h₂)
       go (parsed g eq w ar₁ sm hg hs₁) =
           let l : m - 1 < u = omega (arith, w .fresh) in
           let r : u - 1 < u = omega (arith, w .fresh) in
@@ -182,18 +182,18 @@ module _ {a a₁ : List ℕ} {L k m h q u h₂ : ℕ} {R : Read Written} (s : Li
           (rw e (arena-put-keep b row ar₁ room l r)) (rw e (same-then sm (same-fewer m (omega (arith, w .fresh)) (same-put-keep a₁ u b row (m - 1) (u - 1)))))
           (rw (e, last) (held-keep b row ar₁ room l r left right)) (omega arith)
 
-  pub unshut-keep : {b₁ b′ : List ℕ} {L′ e′ p′ m′ k′ x′ : ℕ} → (peek s q ≡ byte ")" → ⊥) → Parses b₁ b′ L′ e′ p′ m′ k′ x′ (closed s (andThen R (λ g y. got (Written.keep b f g) y))) (Refused 5 q)
+  pub unshut-keep : {b₁ b′ : List ℕ} {L′ e′ p′ m′ k′ x′ : ℕ} → (peek s q ≡ byte ")" → ⊥) → Parses b₁ b′ L′ e′ p′ m′ k′ x′ (thenParen s (andThen R (λ g y. got (Written.keep b f g) y))) (Refused 5 q)
   unshut-keep {b₁} {b′} {L′} {e′} {p′} {m′} {k′} {x′} n = go A
     where
-      go : Parses a a₁ L 1 k m h h R (Got q u h₂) → Parses b₁ b′ L′ e′ p′ m′ k′ x′ (closed s (andThen R (λ g y. got (Written.keep b f g) y))) (Refused 5 q)
+      go : Parses a a₁ L 1 k m h h R (Got q u h₂) → Parses b₁ b′ L′ e′ p′ m′ k′ x′ (thenParen s (andThen R (λ g y. got (Written.keep b f g) y))) (Refused 5 q)
       go (parsed g eq w ar₁ sm hg hs₁) = refuses {n = 5} {k = q} (rw (eq, ne-eqb (peek s q) (byte ")") n))
 
 pub hand-on-keep : {a a′ b₁ b′ : List ℕ} {L e p m h x L′ e′ p′ m′ k′ x′ n k : ℕ} {R : Read Written} {r : Parsed} (s : List ℕ) (b : Bool) (f : Written)
-    → Parses a a′ L e p m h x R r → r ≡ Refused n k → Parses b₁ b′ L′ e′ p′ m′ k′ x′ (closed s (andThen R (λ g y. got (Written.keep b f g) y))) r
+    → Parses a a′ L e p m h x R r → r ≡ Refused n k → Parses b₁ b′ L′ e′ p′ m′ k′ x′ (thenParen s (andThen R (λ g y. got (Written.keep b f g) y))) r
 hand-on-keep {a} {a′} {b₁} {b′} {L} {e} {p} {m} {h} {x} {L′} {e′} {p′} {m′} {k′} {x′} {n} {k} {R} {r} s b f A z =
-    subst (Parses b₁ b′ L′ e′ p′ m′ k′ x′ (closed s (andThen R (λ g y. got (Written.keep b f g) y)))) (sym z) (go (was A z))
+    subst (Parses b₁ b′ L′ e′ p′ m′ k′ x′ (thenParen s (andThen R (λ g y. got (Written.keep b f g) y)))) (sym z) (go (was A z))
   where
-    go : Parses a a′ L e p m h x R (Refused n k) → Parses b₁ b′ L′ e′ p′ m′ k′ x′ (closed s (andThen R (λ g y. got (Written.keep b f g) y))) (Refused n k)
+    go : Parses a a′ L e p m h x R (Refused n k) → Parses b₁ b′ L′ e′ p′ m′ k′ x′ (thenParen s (andThen R (λ g y. got (Written.keep b f g) y))) (Refused n k)
     go (refuses eq) = refuses {n = n} {k = k} (rw eq)
 
 -- The first hidden signal after h.

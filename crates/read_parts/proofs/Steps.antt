@@ -17,7 +17,7 @@ use Rattle.read_bytes.specs.declared.bytes.Class.the-variants.{Letter, Digit, B
 use Rattle.read_bytes.specs.Read.{andThen}
 use Rattle.read_bytes.specs.Read.Read.{got, refused}
 use Rattle.read_bytes.specs.Bytes.{byte, bytes, peek, pick, oneOf, classOf, starts, nameByte, InLine}
-use Rattle.read_names.specs.Words.{wordAt, wordEnd, namesAt, findName, isWord}
+use Rattle.read_names.specs.Spellings.{spellingAt, spellingEnd, namesAt, findName, isSpelled}
 use Rattle.read_bytes.proofs.Places.{inside as inside-at, Reach}
 use Rattle.read_bytes.proofs.Classes.{class-letter}
 use Rattle.read_names.proofs.Spelling.{word-ahead}
@@ -30,7 +30,7 @@ use Rattle.read_interval.specs.declared.Span.{Span}
 use Rattle.read_interval.specs.declared.Span.the-variants.{Over}
 use Rattle.read_interval.specs.Interval.{interval}
 use Rattle.read_interval.proofs.Spans.{one-of, none-of, interval-reach}
-use Rattle.read_parts.specs.Grammar.{Reader, declared, spanThen, times, signText, repeats, more, below, formula, negated, closed, inParens, second, kept, worded, plainIn, inside, plain}
+use Rattle.read_parts.specs.FormulaText.{Reader, declared, spanThen, times, signText, repeats, more, below, formula, negated, thenParen, inParens, second, sinceUntil, nameOrKeep, plainPartIn, inside, plainPart}
 
 -- ---- signs
 
@@ -133,8 +133,8 @@ times-one s (suc n) f p e h l = let back : suc n - 1 ≡ n = omega arith in rw (
 -- ---- what is inside
 
 module _ (names : List (List ℕ)) (s : List ℕ) where
-  inside-some : (d : ℕ) → (d ≡ 0 → ⊥) → inside d names s ≡ some (plain (d - 1) names s)
-  unfolding inside plain
+  inside-some : (d : ℕ) → (d ≡ 0 → ⊥) → inside d names s ≡ some (plainPart (d - 1) names s)
+  unfolding inside plainPart
   inside-some zero e = absurd (e refl)
   inside-some (suc d) e = let back : suc d - 1 ≡ d = omega arith in rw back
 
@@ -144,23 +144,23 @@ module _ (names : List (List ℕ)) (s : List ℕ) where
     unfolding inside
     deny-full e = rw e
 
-    pub deny-on : (d ≡ 0 → ⊥) → negated (inside d names s) p ≡ andThen (plain (d - 1) names s (p + 1)) (λ f q. got (Written.neg f) q)
+    pub deny-on : (d ≡ 0 → ⊥) → negated (inside d names s) p ≡ andThen (plainPart (d - 1) names s (p + 1)) (λ f q. got (Written.neg f) q)
     deny-on e = rw (inside-some d e)
 
     pub paren-full : d ≡ 0 → inParens (inside d names s) s p ≡ refused 8 p
     unfolding inside
     paren-full e = rw e
 
-    pub paren-on : (d ≡ 0 → ⊥) → inParens (inside d names s) s p ≡ closed s (formula (plain (d - 1) names s) s (p + 1))
+    pub paren-on : (d ≡ 0 → ⊥) → inParens (inside d names s) s p ≡ thenParen s (formula (plainPart (d - 1) names s) s (p + 1))
     paren-on e = rw (inside-some d e)
 
     module _ (b : Bool) (k : peek s p ≡ byte "(") where
-      pub keep-full : d ≡ 0 → kept (inside d names s) b s p ≡ refused 8 p
-      unfolding inside kept
+      pub keep-full : d ≡ 0 → sinceUntil (inside d names s) b s p ≡ refused 8 p
+      unfolding inside sinceUntil
       keep-full e = rw (eq-eqb (peek s p) (byte "(") k) (rw e)
 
-      pub keep-on : (d ≡ 0 → ⊥) → kept (inside d names s) b s p ≡ andThen (formula (plain (d - 1) names s) s (p + 1)) (λ f q. second b (formula (plain (d - 1) names s) s) s f q)
-      unfolding kept
+      pub keep-on : (d ≡ 0 → ⊥) → sinceUntil (inside d names s) b s p ≡ andThen (formula (plainPart (d - 1) names s) s (p + 1)) (λ f q. second b (formula (plainPart (d - 1) names s) s) s f q)
+      unfolding sinceUntil
       keep-on e = rw (eq-eqb (peek s p) (byte "(") k) (rw (inside-some d e))
 
 -- ---- a plain part, by the class of its first byte
@@ -169,32 +169,32 @@ module _ (d : ℕ) (names : List (List ℕ)) (s : List ℕ) (p : ℕ) where
   abbrev inner : Option Reader
   inner = inside d names s
 
-  pub plain-letter : classOf (peek s p) ≡ Letter → plain d names s p ≡ worded inner names s p
-  unfolding plain plainIn
+  pub plain-letter : classOf (peek s p) ≡ Letter → plainPart d names s p ≡ nameOrKeep inner names s p
+  unfolding plainPart plainPartIn
   plain-letter k = rw k
 
-  pub plain-digit : classOf (peek s p) ≡ Digit → plain d names s p ≡ refused 5 p
-  unfolding plain plainIn
+  pub plain-digit : classOf (peek s p) ≡ Digit → plainPart d names s p ≡ refused 5 p
+  unfolding plainPart plainPartIn
   plain-digit k = rw k
 
-  pub plain-other : classOf (peek s p) ≡ Other → plain d names s p ≡ refused 5 p
-  unfolding plain plainIn
+  pub plain-other : classOf (peek s p) ≡ Other → plainPart d names s p ≡ refused 5 p
+  unfolding plainPart plainPartIn
   plain-other k = rw k
 
-  pub plain-deny : classOf (peek s p) ≡ class.Sign → peek s p ≡ byte "!" → plain d names s p ≡ negated inner p
-  unfolding plain plainIn
+  pub plain-deny : classOf (peek s p) ≡ class.Sign → peek s p ≡ byte "!" → plainPart d names s p ≡ negated inner p
+  unfolding plainPart plainPartIn
   plain-deny k e = rw (k, eq-eqb (peek s p) (byte "!") e)
 
-  pub plain-sign : classOf (peek s p) ≡ class.Sign → (peek s p ≡ byte "!" → ⊥) → plain d names s p ≡ refused 5 p
-  unfolding plain plainIn
+  pub plain-sign : classOf (peek s p) ≡ class.Sign → (peek s p ≡ byte "!" → ⊥) → plainPart d names s p ≡ refused 5 p
+  unfolding plainPart plainPartIn
   plain-sign k e = rw (k, ne-eqb (peek s p) (byte "!") e)
 
-  pub plain-paren : classOf (peek s p) ≡ Bracket → peek s p ≡ byte "(" → plain d names s p ≡ inParens inner s p
-  unfolding plain plainIn
+  pub plain-paren : classOf (peek s p) ≡ Bracket → peek s p ≡ byte "(" → plainPart d names s p ≡ inParens inner s p
+  unfolding plainPart plainPartIn
   plain-paren k e = rw (k, eq-eqb (peek s p) (byte "(") e)
 
-  pub plain-bracket : classOf (peek s p) ≡ Bracket → (peek s p ≡ byte "(" → ⊥) → plain d names s p ≡ refused 5 p
-  unfolding plain plainIn
+  pub plain-bracket : classOf (peek s p) ≡ Bracket → (peek s p ≡ byte "(" → ⊥) → plainPart d names s p ≡ refused 5 p
+  unfolding plainPart plainPartIn
   plain-bracket k e = rw (k, ne-eqb (peek s p) (byte "(") e)
 
 -- The class of a byte that was read.
@@ -205,54 +205,54 @@ class-told s p e f g = ap classOf (sym e) ∙ sym f ∙ g
 pub byte-inside : (s : List ℕ) (p : ℕ) {b : ℕ} (x : ℕ) → b ≡ peek s p → b ≡ x → (x ≡ byte "\n" → ⊥) → p < length s
 byte-inside s p x e f n = inside-at s p (λ z. n (sym f ∙ e ∙ z))
 
--- ---- a word
+-- ---- a spelling
 
-pub word-inside : (s : List ℕ) (p : ℕ) (w : List ℕ) → InLine w → p ≤ length s → isWord s p w ≡ true → p + length w ≤ length s
-unfolding isWord
+pub word-inside : (s : List ℕ) (p : ℕ) (w : List ℕ) → InLine w → p ≤ length s → isSpelled s p w ≡ true → p + length w ≤ length s
+unfolding isSpelled
 word-inside s p w n h e = starts-inside s p w n h (and-eq-true-iff (starts s p w) _ .0 e .0)
 
-pub since-inside : (s : List ℕ) (p : ℕ) {r : Bool} → p ≤ length s → r ≡ isWord s p (bytes "since") → r ≡ true → p + 5 ≤ length s
+pub since-inside : (s : List ℕ) (p : ℕ) {r : Bool} → p ≤ length s → r ≡ isSpelled s p (bytes "since") → r ≡ true → p + 5 ≤ length s
 since-inside s p h e k = word-inside s p (bytes "since") (λ z. omega arith, (λ z. omega arith, (λ z. omega arith, (λ z. omega arith, (λ z. omega arith, tt))))) h (sym e ∙ k)
 
-pub until-inside : (s : List ℕ) (p : ℕ) {r : Bool} → p ≤ length s → r ≡ isWord s p (bytes "until") → r ≡ true → p + 5 ≤ length s
+pub until-inside : (s : List ℕ) (p : ℕ) {r : Bool} → p ≤ length s → r ≡ isSpelled s p (bytes "until") → r ≡ true → p + 5 ≤ length s
 until-inside s p h e k = word-inside s p (bytes "until") (λ z. omega arith, (λ z. omega arith, (λ z. omega arith, (λ z. omega arith, (λ z. omega arith, tt))))) h (sym e ∙ k)
 
 module _ (d : ℕ) (names : List (List ℕ)) (s : List ℕ) (p : ℕ) where
-  pub word-since : isWord s p (bytes "since") ≡ true → worded (inside d names s) names s p ≡ kept (inside d names s) true s (p + 5)
-  unfolding worded
+  pub word-since : isSpelled s p (bytes "since") ≡ true → nameOrKeep (inside d names s) names s p ≡ sinceUntil (inside d names s) true s (p + 5)
+  unfolding nameOrKeep
   word-since e = rw e
 
-  pub word-until : isWord s p (bytes "since") ≡ false → isWord s p (bytes "until") ≡ true → worded (inside d names s) names s p ≡ kept (inside d names s) false s (p + 5)
-  unfolding worded
+  pub word-until : isSpelled s p (bytes "since") ≡ false → isSpelled s p (bytes "until") ≡ true → nameOrKeep (inside d names s) names s p ≡ sinceUntil (inside d names s) false s (p + 5)
+  unfolding nameOrKeep
   word-until e k = rw (e, k)
 
-  pub word-name : isWord s p (bytes "since") ≡ false → isWord s p (bytes "until") ≡ false → worded (inside d names s) names s p ≡ declared names s p
-  unfolding worded
+  pub word-name : isSpelled s p (bytes "since") ≡ false → isSpelled s p (bytes "until") ≡ false → nameOrKeep (inside d names s) names s p ≡ declared names s p
+  unfolding nameOrKeep
   word-name e k = rw (e, k)
 
--- A letter starts a word.
-pub letter-ahead : (s : List ℕ) (p : ℕ) → classOf (peek s p) ≡ Letter → Reach s (p + 1) (wordEnd s p)
+-- A letter starts a spelling.
+pub letter-ahead : (s : List ℕ) (p : ℕ) → classOf (peek s p) ≡ Letter → Reach s (p + 1) (spellingEnd s p)
 unfolding nameByte
 letter-ahead s p e = word-ahead s p (rw (class-letter (peek s p) .0 e))
 
 -- Names given by their places in the text.
-module _ (s places : List ℕ) (p i : ℕ) (e : i ≡ findName (wordAt s p) (namesAt s places)) where
-  pub name-found : {q : ℕ} → i < length places → q ≡ wordEnd s p → declared (namesAt s places) s p ≡ got (Written.name i) q
+module _ (s places : List ℕ) (p i : ℕ) (e : i ≡ findName (spellingAt s p) (namesAt s places)) where
+  pub name-found : {q : ℕ} → i < length places → q ≡ spellingEnd s p → declared (namesAt s places) s p ≡ got (Written.name i) q
   unfolding declared
   name-found h k =
-      let l : ltb (findName (wordAt s p) (namesAt s places)) (length (namesAt s places)) ≡ true = lt-ltb (findName (wordAt s p) (namesAt s places)) (length (namesAt s places)) (omega (arith, names-many s places)) in
+      let l : ltb (findName (spellingAt s p) (namesAt s places)) (length (namesAt s places)) ≡ true = lt-ltb (findName (spellingAt s p) (namesAt s places)) (length (namesAt s places)) (omega (arith, names-many s places)) in
       rw (l, e, k)
 
   pub name-unknown : length places ≤ i → declared (namesAt s places) s p ≡ refused 6 p
   unfolding declared
   name-unknown h =
-      let l : ltb (findName (wordAt s p) (namesAt s places)) (length (namesAt s places)) ≡ false = le-ltb (findName (wordAt s p) (namesAt s places)) (length (namesAt s places)) (omega (arith, names-many s places)) in
+      let l : ltb (findName (spellingAt s p) (namesAt s places)) (length (namesAt s places)) ≡ false = le-ltb (findName (spellingAt s p) (namesAt s places)) (length (namesAt s places)) (omega (arith, names-many s places)) in
       rw l
 
 -- ---- since and until
 
-pub kept-none : (inner : Option Reader) (b : Bool) (s : List ℕ) (p : ℕ) → (peek s p ≡ byte "(" → ⊥) → kept inner b s p ≡ refused 5 p
-unfolding kept
+pub kept-none : (inner : Option Reader) (b : Bool) (s : List ℕ) (p : ℕ) → (peek s p ≡ byte "(" → ⊥) → sinceUntil inner b s p ≡ refused 5 p
+unfolding sinceUntil
 kept-none inner b s p e = rw (ne-eqb (peek s p) (byte "(") e)
 
 module _ (b : Bool) (F : Reader) (s : List ℕ) (f : Written) (p : ℕ) where
@@ -260,7 +260,7 @@ module _ (b : Bool) (F : Reader) (s : List ℕ) (f : Written) (p : ℕ) where
   unfolding second
   second-none e = rw (ne-eqb (peek s p) (byte ",") e)
 
-  pub second-some : peek s p ≡ byte "," → second b F s f p ≡ closed s (andThen (F (p + 1)) (λ g q. got (Written.keep b f g) q))
+  pub second-some : peek s p ≡ byte "," → second b F s f p ≡ thenParen s (andThen (F (p + 1)) (λ g q. got (Written.keep b f g) q))
   unfolding second
   second-some e = rw (eq-eqb (peek s p) (byte ",") e)
 

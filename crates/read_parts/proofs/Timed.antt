@@ -11,12 +11,12 @@ use Rattle.read_bytes.specs.Bytes.{byte, bytes, peek, oneOf}
 use Rattle.spec_tilco.specs.Formula.{Written, hiddens}
 use Rattle.read_arena.specs.declared.Node.the-variants.{Time}
 use Rattle.read_arena.specs.Nodes.{putNode}
-use Rattle.read_arena.specs.Readings.{Arena, Room, Held}
+use Rattle.read_arena.specs.NodeRules.{Arena, NodeRoom, Held}
 use Rattle.read_interval.specs.declared.Span.the-variants.{Over, Refused as Not}
 use Rattle.read_parts.specs.declared.parts.Parsed.{Parsed}
 use Rattle.read_parts.specs.declared.parts.Parsed.the-variants.{Refused}
 use Rattle.read_interval.specs.Interval.{interval}
-use Rattle.read_parts.specs.Grammar.{spanThen, times}
+use Rattle.read_parts.specs.FormulaText.{spanThen, times}
 use Rattle.read_parts.specs.Parsed.{Parses}
 use Rattle.read_parts.specs.Parsed.Parses.{refuses}
 use Rattle.read_parts.proofs.Levels.{by, spanned}
@@ -24,7 +24,7 @@ use Rattle.read_parts.proofs.Steps.{times-one}
 
 module _ (s : List ℕ) (n : ℕ) (f : Written) (p : ℕ) (sign : oneOf (peek s p) (bytes "@?") ≡ true) (in-text : p < length s) (enough : length s ≤ p + n) where
   pub times-on : {a a₂ a′ : List ℕ} {m h x first more q b : ℕ} {r : Parsed} → b ≡ peek s p → interval s (p + 1) ≡ Over first more q → p < q → 1 ≤ first → first + more ≤ mostOffset → 0 < m
-      → Arena m a → Room a m 1 → Held a x (m - 1) f → h ≡ x + hiddens f → a₂ ≡ putNode a m (Time (eqb b (byte "@")) (m - 1) first more)
+      → Arena m a → NodeRoom a m 1 → Held a x (m - 1) f → h ≡ x + hiddens f → a₂ ≡ putNode a m (Time (eqb b (byte "@")) (m - 1) first more)
       → ((g : Written) → Held a₂ x ((m + 1) - 1) g → h ≡ x + hiddens g → Parses a₂ a′ (length s) 0 q (m + 1) h x (times s (n - 1) g q) r)
       → Parses a a′ (length s) 0 p m h x (times s n f p) r
   times-on {a} {a₂} {a′} {m} {h} {x} {first} {more} {q} {b} {r} eb e pq low high some ar room he hs put next =

@@ -1,4 +1,4 @@
 -- The definitions, lowest layer first.
-pub mod Grammar
+pub mod FormulaText
 pub mod Parsed
 pub mod Promise

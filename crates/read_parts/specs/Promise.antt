@@ -12,38 +12,38 @@ use Rattle.read_bytes.specs.Read.{Read}
 use Rattle.read_bytes.specs.Bytes.{peek, classOf}
 use Rattle.read_names.specs.Slices.{Slice, before, after, namesOf}
 use Rattle.spec_tilco.specs.Formula.{Op, Written, hiddens}
-use Rattle.read_arena.specs.Readings.{Held}
+use Rattle.read_arena.specs.NodeRules.{Held}
 use Rattle.read_parts.specs.declared.parts.Parsed.{Parsed}
-use Rattle.read_parts.specs.Grammar.{Reader, declared, timedPart, times, more, level, below, formula, negated, inParens, second, kept, worded, inside, plain, rule}
-use Rattle.read_parts.specs.Parsed.{Ready, Parses}
+use Rattle.read_parts.specs.FormulaText.{Reader, declared, timedPart, times, more, level, below, formula, negated, inParens, second, sinceUntil, nameOrKeep, inside, plainPart, rule}
+use Rattle.read_parts.specs.Parsed.{PartReady, Parses}
 
 -- ---- what is asked
 
 -- Ready at a byte of the text.
 pub record AtByte (s a names : List ℕ) (p m h : ℕ) : Type 0 where
-  pub ready : Ready s a names p m h
+  pub ready : PartReady s a names p m h
   pub inside : p < length s
 
 -- Ready at a letter.
 pub record AtLetter (s a names : List ℕ) (p m h : ℕ) : Type 0 where
-  pub ready : Ready s a names p m h
+  pub ready : PartReady s a names p m h
   pub letter : classOf (peek s p) ≡ Letter
 
 -- Ready after a part, whose node is the last one.
 pub record AfterPart (s a names : List ℕ) (p m h : ℕ) : Type 0 where
-  pub ready : Ready s a names p m h
+  pub ready : PartReady s a names p m h
   pub some : 0 < m
 
 -- Ready after since or until, whose five bytes count as what is left.
 pub record AfterKeyword (s a names : List ℕ) (p m h : ℕ) : Type 0 where
-  pub ready : Ready s a names (p - 5) m h
+  pub ready : PartReady s a names (p - 5) m h
   pub keyword : 5 ≤ p
   pub within : p ≤ length s
 
 -- Ready after the first formula of since or until, whose node is the last one; four bytes before p count as what is left, and the hidden
 -- signal has its row before h.
 pub record AfterFirst (s a names : List ℕ) (p m h row : ℕ) : Type 0 where
-  pub ready : Ready s a names (p - 4) m h
+  pub ready : PartReady s a names (p - 4) m h
   pub some : 0 < m
   pub numbered : row < h
   pub four : 4 ≤ p
@@ -66,7 +66,7 @@ module _ (s names : Slice) (d : ℕ) where
 
   -- What reads a plain part, and what reads one inside what it opens.
   abbrev outer : Reader
-  outer = plain d (namesOf s names) text
+  outer = plainPart d (namesOf s names) text
 
   abbrev inner : Option Reader
   inner = inside d (namesOf s names) text
@@ -92,11 +92,11 @@ module _ (s names : Slice) (d : ℕ) where
   abbrev pub parensAt : ℕ → Read Written
   parensAt p = inParens inner text p
 
-  abbrev pub wordedAt : ℕ → Read Written
-  wordedAt p = worded inner (namesOf s names) text p
+  abbrev pub nameOrKeepAt : ℕ → Read Written
+  nameOrKeepAt p = nameOrKeep inner (namesOf s names) text p
 
-  abbrev pub keptAt : Bool → ℕ → Read Written
-  keptAt since p = kept inner since text p
+  abbrev pub sinceUntilAt : Bool → ℕ → Read Written
+  sinceUntilAt since p = sinceUntil inner since text p
 
   abbrev pub secondAt : Bool → ℕ → Written → Read Written
   secondAt since p f = second since (formula outer text) text f p

@@ -9,14 +9,14 @@ use read_bytes::bytes::starts_at;
 use read_interval::Span;
 use read_interval::interval_at;
 use read_names::find_name;
-use read_names::word_end;
+use read_names::spelling_end;
 ghost use mathlib.Core.Path.{_≡_};
 ghost use mathlib.Core.List.{[]};
 ghost use Prim.Native.Nat.{_≤_};
 ghost use lib.ListN.{length};
 ghost use Rattle.read_bytes.specs.Bytes.{starts};
 ghost use Rattle.read_arena.specs.Nodes.{opOf};
-ghost use Rattle.read_parts.specs.Grammar.{signText, repeats as repeatsOf};
+ghost use Rattle.read_parts.specs.FormulaText.{signText, repeats as repeatsOf};
 ghost use Rattle.read_parts.specs.Promise.{AtLetter, AfterPart, declaredAt, timesAt, Reads, ReadsOn};
 
 // The place after what was read, the nodes then used and the next hidden signal's row; or a refusal's number and place.
@@ -77,7 +77,7 @@ pub fn name(
     let i = find_name(s, names, s, at);
     if i < names.len() {
         put_node(arena, used, Node::Name(i as u16));
-        let next = word_end(s, at);
+        let next = spelling_end(s, at);
         let count = used + 1;
         Parsed::Got(next, count, hidden)
     } else {

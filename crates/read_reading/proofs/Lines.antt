@@ -9,9 +9,9 @@ use lib.Dec.{ltb, eqb}
 use lib.ListN.{length}
 use Rattle.read_bytes.specs.Read.Read.{got, refused}
 use Rattle.read_bytes.specs.Bytes.{bytes, between}
-use Rattle.read_names.specs.declared.Word.{Word}
-use Rattle.read_names.specs.declared.Word.the-variants.{Name, Other}
-use Rattle.read_names.specs.Words.{wordAt, namesAt, findName, nameAt}
+use Rattle.read_names.specs.declared.NameRead.{NameRead}
+use Rattle.read_names.specs.declared.NameRead.the-variants.{Name, Other}
+use Rattle.read_names.specs.Spellings.{spellingAt, namesAt, findName, nameAt}
 use Rattle.read_lines.specs.Lines.{line, wholeName, numberLine, rangedLine, nameLine}
 use Rattle.read_bytes.proofs.Places.{Reach}
 use Rattle.read_bytes.proofs.Values.{number-reach}
@@ -22,7 +22,7 @@ use Rattle.spec_tilco.specs.Inference.{Mark, mark}
 use Rattle.read_reading.specs.OneReading.{knownLine, reading}
 
 -- The place of a name that is read is its value.
-name-value : (v content e : ℕ) (w : Word) {x q : ℕ} → wholeName v content e w ≡ got x q → v ≡ x
+name-value : (v content e : ℕ) (w : NameRead) {x q : ℕ} → wholeName v content e w ≡ got x q → v ≡ x
 name-value v content e (Name z) f = through (eqb z e) v (e + 1) content v f .1
 name-value v content e Other f = absurd (not-both (sym f))
 
@@ -35,18 +35,18 @@ name-place s p key form content h =
     omega (arith, w .order, w .inside, name-value (d .value) content (d .place) (nameAt s (d .value)) (d .then))
 
 -- A name that is read: its number among the names at places of the sheet, or its refusal.
-module _ (s ps r : List ℕ) (p : ℕ) {v q : ℕ} (a : nameLine r p (bytes "signal=") 11 12 ≡ got v q) (i : ℕ) (e : i ≡ findName (wordAt r v) (namesAt s ps)) where
+module _ (s ps r : List ℕ) (p : ℕ) {v q : ℕ} (a : nameLine r p (bytes "signal=") 11 12 ≡ got v q) (i : ℕ) (e : i ≡ findName (spellingAt r v) (namesAt s ps)) where
   pub known-is : i < length ps → got i q ≡ knownLine (namesAt s ps) r p
   unfolding knownLine
   known-is h =
-      let l : findName (wordAt r v) (namesAt s ps) < length (namesAt s ps) = omega (arith, names-many s ps) in
-      rw (a, lt-ltb (findName (wordAt r v) (namesAt s ps)) (length (namesAt s ps)) l, e)
+      let l : findName (spellingAt r v) (namesAt s ps) < length (namesAt s ps) = omega (arith, names-many s ps) in
+      rw (a, lt-ltb (findName (spellingAt r v) (namesAt s ps)) (length (namesAt s ps)) l, e)
 
   pub known-not : length ps ≤ i → refused 12 v ≡ knownLine (namesAt s ps) r p
   unfolding knownLine
   known-not h =
-      let l : length (namesAt s ps) ≤ findName (wordAt r v) (namesAt s ps) = omega (arith, names-many s ps) in
-      rw (a, le-ltb (findName (wordAt r v) (namesAt s ps)) (length (namesAt s ps)) l)
+      let l : length (namesAt s ps) ≤ findName (spellingAt r v) (namesAt s ps) = omega (arith, names-many s ps) in
+      rw (a, le-ltb (findName (spellingAt r v) (namesAt s ps)) (length (namesAt s ps)) l)
 
 -- What follows a line with a declared name stands after it.
 pub known-past : (names : List (List ℕ)) (r : List ℕ) (p : ℕ) {i q : ℕ} → knownLine names r p ≡ got i q → Reach r (p + 1) q × (i < length names)
@@ -54,8 +54,8 @@ unfolding knownLine
 known-past names r p h =
     let d = came (nameLine r p (bytes "signal=") 11 12) _ h in
     let w = line-past (name-held r p (bytes "signal=") 11 12 (d .first)) in
-    let x = through (ltb (findName (wordAt r (d .value)) names) (length names)) (findName (wordAt r (d .value)) names) (d .place) 12 (d .value) (d .then) in
-    let y = ltb-true (findName (wordAt r (d .value)) names) (length names) (x .0) in
+    let x = through (ltb (findName (spellingAt r (d .value)) names) (length names)) (findName (spellingAt r (d .value)) names) (d .place) 12 (d .value) (d .then) in
+    let y = ltb-true (findName (spellingAt r (d .value)) names) (length names) (x .0) in
     (record { ahead = omega (arith, x .2, w .ahead); inside = omega (arith, x .2, w .inside) }, omega (arith, x .1, y))
 
 -- A line with a number has at least a digit and its LF after its key.
@@ -72,7 +72,7 @@ known-long : (names : List (List ℕ)) (r : List ℕ) (p : ℕ) {i q : ℕ} → 
 unfolding knownLine
 known-long names r p h =
     let d = came (nameLine r p (bytes "signal=") 11 12) _ h in
-    let x = through (ltb (findName (wordAt r (d .value)) names) (length names)) (findName (wordAt r (d .value)) names) (d .place) 12 (d .value) (d .then) in
+    let x = through (ltb (findName (spellingAt r (d .value)) names) (length names)) (findName (spellingAt r (d .value)) names) (d .place) 12 (d .value) (d .then) in
     let w = name-held r p (bytes "signal=") 11 12 (d .first) in
     omega (arith, x .2, w .next, w .at .value, name-reach r (w .value) (w .what .0) .0 .ahead)
 

@@ -7,7 +7,7 @@ use lib.Dec.{ltb, eqb}
 use Rattle.read_bytes.specs.Read.{Read, andThen}
 use Rattle.read_bytes.specs.Read.Read.{got, refused}
 use Rattle.read_bytes.specs.Bytes.{bytes, pick}
-use Rattle.read_names.specs.Words.{wordAt, findName}
+use Rattle.read_names.specs.Spellings.{spellingAt, findName}
 use Rattle.read_lines.specs.Lines.{rangedLine, nameLine}
 use Rattle.spec_tilco.specs.Inference.{Mark, mark}
 use Rattle.read_reading.specs.declared.Reading.{Reading}
@@ -16,7 +16,7 @@ use Rattle.read_reading.specs.declared.Reading.the-variants.{Taken, Refu
 -- The line `signal=` with a declared name: the signal's number, and the place after the line. An unknown name is refused at the value.
 unfoldable pub knownLine : List (List ℕ) → List ℕ → ℕ → Read ℕ
 knownLine names r p =
-    andThen (nameLine r p (bytes "signal=") 11 12) (λ v q. pick (ltb (findName (wordAt r v) names) (length names)) (λ _. got (findName (wordAt r v) names) q) (refused 12 v))
+    andThen (nameLine r p (bytes "signal=") 11 12) (λ v q. pick (ltb (findName (spellingAt r v) names) (length names)) (λ _. got (findName (spellingAt r v) names) q) (refused 12 v))
 
 -- "Three lines a reading, in order: `at=` a number, `signal=` a declared name, `value=` 0 or 1": its mark, and the place after the lines.
 unfoldable pub reading : List (List ℕ) → ℕ → List ℕ → ℕ → Read Mark

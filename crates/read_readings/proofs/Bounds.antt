@@ -13,17 +13,17 @@ use Rattle.read_bytes.specs.Read.{Read}
 use Rattle.read_bytes.specs.Read.Read.{got}
 use Rattle.read_lines.specs.Lines.{upTo}
 use Rattle.read_bytes.proofs.Answers.{same-value, came}
-use Rattle.read_names.specs.Words.{namesAt}
+use Rattle.read_names.specs.Spellings.{namesAt}
 use Rattle.read_names.proofs.Names.{names-many}
 use Rattle.spec_tilco.specs.Formula.{Sheet}
 use Rattle.spec_tilco.specs.Inference.{Mark, mark}
 use Rattle.spec_tilco.specs.Lists.{All}
-use Rattle.spec_tilco.specs.Table.{Stands, Reading, Inside}
+use Rattle.spec_tilco.specs.Table.{Stands, InRange, Inside}
 use Rattle.spec_tilco.proofs.Lists.{all-append, all-at, all-weaker}
 use Rattle.table_marks.specs.Puts.{Puts}
 use Rattle.read_reading.specs.OneReading.{reading}
 use Rattle.read_readings.specs.Readings.{readings}
-use Rattle.read_readings.specs.Noted.{Room}
+use Rattle.read_readings.specs.MarkNumbers.{MarkRoom}
 use Rattle.read_reading.proofs.Lines.{Within, reading-past}
 use Rattle.read_readings.proofs.Turns.{readings-every}
 
@@ -48,11 +48,11 @@ readings-within names W r some e =
 
 -- So each is a reading of a sheet that has this window and these names.
 pub readings-of-sheet : (s : Sheet) (names : List (List ℕ)) (r : List ℕ) {ms : List Mark} {q : ℕ} → 1 ≤ s .window → length names ≡ s .signals
-    → readings names (s .window) r ≡ got ms q → All (Reading s) ms
+    → readings names (s .window) r ≡ got ms q → All (InRange s) ms
 readings-of-sheet s names r {ms} some k e =
-    all-weaker (Within (length names) (s .window)) (Reading s) of-sheet ms (readings-within names (s .window) r some e)
+    all-weaker (Within (length names) (s .window)) (InRange s) of-sheet ms (readings-within names (s .window) r some e)
   where
-    of-sheet : (m : Mark) → Within (length names) (s .window) m → Reading s m
+    of-sheet : (m : Mark) → Within (length names) (s .window) m → InRange s m
     of-sheet (mark x t v) h = (omega (arith, h .0), h .1)
 
 -- A table with no mark outside the window has none after such marks are put.
@@ -62,11 +62,11 @@ puts-inside k W n {ms} a i p =
 
 -- A table with room for a declared signal's row has room for each of the marks.
 pub readings-room : (s ps : List ℕ) (W n m : ℕ) (r : List ℕ) {ms : List Mark} {q : ℕ} → 1 ≤ W → W ≤ 64 * n → 2 * length ps * n ≤ m
-    → readings (namesAt s ps) W r ≡ got ms q → All (Room n m) ms
+    → readings (namesAt s ps) W r ≡ got ms q → All (MarkRoom n m) ms
 readings-room s ps W n m r {ms} some h l e =
-    all-weaker (Within (length (namesAt s ps)) W) (Room n m) room-for ms (readings-within (namesAt s ps) W r some e)
+    all-weaker (Within (length (namesAt s ps)) W) (MarkRoom n m) room-for ms (readings-within (namesAt s ps) W r some e)
   where
-    room-for : (k : Mark) → Within (length (namesAt s ps)) W k → Room n m k
+    room-for : (k : Mark) → Within (length (namesAt s ps)) W k → MarkRoom n m k
     room-for (mark x t v) i =
         let b : 2 * (x + 1) * n ≤ 2 * length ps * n = mul-le-mul-right n (omega (arith, names-many s ps, i .0)) in
         (omega (arith, i .1), omega arith)

@@ -11,7 +11,7 @@ use lib.Seq.{take-all}
 use Rattle.spec_limits.specs.Limits.{mostBytes}
 use Rattle.read_bytes.specs.Read.Read.{got, refused}
 use Rattle.read_bytes.specs.Bytes.{bytes, nameByte}
-use Rattle.read_names.specs.Words.{wordAt, findName}
+use Rattle.read_names.specs.Spellings.{spellingAt, findName}
 use Rattle.read_lines.specs.Lines.{rangedLine, nameLine, upTo}
 use Rattle.read_bytes.proofs.Answers.{same-value, came}
 use Rattle.read_bytes.proofs.Later.{moved, later, pick-map, runAt-later}
@@ -32,7 +32,7 @@ module _ (names : List (List ℕ)) where
   knownLine-later u t i =
       rw (nameLine-later u t i (bytes "signal=") 11 12)
       (then-moved (λ v. length u + v) (λ x. x) (length u) (nameLine t i (bytes "signal=") 11 12) _ _
-      (λ v q. rw (runAt-later u t v nameByte) (pick-map (later (length u)) (ltb (findName (wordAt t v) names) (length names)) (got (findName (wordAt t v) names) q) (refused 12 v))))
+      (λ v q. rw (runAt-later u t v nameByte) (pick-map (later (length u)) (ltb (findName (spellingAt t v) names) (length names)) (got (findName (spellingAt t v) names) q) (refused 12 v))))
 
   -- And before one.
   pub knownLine-kept : (r x : List ℕ) (p : ℕ) {i q : ℕ} → knownLine names r p ≡ got i q → knownLine names (r ++ x) p ≡ got i q

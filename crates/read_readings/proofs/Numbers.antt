@@ -12,7 +12,7 @@ use lib.Seq.{take-suc, take-suc-set}
 use Rattle.spec_limits.specs.Limits.{mostClosed}
 use Rattle.spec_tilco.specs.Inference.{Mark, mark}
 use Rattle.spec_tilco.specs.Lists.{All}
-use Rattle.read_readings.specs.Noted.{markOf, marksIn}
+use Rattle.read_readings.specs.MarkNumbers.{markOf, marksIn}
 
 -- The number of a mark is that mark; b is 1 for true and 0 for false.
 pub number-is : (w x t b : ℕ) {v : Bool} → t < mostClosed → b < 2 → w ≡ b + 2 * (t + mostClosed * x) → eqb b 1 ≡ v → markOf w ≡ mark x t v

@@ -16,11 +16,11 @@ use Rattle.spec_ticks.proofs.Tables.{same-table}
 use Rattle.spec_tilco.specs.Inference.{Mark, mark}
 use Rattle.read_readings.specs.declared.whole.Outcome.{Outcome}
 use Rattle.read_readings.specs.declared.whole.Outcome.the-variants.{Accepted, Refused}
-use Rattle.read_readings.specs.Noted.{marksIn, Notes}
-use Rattle.read_readings.specs.Noted.Notes.{all-noted, refused-at}
+use Rattle.read_readings.specs.MarkNumbers.{marksIn, ReadingsNoted}
+use Rattle.read_readings.specs.MarkNumbers.ReadingsNoted.{all-noted, refused-at}
 use Rattle.table_marks.specs.Puts.{Puts}
-use Rattle.read_readings.specs.Taking.{Took}
-use Rattle.read_readings.specs.Taking.Took.{taken, kept}
+use Rattle.read_readings.specs.TakeReadings.{ReadingsTaken}
+use Rattle.read_readings.specs.TakeReadings.ReadingsTaken.{taken, kept}
 use Rattle.table_marks.proofs.Marks.{puts-same}
 
 -- No text is both accepted and refused.
@@ -28,7 +28,7 @@ other-outcome : {k p : ℕ} → Accepted ≡ Refused k p → ⊥
 other-outcome e = let z : _≡_ {A = ℕ} 0 1 = cc in omega arith
 
 -- A refused text leaves the table as it is.
-pub not-taken : {R : Read (List Mark)} {a : List ℕ} {v : Step} {k p : ℕ} (n : ℕ) (T : List ℕ) → Notes R a v → v ≡ step.Refused k p → Took R n T T (Refused k p)
+pub not-taken : {R : Read (List Mark)} {a : List ℕ} {v : Step} {k p : ℕ} (n : ℕ) (T : List ℕ) → ReadingsNoted R a v → v ≡ step.Refused k p → ReadingsTaken R n T T (Refused k p)
 not-taken n T (all-noted j q l e) x = absurd (not-both (ap says x))
 not-taken {k = k} {p = p} n T (refused-at j q e) x =
     let i : j ≡ k = cc in
@@ -40,7 +40,7 @@ pub record Noted-as (R : Read (List Mark)) (a : List ℕ) (k q : ℕ) : Type 0 w
   pub few : k ≤ length a
   pub all : R ≡ got (marksIn a k) q
 
-pub when-noted : {R : Read (List Mark)} {a : List ℕ} {v : Step} {k q : ℕ} → Notes R a v → v ≡ step.Got k q → Noted-as R a k q
+pub when-noted : {R : Read (List Mark)} {a : List ℕ} {v : Step} {k q : ℕ} → ReadingsNoted R a v → v ≡ step.Got k q → Noted-as R a k q
 when-noted {a = a} {k = k} {q = q} (all-noted j u l e) x =
     let i : j ≡ k = cc in
     let h : u ≡ q = cc in
@@ -54,12 +54,12 @@ pub record Accepted-as (R : Read (List Mark)) (n : ℕ) (T T′ : List ℕ) : Ty
   pub all : R ≡ got marks place
   pub puts : Puts n marks T T′
 
-pub when-accepted : {R : Read (List Mark)} {n : ℕ} {T T′ : List ℕ} {a : Outcome} → Took R n T T′ a → a ≡ Accepted → Accepted-as R n T T′
+pub when-accepted : {R : Read (List Mark)} {n : ℕ} {T T′ : List ℕ} {a : Outcome} → ReadingsTaken R n T T′ a → a ≡ Accepted → Accepted-as R n T T′
 when-accepted (taken ms q e f) x = record { marks = ms; place = q; all = e; puts = f }
 when-accepted (kept k p e f) x = absurd (other-outcome (sym x))
 
 -- What a refusal says: the text has it, and every word is kept.
-pub when-refused : {R : Read (List Mark)} {n : ℕ} {T T′ : List ℕ} {a : Outcome} {k p : ℕ} → Took R n T T′ a → a ≡ Refused k p → (R ≡ refused k p) × (T′ ≡ T)
+pub when-refused : {R : Read (List Mark)} {n : ℕ} {T T′ : List ℕ} {a : Outcome} {k p : ℕ} → ReadingsTaken R n T T′ a → a ≡ Refused k p → (R ≡ refused k p) × (T′ ≡ T)
 when-refused (taken ms q e f) x = absurd (other-outcome x)
 when-refused {k = k} {p = p} (kept l q e f) x =
     let i : l ≡ k = cc in
@@ -75,7 +75,7 @@ puts-one n some {ms} {T} {T′} {T″} s z a b =
 
 -- Two outcomes for one text and one table coincide, and so do the tables that they leave.
 pub outcomes-coincide : {R : Read (List Mark)} {n : ℕ} {T T′ T″ : List ℕ} {a b : Outcome} → 1 ≤ n → Small 64 T′ → Small 64 T″
-    → Took R n T T′ a → Took R n T T″ b → (a ≡ b) × (T′ ≡ T″)
+    → ReadingsTaken R n T T′ a → ReadingsTaken R n T T″ b → (a ≡ b) × (T′ ≡ T″)
 outcomes-coincide {n = n} some s z (taken ms q e f) (taken ns u g h) =
     (refl, puts-one n some s z f (puts-same _ _ (same-value (sym g ∙ e)) h))
 outcomes-coincide some s z (taken ms q e f) (kept l u g h) = absurd (not-both (sym e ∙ g))

@@ -9,7 +9,7 @@ use lib.ListN.{length}
 use Rattle.spec_limits.specs.Limits.{mostBytes}
 use Rattle.read_bytes.specs.Read.Read.{got, refused}
 use Rattle.read_bytes.specs.Bytes.{bytes}
-use Rattle.read_names.specs.Words.{wordAt, findName}
+use Rattle.read_names.specs.Spellings.{spellingAt, findName}
 use Rattle.read_lines.specs.Lines.{rangedLine, nameLine, upTo}
 use Rattle.read_reading.specs.OneReading.{knownLine, reading}
 use Rattle.read_readings.specs.Readings.{readings}
@@ -20,7 +20,7 @@ known-stays : (s : List ℕ) (p : ℕ) → p ≤ length s → (names : List (Lis
 unfolding knownLine
 known-stays s p h names =
     then-stays Any (length s) (λ v. v ≤ length s) (nameLine s p (bytes "signal=") 11 12) _ (name-stays s p h (bytes "signal=") 11 12)
-    (λ v q f i l. pick-stays Any (length s) (ltb (findName (wordAt s v) names) (length names)) (got (findName (wordAt s v) names) q) (refused 12 v) (λ _. (tt, l)) i)
+    (λ v q f i l. pick-stays Any (length s) (ltb (findName (spellingAt s v) names) (length names)) (got (findName (spellingAt s v) names) q) (refused 12 v) (λ _. (tt, l)) i)
 
 module _ (names : List (List ℕ)) (W : ℕ) (r : List ℕ) where
   -- a reading

@@ -8,7 +8,7 @@ ghost use Rattle.spec_limits.specs.Limits.{mostClosed, mostSignals};
 ghost use Rattle.spec_tilco.specs.Inference.{mark};
 ghost use Rattle.spec_tilco.specs.Lists.{All};
 ghost use Rattle.table_marks.specs.Puts.{Puts};
-ghost use Rattle.read_readings.specs.Noted.{markOf, marksIn, Room};
+ghost use Rattle.read_readings.specs.MarkNumbers.{markOf, marksIn, MarkRoom};
 
 // How many marks a signal has.
 const MARKS: usize = 2 * CLOSED;
@@ -28,7 +28,7 @@ pub fn number_of(signal: usize, tick: usize, value: bool) -> u32
 
 // Puts the marks of the array's first `count` numbers into the table.
 pub fn put_noted(noted: &[u32], count: usize, n: usize, table: &mut [u64])
-    requires { ⌜ (count ≤ length (now noted)) × All (Room n (length (now table))) (marksIn (now noted) count) ⌝ }
+    requires { ⌜ (count ≤ length (now noted)) × All (MarkRoom n (length (now table))) (marksIn (now noted) count) ⌝ }
     ensures { λ _. ⌜ Puts n (marksIn (now (noted .entry)) count) (now (table .entry)) (now (table .exit)) ⌝ }
 {
     let mut i = 0;

@@ -14,8 +14,8 @@ ghost use Rattle.read_bytes.specs.Read.Read.{refused};
 ghost use Rattle.read_names.specs.Slices.{before, after, namesOf};
 ghost use Rattle.read_reading.specs.OneReading.{readingOf};
 ghost use Rattle.read_readings.specs.Readings.{readings};
-ghost use Rattle.read_readings.specs.Noted.{Notable, Notes};
-ghost use Rattle.read_readings.specs.Taking.{Takable, Took};
+ghost use Rattle.read_readings.specs.MarkNumbers.{CanNote, ReadingsNoted};
+ghost use Rattle.read_readings.specs.TakeReadings.{CanTake, ReadingsTaken};
 
 // A whole text is accepted, or a refusal's number and place are given.
 pub enum Outcome {
@@ -41,8 +41,8 @@ fn refused_reading(a: Reading) -> Step
 
 // Notes the mark of each reading of the text: how many there are, and the text's end.
 fn note_readings(s: &[u8], places: &[u64], window: usize, r: &[u8], noted: &mut [u32]) -> Step
-    requires { ⌜ Notable (now places) window (now noted) ⌝ }
-    ensures { λ v. ⌜ Notes (readings (namesOf s places) window (before r)) (after noted) v ⌝ }
+    requires { ⌜ CanNote (now places) window (now noted) ⌝ }
+    ensures { λ v. ⌜ ReadingsNoted (readings (namesOf s places) window (before r)) (after noted) v ⌝ }
 {
     if BYTES < r.len() {
         return Step::Refused(10, 0);
@@ -78,8 +78,8 @@ pub fn take_readings(
     r: &[u8],
     table: &mut [u64],
 ) -> Outcome
-    requires { ⌜ Takable (now places) window n (now table) ⌝ }
-    ensures { λ v. ⌜ Took (readings (namesOf s places) window (before r)) n (before table) (after table) v ⌝ }
+    requires { ⌜ CanTake (now places) window n (now table) ⌝ }
+    ensures { λ v. ⌜ ReadingsTaken (readings (namesOf s places) window (before r)) n (before table) (after table) v ⌝ }
 {
     let mut noted = [1u32; READINGS];
     let c = note_readings(s, places, window, r, &mut noted);

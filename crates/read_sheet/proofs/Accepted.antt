@@ -11,7 +11,7 @@ use Rattle.spec_limits.specs.Limits.{mostBytes, mostRuleBytes, mostRules, mostS
 use Rattle.read_bytes.specs.Read.{andThen}
 use Rattle.read_bytes.specs.Read.Read.{got, refused}
 use Rattle.read_bytes.specs.Bytes.{bytes, pick, between}
-use Rattle.read_names.specs.Words.{wordAt, namesAt, findName}
+use Rattle.read_names.specs.Spellings.{spellingAt, namesAt, findName}
 use Rattle.read_lines.specs.Lines.{line, rangedLine, nameLine, inTurn}
 use Rattle.read_lines.proofs.KeyedLines.{placed}
 use Rattle.read_names.proofs.Names.{names-many}
@@ -19,7 +19,7 @@ use Rattle.read_lines.proofs.Stays.{Stays, Any, then-stays, pick-stays, stays-l
 use Rattle.spec_tilco.specs.Formula.{Named, Declared}
 use Rattle.spec_tilco.specs.Lists.{All}
 use Rattle.spec_tilco.proofs.Lists.{all-weaker}
-use Rattle.read_parts.specs.Grammar.{rule}
+use Rattle.read_parts.specs.FormulaText.{rule}
 use Rattle.read_head.specs.SheetHead.{signalLine, headOf, head}
 use Rattle.read_sheet.specs.Sheet.{ruleTo, ruleLine, rules, Contents, contents, sheetOf, meant}
 use Rattle.read_sheet.proofs.Stays.{turn-stays}
@@ -36,7 +36,7 @@ module _ (s : List ℕ) where
   signal-stays t p h =
       then-stays (λ v. v ≤ length s) (length s) (λ v. v ≤ length s) (nameLine s p (bytes "signal=") 2 4) _ (name-stays s p h (bytes "signal=") 2 4)
       (λ v q e i l.
-      pick-stays (λ v. v ≤ length s) (length s) (eqb (findName (wordAt s v) (namesAt s t)) (length t)) (got v q) (refused 4 v) (λ _. (i, l)) i)
+      pick-stays (λ v. v ≤ length s) (length s) (eqb (findName (spellingAt s v) (namesAt s t)) (length t)) (got v q) (refused 4 v) (λ _. (i, l)) i)
 
   head-stays : Stays Any (length s) (head s)
   unfolding head

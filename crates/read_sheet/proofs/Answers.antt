@@ -12,9 +12,9 @@ use Rattle.read_parts.specs.declared.parts.Parsed.the-variants as parsed
 use Rattle.read_head.specs.declared.Heading.{Heading}
 use Rattle.read_head.specs.declared.Heading.the-variants as heading
 use Rattle.read_head.specs.SheetHead.{headOf, head, Sizes, Headed}
-use Rattle.read_sheet.specs.Reading.{Rule, RuleRead}
+use Rattle.read_sheet.specs.RuleAnswers.{RuleHeld, RuleRead}
 use Rattle.read_head.specs.SheetHead.Headed.{headed, refused-at as no-head}
-use Rattle.read_sheet.specs.Reading.RuleRead.{read as rule-read, refused-at as no-rule}
+use Rattle.read_sheet.specs.RuleAnswers.RuleRead.{read as rule-read, refused-at as no-rule}
 
 -- of the head's
 of-head : {s T : List ℕ} {w n m p : ℕ} → Headed s T (heading.Lines w n m p) → (head s ≡ got (headOf w (take n T) m) p) × Sizes w n m
@@ -33,7 +33,7 @@ module _ {s T : List ℕ} {r : Heading} (x : Headed s T r) where
   when-no-head e = of-no-head (subst (Headed s T) e x)
 
 -- of a rule line's
-of-rule : {a : List ℕ} {h : ℕ} {R : Read Written} {q u h′ : ℕ} → RuleRead a h R (parsed.Got q u h′) → Rule a h R q u h′
+of-rule : {a : List ℕ} {h : ℕ} {R : Read Written} {q u h′ : ℕ} → RuleRead a h R (parsed.Got q u h′) → RuleHeld a h R q u h′
 of-rule (rule-read w) = w
 
 of-no-rule : {a : List ℕ} {h : ℕ} {R : Read Written} {k p : ℕ} → RuleRead a h R (parsed.Refused k p) → R ≡ refused k p
@@ -41,7 +41,7 @@ of-no-rule (no-rule e) = e
 
 module _ {a : List ℕ} {h : ℕ} {R : Read Written} {r : Parsed} (x : RuleRead a h R r) where
   -- a rule was read
-  pub when-rule : {q u h′ : ℕ} → r ≡ parsed.Got q u h′ → Rule a h R q u h′
+  pub when-rule : {q u h′ : ℕ} → r ≡ parsed.Got q u h′ → RuleHeld a h R q u h′
   when-rule e = of-rule (subst (RuleRead a h R) e x)
 
   -- the line is refused

@@ -20,7 +20,7 @@ use Rattle.read_lines.proofs.KeyedLines.{line-is}
 use Rattle.read_bytes.proofs.Later.{later, starts-later, runEnd-later}
 use Rattle.spec_tilco.specs.Formula.{Written}
 use Rattle.spec_tilco.specs.Lists.{All}
-use Rattle.read_parts.specs.Grammar.{rule}
+use Rattle.read_parts.specs.FormulaText.{rule}
 use Rattle.read_parts.proofs.Later.{rule-later}
 use Rattle.read_sheet.specs.Sheet.{ruleTo, ruleLine, rules, ruleLineOf, ruleLines, sheetText}
 

@@ -7,7 +7,7 @@ use Prim.Native.Nat.{ℕ, zero, suc, _<_, _≤_}
 use native.Mathlib.Omega.{arith}
 use lib.ListN.{length, getD, take}
 use Rattle.read_bytes.specs.Bytes.{byte, peek, nameByte, run, runAt}
-use Rattle.read_names.specs.Words.{wordAt, namesAt}
+use Rattle.read_names.specs.Spellings.{spellingAt, namesAt}
 use Rattle.read_bytes.proofs.Places.{peek-in}
 use Rattle.spec_tilco.specs.Lists.{All}
 
@@ -35,8 +35,8 @@ module _ (P : ℕ → Bool) where
       run-kept s p e i j f
 
 module _ (s : List ℕ) (e : ℕ) (l : e < length s) (lf : peek s e ≡ byte "\n") where
-  -- A word that stands before the LF is the same.
-  word-kept : (p : ℕ) → p ≤ e → wordAt (take e s) p ≡ wordAt s p
+  -- A spelling that stands before the LF is the same.
+  word-kept : (p : ℕ) → p ≤ e → spellingAt (take e s) p ≡ spellingAt s p
   unfolding nameByte
   word-kept p h = run-kept nameByte s p e h l (rw (peek-in s e l, lf))
 

@@ -9,12 +9,12 @@ use lib.Dec.{T, eqb}
 use Rattle.read_bytes.specs.Read.{Read}
 use Rattle.read_bytes.specs.Read.Read.{got, refused}
 use Rattle.read_bytes.specs.Bytes.{bytes, peek, classOf, nameByte, starts, run, runAt, runEnd}
-use Rattle.read_names.specs.Words.{namesAt, sameText, findName, isWord, nameAt}
+use Rattle.read_names.specs.Spellings.{namesAt, sameText, findName, isSpelled, nameAt}
 use Rattle.read_bytes.specs.Numbers.{digits, number}
 use Rattle.read_lines.specs.Lines.{inLine, line, numberLine, rangedLine, nameLine, inTurn}
 use Rattle.spec_tilco.specs.Formula.{Implies, Written, always}
 use Rattle.read_interval.specs.Interval.{signed, endAt, spanOf, endAfter, closeAt, commaAt, interval}
-use Rattle.read_parts.specs.Grammar.{declared, times, timedPart, more, level, second, kept, worded, plainIn, inside, plain, rule}
+use Rattle.read_parts.specs.FormulaText.{declared, times, timedPart, more, level, second, sinceUntil, nameOrKeep, plainPartIn, inside, plainPart, rule}
 use Rattle.read_head.specs.SheetHead.{signalLine, head}
 use Rattle.read_sheet.specs.Sheet.{ruleTo, ruleLine, rules, Contents, contents, sheetOf}
 
@@ -24,7 +24,7 @@ p1-text = bytes "window=10\nsignals=3\nsignal=clear2\nsignal=go10\nsignal=open10
 
 -- It is read as window 10, the names' places, and the two rules; it ends at its last byte.
 pub p1-says : sheetOf p1-text ≡ got (contents 10 (27 ∷ 41 ∷ 53 ∷ []) (Written.pair Implies (always 61 3 (Written.name 0)) (Written.name 1) ∷ Written.pair Implies (Written.name 1) (always 66 0 (Written.name 2)) ∷ [])) 117
-unfolding peek classOf nameByte starts run runAt runEnd namesAt sameText findName isWord nameAt digits number inLine line numberLine rangedLine nameLine inTurn signed endAt spanOf endAfter closeAt commaAt interval declared times timedPart more level second kept worded plainIn inside plain rule signalLine head ruleTo ruleLine rules sheetOf
+unfolding peek classOf nameByte starts run runAt runEnd namesAt sameText findName isSpelled nameAt digits number inLine line numberLine rangedLine nameLine inTurn signed endAt spanOf endAfter closeAt commaAt interval declared times timedPart more level second sinceUntil nameOrKeep plainPartIn inside plainPart rule signalLine head ruleTo ruleLine rules sheetOf
 p1-says = refl
 
 -- A text, and the number and place of its refusal.
@@ -71,5 +71,5 @@ examples =
 
 -- Each of them is.
 pub examples-refused : T (allRefused examples)
-unfolding peek classOf nameByte starts run runAt runEnd namesAt sameText findName isWord nameAt digits number inLine line numberLine rangedLine nameLine inTurn signed endAt spanOf endAfter closeAt commaAt interval declared times timedPart more level second kept worded plainIn inside plain rule signalLine head ruleTo ruleLine rules sheetOf
+unfolding peek classOf nameByte starts run runAt runEnd namesAt sameText findName isSpelled nameAt digits number inLine line numberLine rangedLine nameLine inTurn signed endAt spanOf endAfter closeAt commaAt interval declared times timedPart more level second sinceUntil nameOrKeep plainPartIn inside plainPart rule signalLine head ruleTo ruleLine rules sheetOf
 examples-refused = tt

@@ -15,7 +15,7 @@ use Rattle.read_bytes.specs.declared.bytes.Class.the-variants.{Letter, Digit, S
 use Rattle.read_bytes.specs.Read.{Read, andThen}
 use Rattle.read_bytes.specs.Read.Read.{got, refused}
 use Rattle.read_bytes.specs.Bytes.{byte, bytes, peek, pick, oneOf, classOf, nameByte, starts, InLine}
-use Rattle.read_names.specs.Words.{wordAt, wordEnd, findName, isWord}
+use Rattle.read_names.specs.Spellings.{spellingAt, spellingEnd, findName, isSpelled}
 use Rattle.read_bytes.proofs.Places.{inside-test}
 use Rattle.read_bytes.proofs.Runs.{end-reach}
 use Rattle.read_lines.proofs.Stays.{Stays, then-stays, pick-stays}
@@ -23,7 +23,7 @@ use Rattle.spec_tilco.specs.Formula.{Op, And, Or, Implies, Iff, Written, Named}
 use Rattle.read_interval.specs.declared.Span.{Span}
 use Rattle.read_interval.specs.declared.Span.the-variants as span
 use Rattle.read_interval.specs.Interval.{interval}
-use Rattle.read_parts.specs.Grammar.{Reader, declared, spanThen, times, timedPart, signText, repeats, more, level, formula, negated, closed, inParens, second, arguments, kept, worded, plainBy, plainIn, inside, plain, rule}
+use Rattle.read_parts.specs.FormulaText.{Reader, declared, spanThen, times, timedPart, signText, repeats, more, level, formula, negated, thenParen, inParens, second, arguments, sinceUntil, nameOrKeep, plainPartBy, plainPartIn, inside, plainPart, rule}
 use Rattle.read_interval.proofs.Spans.{Sound, interval-sound}
 use Rattle.read_parts.proofs.Steps.{starts-inside, sign-inside}
 use Rattle.read_sheet.specs.Sheet.{Near}
@@ -103,7 +103,7 @@ module _ (n : ℕ) (s : List ℕ) where
   negated-stays (some P) r p h =
       then-good (P (p + 1)) (λ f q. got (Written.neg f) q) (r (p + 1) (omega arith)) (λ f q w l. (w, l))
 
-  closed-stays : (R : Read Written) → Good n s R → Good n s (closed s R)
+  closed-stays : (R : Read Written) → Good n s R → Good n s (thenParen s R)
   closed-stays R r =
       then-good R (λ f q. pick (eqb (peek s q) (byte ")")) (λ _. got f (q + 1)) (refused 5 q)) r
       (λ f q w l.
@@ -117,7 +117,7 @@ module _ (n : ℕ) (s : List ℕ) where
   second-stays : (b : Bool) (F : Reader) → Reads n s F → (f : Written) → Fits n f → (p : ℕ) → p ≤ length s → Good n s (second b F s f p)
   unfolding second
   second-stays b F r f w p h =
-      pick-good (eqb (peek s p) (byte ",")) (closed s (andThen (F (p + 1)) (λ g q. got (Written.keep b f g) q))) (refused 5 p)
+      pick-good (eqb (peek s p) (byte ",")) (thenParen s (andThen (F (p + 1)) (λ g q. got (Written.keep b f g) q))) (refused 5 p)
       (λ x.
       let i = inside-test s p (λ y. eqb y (byte ",")) refl x in
       closed-stays (andThen (F (p + 1)) (λ g q. got (Written.keep b f g) q))
@@ -130,8 +130,8 @@ module _ (n : ℕ) (s : List ℕ) where
       then-good (formula P s (p + 1)) (λ f q. second b (formula P s) s f q) (formula-reads P r (p + 1) (omega arith))
       (λ f q w l. second-stays b (formula P s) (formula-reads P r) f w q l)
 
-  kept-stays : (inner : Option Reader) → ReadsIn n s inner → (b : Bool) (p : ℕ) → p ≤ length s → Good n s (kept inner b s p)
-  unfolding kept
+  kept-stays : (inner : Option Reader) → ReadsIn n s inner → (b : Bool) (p : ℕ) → p ≤ length s → Good n s (sinceUntil inner b s p)
+  unfolding sinceUntil
   kept-stays inner r b p h =
       pick-good (eqb (peek s p) (byte "(")) (arguments inner b s p) (refused 5 p)
       (λ x. arguments-stay inner r b p (inside-test s p (λ y. eqb y (byte "(")) refl x)) h
@@ -141,25 +141,25 @@ module _ (names : List (List ℕ)) (s : List ℕ) where
   declared-reads : Reads (length names) s (declared names s)
   unfolding declared
   declared-reads p h =
-      let i : ℕ = findName (wordAt s p) names in
-      pick-good (length names) s (ltb i (length names)) (got (Written.name i) (wordEnd s p)) (refused 6 p)
+      let i : ℕ = findName (spellingAt s p) names in
+      pick-good (length names) s (ltb i (length names)) (got (Written.name i) (spellingEnd s p)) (refused 6 p)
       (λ e. ((ltb-true i (length names) e, tt), end-reach nameByte s p h .inside)) h
 
-  word-inside : (w : List ℕ) → InLine w → (p : ℕ) → p ≤ length s → isWord s p w ≡ true → p + length w ≤ length s
-  unfolding isWord
+  word-inside : (w : List ℕ) → InLine w → (p : ℕ) → p ≤ length s → isSpelled s p w ≡ true → p + length w ≤ length s
+  unfolding isSpelled
   word-inside w l p h e = starts-inside s p w l h (and-eq-true-iff (starts s p w) _ .0 e .0)
 
-  worded-reads : (inner : Option Reader) → ReadsIn (length names) s inner → Reads (length names) s (worded inner names s)
-  unfolding worded
+  worded-reads : (inner : Option Reader) → ReadsIn (length names) s inner → Reads (length names) s (nameOrKeep inner names s)
+  unfolding nameOrKeep
   worded-reads inner r p h =
-      pick-good (length names) s (isWord s p (bytes "since")) (kept inner true s (p + 5))
-      (pick (isWord s p (bytes "until")) (λ _. kept inner false s (p + 5)) (declared names s p))
+      pick-good (length names) s (isSpelled s p (bytes "since")) (sinceUntil inner true s (p + 5))
+      (pick (isSpelled s p (bytes "until")) (λ _. sinceUntil inner false s (p + 5)) (declared names s p))
       (λ x. kept-stays (length names) s inner r true (p + 5) (word-inside (bytes "since") (λ e. omega arith, (λ e. omega arith, (λ e. omega arith, (λ e. omega arith, (λ e. omega arith, tt))))) p h x))
-      (pick-good (length names) s (isWord s p (bytes "until")) (kept inner false s (p + 5)) (declared names s p)
+      (pick-good (length names) s (isSpelled s p (bytes "until")) (sinceUntil inner false s (p + 5)) (declared names s p)
       (λ x. kept-stays (length names) s inner r false (p + 5) (word-inside (bytes "until") (λ e. omega arith, (λ e. omega arith, (λ e. omega arith, (λ e. omega arith, (λ e. omega arith, tt))))) p h x))
       (declared-reads p h))
 
-  plain-by : (k : Class) (inner : Option Reader) → ReadsIn (length names) s inner → Reads (length names) s (plainBy k inner names s)
+  plain-by : (k : Class) (inner : Option Reader) → ReadsIn (length names) s inner → Reads (length names) s (plainPartBy k inner names s)
   plain-by Letter inner r p h = worded-reads inner r p h
   plain-by Digit inner r p h = h
   plain-by Sign inner r p h =
@@ -170,8 +170,8 @@ module _ (names : List (List ℕ)) (s : List ℕ) where
       (λ x. parens-stay (length names) s inner r p (inside-test s p (λ y. eqb y (byte "(")) refl x)) h
   plain-by Other inner r p h = h
 
-  plain-in-reads : (inner : Option Reader) → ReadsIn (length names) s inner → Reads (length names) s (plainIn inner names s)
-  unfolding plainIn
+  plain-in-reads : (inner : Option Reader) → ReadsIn (length names) s inner → Reads (length names) s (plainPartIn inner names s)
+  unfolding plainPartIn
   plain-in-reads inner r p h = plain-by (classOf (peek s p)) inner r p h
 
   inside-reads : (d : ℕ) → ReadsIn (length names) s (inside d names s)
@@ -181,8 +181,8 @@ module _ (names : List (List ℕ)) (s : List ℕ) where
 
   -- Every rule: its names are declared, its intervals are near, and its places, a refusal's too, stay in the text.
   pub rule-reads : Reads (length names) s (rule names s)
-  unfolding rule plain
+  unfolding rule plainPart
   rule-reads p h =
-      then-good (length names) s (formula (plain mostOpen names s) s p) (λ f q. pick (eqb q (length s)) (λ _. got f q) (refused 5 q))
-      (formula-reads (length names) s (plain mostOpen names s) (plain-in-reads (inside mostOpen names s) (inside-reads mostOpen)) p h)
+      then-good (length names) s (formula (plainPart mostOpen names s) s p) (λ f q. pick (eqb q (length s)) (λ _. got f q) (refused 5 q))
+      (formula-reads (length names) s (plainPart mostOpen names s) (plain-in-reads (inside mostOpen names s) (inside-reads mostOpen)) p h)
       (λ f q w l. pick-good (length names) s (eqb q (length s)) (got f q) (refused 5 q) (λ _. (w, l)) l)

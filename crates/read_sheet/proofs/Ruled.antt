@@ -11,7 +11,7 @@ use Rattle.spec_limits.specs.Limits.{mostRuleBytes}
 use Rattle.read_bytes.specs.Read.{andThen}
 use Rattle.read_bytes.specs.Read.Read.{got, refused}
 use Rattle.read_bytes.specs.Bytes.{bytes, pick, between}
-use Rattle.read_names.specs.Words.{namesAt}
+use Rattle.read_names.specs.Spellings.{namesAt}
 use Rattle.read_lines.specs.Lines.{line, inTurn}
 use Rattle.read_bytes.proofs.Tests.{between-in, between-low, between-high}
 use Rattle.read_bytes.proofs.Places.{Reach}
@@ -23,13 +23,13 @@ use Rattle.spec_tilco.specs.Lists.{total}
 use Rattle.spec_tilco.proofs.Lists.{total-append}
 use Rattle.read_parts.specs.declared.parts.Parsed.{Parsed}
 use Rattle.read_parts.specs.declared.parts.Parsed.the-variants.{Got, Refused}
-use Rattle.read_parts.specs.Grammar.{rule}
+use Rattle.read_parts.specs.FormulaText.{rule}
 use Rattle.read_parts.specs.Parsed as formula
 use Rattle.read_parts.specs.Parsed.{Parses}
 use Rattle.read_parts.specs.Parsed.Parses.{parsed, refuses}
 use Rattle.read_sheet.specs.Sheet.{ruleTo, ruleLine, rules}
-use Rattle.read_sheet.specs.Reading.{Ready, Ended, RuleRead}
-use Rattle.read_sheet.specs.Reading.RuleRead.{read, refused-at}
+use Rattle.read_sheet.specs.RuleAnswers.{LineReady, ValueEnds, RuleRead}
+use Rattle.read_sheet.specs.RuleAnswers.RuleRead.{read, refused-at}
 use Rattle.read_sheet.proofs.Cut.{names-kept}
 use Rattle.read_head.proofs.Signals.{up-to}
 
@@ -46,12 +46,12 @@ module _ (names : List (List ℕ)) (s : List ℕ) (v e : ℕ) where
   unfolding ruleTo
   rule-long h = rw (between-high 1 mostRuleBytes (e - v) h)
 
-module _ (s places : List ℕ) (v e h : ℕ) (a : List ℕ) (z : Ready s a places v h) (d : Ended s v e) (few : e - v ≤ mostRuleBytes) where
+module _ (s places : List ℕ) (v e h : ℕ) (a : List ℕ) (z : LineReady s a places v h) (d : ValueEnds s v e) (few : e - v ≤ mostRuleBytes) where
   cut-length : length (take e s) ≡ e
   cut-length = let i = d .inside in length-take-le e s (omega arith)
 
   -- its formula can be read
-  pub rule-ready : formula.Ready (take e s) a places v 0 h
+  pub rule-ready : formula.PartReady (take e s) a places v 0 h
   rule-ready =
       let l = cut-length in
       let o = d .order in
@@ -109,11 +109,11 @@ module _ {a : List ℕ} {h : ℕ} (names : List (List ℕ)) (s : List ℕ) (p : 
 -- Where its value stands.
 module _ (s : List ℕ) (p : ℕ) {v e : ℕ} (x : line s p (bytes "rule=") 2 ≡ got v e) where
   -- from v to its LF at e
-  pub line-ended : Ended s v e
+  pub line-ended : ValueEnds s v e
   line-ended = let w = placed s p (bytes "rule=") 2 x in record { order = w .order; inside = w .inside; lf = w .lf }
 
   -- its rule can be read
-  pub line-ready : {a places : List ℕ} {h : ℕ} → Ready s a places p h → Ready s a places v h
+  pub line-ready : {a places : List ℕ} {h : ℕ} → LineReady s a places p h → LineReady s a places v h
   line-ready {places = places} z =
       let w = placed s p (bytes "rule=") 2 x in
       let l : p ≤ v = omega (arith, w .value) in

@@ -13,7 +13,7 @@ use Rattle.spec_limits.specs.Limits.{mostBytes}
 use Rattle.read_bytes.specs.Read.{Read, andThen}
 use Rattle.read_bytes.specs.Read.Read.{got, refused}
 use Rattle.read_bytes.specs.Bytes.{byte, pick, InLine}
-use Rattle.read_names.specs.Words.{namesAt}
+use Rattle.read_names.specs.Spellings.{namesAt}
 use Rattle.read_bytes.proofs.Answers.{not-both, through, came}
 use Rattle.spec_tilco.specs.Formula.{Written, withRules}
 use Rattle.spec_tilco.specs.Lists.{All, total}

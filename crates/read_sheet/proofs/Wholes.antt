@@ -11,7 +11,7 @@ use Rattle.spec_limits.specs.Limits.{mostBytes}
 use Rattle.read_bytes.specs.Read.{andThen}
 use Rattle.read_bytes.specs.Read.Read.{got, refused}
 use Rattle.read_bytes.specs.Bytes.{pick}
-use Rattle.read_names.specs.Words.{namesAt}
+use Rattle.read_names.specs.Spellings.{namesAt}
 use Rattle.read_bytes.proofs.Answers.{not-both, through, came}
 use Rattle.spec_tilco.specs.Formula.{Written}
 use Rattle.read_head.specs.SheetHead.{headOf, head, Sizes}

@@ -1,3 +1,3 @@
 -- The definitions that the contracts cite, lowest layer first.
 pub mod Sheet
-pub mod Reading
+pub mod RuleAnswers

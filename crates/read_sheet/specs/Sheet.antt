@@ -8,11 +8,11 @@ use Rattle.spec_limits.specs.Limits.{mostBytes, mostOffset, mostRuleBytes}
 use Rattle.read_bytes.specs.Read.{Read, andThen}
 use Rattle.read_bytes.specs.Read.Read.{got, refused}
 use Rattle.read_bytes.specs.Bytes.{byte, bytes, pick, between}
-use Rattle.read_names.specs.Words.{namesAt}
+use Rattle.read_names.specs.Spellings.{namesAt}
 use Rattle.read_lines.specs.Lines.{line, inTurn}
 use Rattle.spec_tilco.specs.Formula as tilco
 use Rattle.spec_tilco.specs.Formula.{Written}
-use Rattle.read_parts.specs.Grammar.{rule}
+use Rattle.read_parts.specs.FormulaText.{rule}
 use Rattle.read_head.specs.SheetHead.{head}
 
 -- A rule from v to its LF at e, and the place after the line. "A rule has 1 to 256 bytes", else 5 at v, before its formula is read.

@@ -6,7 +6,7 @@ use read_parts::parts::Parsed;
 use spec_limits::RULE_BYTES;
 ghost use Rattle.read_names.specs.Slices.{before, after, namesOf};
 ghost use Rattle.read_sheet.specs.Sheet.{ruleTo, ruleLine};
-ghost use Rattle.read_sheet.specs.Reading.{Ready, AtValue, RuleRead};
+ghost use Rattle.read_sheet.specs.RuleAnswers.{LineReady, AtValue, RuleRead};
 
 // The rule from `v` to its LF at `e`, read into the arena. Its hidden signals are numbered from `hidden`.
 fn rule_to(s: &[u8], places: &[u64], arena: &mut [u16], v: usize, e: usize, hidden: usize) -> Parsed
@@ -28,7 +28,7 @@ fn rule_to(s: &[u8], places: &[u64], arena: &mut [u16], v: usize, e: usize, hidd
 
 // The line at `at` with a rule, read into the arena: the place after the line, the nodes used, and the next hidden signal's row.
 pub fn rule_line(s: &[u8], places: &[u64], arena: &mut [u16], at: usize, hidden: usize) -> Parsed
-    requires { ⌜ Ready (now s) (now arena) (now places) at hidden ⌝ }
+    requires { ⌜ LineReady (now s) (now arena) (now places) at hidden ⌝ }
     ensures { λ r. ⌜ RuleRead (after arena) hidden (ruleLine (namesOf s places) (before s) at) r ⌝ }
 {
     let l = line_at(s, at, b"rule=", 2);

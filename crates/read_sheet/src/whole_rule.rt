@@ -3,12 +3,12 @@ use read_arena::Sign;
 use read_formula::joined;
 use read_parts::parts::Parsed;
 use spec_limits::OPEN;
-ghost use Rattle.read_parts.specs.Parsed.{Ready};
+ghost use Rattle.read_parts.specs.Parsed.{PartReady};
 ghost use Rattle.read_parts.specs.Promise.{ruleAt, Reads};
 
 // A whole rule, from `at` to the text's end, into an empty arena that has a node for each byte.
 pub fn rule(s: &[u8], names: &[u64], arena: &mut [u16], at: usize, hidden: usize) -> Parsed
-    requires { ⌜ Ready (now s) (now arena) (now names) at 0 hidden ⌝ }
+    requires { ⌜ PartReady (now s) (now arena) (now names) at 0 hidden ⌝ }
     ensures { λ r. ⌜ Reads (ruleAt s names at) s arena at 0 hidden r ⌝ }
 {
     let r = joined(Sign::Iff, s, names, arena, at, 0, hidden, OPEN);

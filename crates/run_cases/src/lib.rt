@@ -6,7 +6,7 @@ use read_bytes::bytes::starts_at;
 use read_bytes::numbers::Number;
 use read_bytes::numbers::number_at;
 use read_lines::line_end;
-use read_names::word_end;
+use read_names::spelling_end;
 ghost use Prim.Native.Nat.{_<_, _≤_};
 ghost use lib.ListN.{length};
 ghost use Rattle.io.specs.Counts.{Counts};
@@ -87,7 +87,7 @@ pub fn text_under(cases: &[u8], at: usize, out: &mut [u8]) -> usize
 {
     let from = next_line(cases, at);
     let to = heading(cases, from);
-    let option = word_end(cases, at + 4);
+    let option = spelling_end(cases, at + 4);
     if byte_at(cases, option) == b'-' {
         append(cases, from, to - 1, out, 0)
     } else {

@@ -10,7 +10,7 @@ use op_check::Checking;
 use op_check::check;
 use read_bytes::bytes::byte_at;
 use read_bytes::bytes::starts_at;
-use read_names::word_end;
+use read_names::spelling_end;
 use run_cases::heading;
 use run_cases::next_line;
 use run_cases::print;
@@ -41,7 +41,7 @@ fn with_digit(v: u64, b: u8) -> u64 {
 
 // The number that the word at `at` spells in decimal digits.
 fn decimal_at(cases: &[u8], at: usize) -> u64 {
-    let end = word_end(cases, at);
+    let end = spelling_end(cases, at);
     let mut v = 0;
     let mut p = at;
     while p < end {
@@ -54,7 +54,7 @@ fn decimal_at(cases: &[u8], at: usize) -> u64 {
 
 // The place of the word after the one at `at`.
 fn next_word(cases: &[u8], at: usize) -> usize {
-    let e = word_end(cases, at);
+    let e = spelling_end(cases, at);
     if e < cases.len() { e + 1 } else { e }
 }
 

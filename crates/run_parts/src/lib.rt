@@ -1,7 +1,7 @@
 // What programs share that read their texts from files: a file's bytes, what the arguments ask for, and a table emptied. Assumes nothing.
 use read_bytes::numbers::Number;
 use read_bytes::numbers::number_at;
-use read_names::word_is;
+use read_names::is_spelled;
 use spec_limits::BYTES;
 ghost use Rattle.io.specs.Counts.{Counts};
 
@@ -41,7 +41,7 @@ pub fn times_asked() -> usize {
 pub fn is_asked(name: &[u8]) -> bool {
     let mut word = [0u8; 8];
     let n = os::arg(2, &mut word);
-    word_is(&word[..n], 0, name)
+    is_spelled(&word[..n], 0, name)
 }
 
 // Empties the table.

@@ -8,7 +8,7 @@ use native.Mathlib.Omega.{arith}
 use lib.ListN.{length}
 use Rattle.spec_limits.specs.Limits.{mostSignals}
 use Rattle.read_bytes.specs.Bytes.{bytes}
-use Rattle.read_names.specs.Words.{wordAt, namesAt}
+use Rattle.read_names.specs.Spellings.{spellingAt, namesAt}
 use Rattle.read_bytes.proofs.Tests.{between-is}
 use Rattle.read_names.proofs.Names.{find-in, names-append}
 use Rattle.spec_tilco.specs.Formula.{Written}
@@ -38,7 +38,7 @@ module _ (s : List ℕ) where
   Named (Next.signal w n places) = (1 ≤ n) ⊎ Some places
   Named (Next.rule w places m ws) = Some places
 
-  one-more : (places : List ℕ) (q : ℕ) (v : List ℕ) → Name v → wordAt s q ≡ v → Some (places ++ (q ∷ []))
+  one-more : (places : List ℕ) (q : ℕ) (v : List ℕ) → Name v → spellingAt s q ≡ v → Some (places ++ (q ∷ []))
   unfolding namesAt
   one-more places q v n e =
       record {

@@ -12,15 +12,15 @@ use Rattle.read_bytes.specs.declared.bytes.Class.the-variants.{Letter}
 use Rattle.read_bytes.specs.Read.{Read, andThen}
 use Rattle.read_bytes.specs.Read.Read.{got}
 use Rattle.read_bytes.specs.Bytes.{byte, bytes, peek, pick, oneOf, letter, classOf, starts, runEnd}
-use Rattle.read_names.specs.Words.{wordAt, isWord}
+use Rattle.read_names.specs.Spellings.{spellingAt, isSpelled}
 use Rattle.read_bytes.proofs.Places.{peek-out, inside-test}
 use Rattle.read_bytes.proofs.Classes.{class-letter}
 use Rattle.read_names.proofs.Names.{same-text}
 use Rattle.spec_tilco.specs.Formula.{Op, And, Or, Implies, Iff, Written}
 use Rattle.read_interval.specs.declared.Span.the-variants.{Over}
 use Rattle.read_interval.specs.Interval.{interval}
-use Rattle.read_parts.specs.Grammar as reading
-use Rattle.read_parts.specs.Grammar.{Reader, times, timedPart, signText, repeats, more, closed, second, kept, worded, declared, inside, rule}
+use Rattle.read_parts.specs.FormulaText as reading
+use Rattle.read_parts.specs.FormulaText.{Reader, times, timedPart, signText, repeats, more, thenParen, second, sinceUntil, nameOrKeep, declared, inside, rule}
 use Rattle.read_interval.proofs.Spans.{interval-reach}
 use Rattle.read_parts.proofs.Steps.{sign-some, more-none, onward, more-one, times-none, times-one, plain-letter, plain-deny, plain-paren, word-since, word-until, word-name}
 use Rattle.spec_grammar.specs.Tokens.{TokenAt, Tokens}
@@ -219,22 +219,22 @@ module _ (P : Reader) (s : List ℕ) where
 
 -- ---- plain parts
 
--- The word of a token.
-token-word : {s : List ℕ} {p : ℕ} {w : List ℕ} → letter (peek s p) ≡ true → TokenAt s p w → wordAt s p ≡ w
+-- The spelling of a token.
+token-word : {s : List ℕ} {p : ℕ} {w : List ℕ} → letter (peek s p) ≡ true → TokenAt s p w → spellingAt s p ≡ w
 token-word {s} {p} l a = token-one (word-token s p l) a
 
 keep-letter : {s : List ℕ} {p : ℕ} (b : Bool) → TokenAt s p (keepWord b) → letter (peek s p) ≡ true
 keep-letter {s} {p} true a = rw (starts-head s p (byte "s") (bytes "ince") (a .stands))
 keep-letter {s} {p} false a = rw (starts-head s p (byte "u") (bytes "ntil") (a .stands))
 
-pub word-is : (s : List ℕ) (p : ℕ) (b : Bool) → wordAt s p ≡ keepWord b → isWord s p (keepWord b) ≡ true
-word-is s p b e = keep-is s p b ∙ same-text (keepWord b) (wordAt s p) .1 (sym e)
+pub word-is : (s : List ℕ) (p : ℕ) (b : Bool) → spellingAt s p ≡ keepWord b → isSpelled s p (keepWord b) ≡ true
+word-is s p b e = keep-is s p b ∙ same-text (keepWord b) (spellingAt s p) .1 (sym e)
 
-pub word-not : (s : List ℕ) (p : ℕ) (b : Bool) → (wordAt s p ≡ keepWord b → ⊥) → isWord s p (keepWord b) ≡ false
-word-not s p b n = go (isWord s p (keepWord b)) refl
+pub word-not : (s : List ℕ) (p : ℕ) (b : Bool) → (spellingAt s p ≡ keepWord b → ⊥) → isSpelled s p (keepWord b) ≡ false
+word-not s p b n = go (isSpelled s p (keepWord b)) refl
   where
-    go : (t : Bool) → isWord s p (keepWord b) ≡ t → isWord s p (keepWord b) ≡ false
-    go true i = absurd (n (sym (same-text (keepWord b) (wordAt s p) .0 (sym (keep-is s p b) ∙ i))))
+    go : (t : Bool) → isSpelled s p (keepWord b) ≡ t → isSpelled s p (keepWord b) ≡ false
+    go true i = absurd (n (sym (same-text (keepWord b) (spellingAt s p) .0 (sym (keep-is s p b) ∙ i))))
     go false i = i
 
 until-not-since : bytes "until" ≡ bytes "since" → ⊥
@@ -242,7 +242,7 @@ until-not-since e = let z : byte "u" ≡ byte "s" = cc in omega arith
 
 module _ (names : List (List ℕ)) (s : List ℕ) where
   abbrev plain : ℕ → Reader
-  plain d = reading.plain d names s
+  plain d = reading.plainPart d names s
 
   letter-class : (p : ℕ) → letter (peek s p) ≡ true → classOf (peek s p) ≡ Letter
   letter-class p l = class-letter (peek s p) .1 l
@@ -257,33 +257,33 @@ module _ (names : List (List ℕ)) (s : List ℕ) where
       plain-letter d names s p (letter-class p l) ∙ word-name d names s p since until ∙ rw (z, k .found, lt-ltb i (length names) (k .declared), e)
 
   not-reads : (d : ℕ) {p q : ℕ} {f : Written} → TokenAt s p (bytes "!") → plain d (p + 1) ≡ got f q → plain (suc d) p ≡ got (Written.neg f) q
-  unfolding reading.plain inside classOf
+  unfolding reading.plainPart inside classOf
   not-reads d {p} {q} {f} a e =
       let z = starts-head s p (byte "!") [] (a .stands) in
       plain-deny (suc d) names s p (rw z) z ∙ rw e
 
-  closed-reads : {q r : ℕ} {f : Written} (R : Read Written) → R ≡ got f q → TokenAt s q (bytes ")") → q + 1 ≡ r → closed s R ≡ got f r
+  closed-reads : {q r : ℕ} {f : Written} (R : Read Written) → R ≡ got f q → TokenAt s q (bytes ")") → q + 1 ≡ r → thenParen s R ≡ got f r
   closed-reads {q} R e a h = rw (e, starts-head s q (byte ")") [] (a .stands), h)
 
   parens-read : (d : ℕ) {p q r : ℕ} {f : Written} → TokenAt s p (bytes "(") → reading.formula (plain d) s (p + 1) ≡ got f q → TokenAt s q (bytes ")") → q + 1 ≡ r → plain (suc d) p ≡ got f r
-  unfolding reading.plain inside classOf
+  unfolding reading.plainPart inside classOf
   parens-read d {p} {q} {r} {f} a e c h =
       let z = starts-head s p (byte "(") [] (a .stands) in
       plain-paren (suc d) names s p (rw z) z ∙ closed-reads (reading.formula (plain d) s (p + 1)) e c h
 
   kept-reads : (d : ℕ) {p q r t : ℕ} {f g : Written} (b : Bool) → TokenAt s p (bytes "(") → reading.formula (plain d) s (p + 1) ≡ got f q → TokenAt s q (bytes ",") → reading.formula (plain d) s (q + 1) ≡ got g r
-      → TokenAt s r (bytes ")") → r + 1 ≡ t → kept (inside (suc d) names s) b s p ≡ got (Written.keep b f g) t
-  unfolding kept inside reading.plain second
+      → TokenAt s r (bytes ")") → r + 1 ≡ t → sinceUntil (inside (suc d) names s) b s p ≡ got (Written.keep b f g) t
+  unfolding sinceUntil inside reading.plainPart second
   kept-reads d {p} {q} {r} {t} {f} {g} b a e c k x h =
       rw (starts-head s p (byte "(") [] (a .stands), e, starts-head s q (byte ",") [] (c .stands))
       (closed-reads (andThen (reading.formula (plain d) s (q + 1)) (λ y u. got (Written.keep b f y) u)) (rw k) x h)
 
-  keep-reads : (d : ℕ) {p q : ℕ} {f : Written} (b : Bool) → TokenAt s p (keepWord b) → kept (inside d names s) b s (p + 5) ≡ got f q → plain d p ≡ got f q
+  keep-reads : (d : ℕ) {p q : ℕ} {f : Written} (b : Bool) → TokenAt s p (keepWord b) → sinceUntil (inside d names s) b s (p + 5) ≡ got f q → plain d p ≡ got f q
   keep-reads d {p} {q} {f} b a e =
       let l = keep-letter b a in
       plain-letter d names s p (letter-class p l) ∙ go b (token-word l a) ∙ e
     where
-      go : (b : Bool) → wordAt s p ≡ keepWord b → worded (inside d names s) names s p ≡ kept (inside d names s) b s (p + 5)
+      go : (b : Bool) → spellingAt s p ≡ keepWord b → nameOrKeep (inside d names s) names s p ≡ sinceUntil (inside d names s) b s (p + 5)
       go true z = word-since d names s p (word-is s p true z)
       go false z = word-until d names s p (word-not s p true (λ x. until-not-since (sym z ∙ x))) (word-is s p false z)
 

@@ -9,7 +9,7 @@ use Rattle.spec_limits.specs.Limits.{mostOpen}
 use Rattle.read_bytes.specs.Read.Read.{got}
 use Rattle.read_bytes.proofs.Answers.{same-value}
 use Rattle.spec_tilco.specs.Formula.{Written}
-use Rattle.read_parts.specs.Grammar.{rule}
+use Rattle.read_parts.specs.FormulaText.{rule}
 use Rattle.spec_grammar.specs.Tokens.{Tokens}
 use Rattle.spec_grammar.specs.Grammar.{formula, Is, Declared, Legal, Rule}
 use Rattle.spec_grammar.proofs.Sound.{rule-sound}

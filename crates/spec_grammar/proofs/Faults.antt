@@ -11,8 +11,8 @@ use Rattle.read_bytes.specs.Read.{Read, andThen}
 use Rattle.read_bytes.specs.Read.Read.{got, refused}
 use Rattle.read_bytes.specs.Bytes.{bytes, peek, pick, oneOf, starts}
 use Rattle.spec_tilco.specs.Formula.{Op, And, Or, Implies, Iff, Written}
-use Rattle.read_parts.specs.Grammar as reading
-use Rattle.read_parts.specs.Grammar.{Reader, signText, repeats, more}
+use Rattle.read_parts.specs.FormulaText as reading
+use Rattle.read_parts.specs.FormulaText.{Reader, signText, repeats, more}
 use Rattle.read_parts.proofs.Steps.{sign-some}
 use Rattle.spec_grammar.specs.Tokens.{TokenAt, Tokens}
 use Rattle.spec_grammar.specs.Grammar.{Part, below, before, keepWord, timeSign, Name, Interval, Is, Declared, Legal}

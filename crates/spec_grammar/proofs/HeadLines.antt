@@ -10,7 +10,7 @@ use Rattle.spec_limits.specs.Limits.{mostRules, mostSignals, mostTicks}
 use Rattle.read_bytes.specs.Read.{Read, andThen}
 use Rattle.read_bytes.specs.Read.Read.{got, refused}
 use Rattle.read_bytes.specs.Bytes.{bytes, between, InLine}
-use Rattle.read_names.specs.Words.{namesAt}
+use Rattle.read_names.specs.Spellings.{namesAt}
 use Rattle.read_lines.specs.Lines.{rangedLine, inTurn}
 use Rattle.read_bytes.proofs.Answers.{not-both, same-value, same-place, then-same}
 use Rattle.spec_tilco.specs.Formula.{Written}

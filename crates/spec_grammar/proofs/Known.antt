@@ -9,7 +9,7 @@ use Prim.Native.Nat.{ℕ, zero, suc}
 use borrow.Author.Tests.{eqb-true}
 use lib.Dec.{eqb}
 use Rattle.read_bytes.specs.Bytes.{byte, bytes, pick, oneOf, letter, digit}
-use Rattle.read_names.specs.Words.{sameText}
+use Rattle.read_names.specs.Spellings.{sameText}
 use Rattle.spec_tilco.specs.Lists.{All}
 use Rattle.spec_grammar.specs.Tokens.{End}
 use Rattle.spec_grammar.specs.Grammar.{Name, Interval}

@@ -16,13 +16,13 @@ use lib.Seq.{take-suc}
 use Rattle.read_bytes.specs.Read.{Read, andThen}
 use Rattle.read_bytes.specs.Read.Read.{got, refused}
 use Rattle.read_bytes.specs.Bytes.{bytes, pick, between, starts, InLine}
-use Rattle.read_names.specs.Words.{wordAt, namesAt, findName, nameAt}
+use Rattle.read_names.specs.Spellings.{spellingAt, namesAt, findName, nameAt}
 use Rattle.read_bytes.specs.Numbers as numbers
 use Rattle.read_lines.specs.Lines.{wholeNumber, wholeName, numberLine, rangedLine, nameLine}
 use Rattle.read_bytes.proofs.Places.{peek-in}
 use Rattle.read_names.proofs.Names.{find-in, find-most, names-many}
 use Rattle.read_bytes.proofs.Later.{later}
-use Rattle.read_parts.specs.Grammar.{rule}
+use Rattle.read_parts.specs.FormulaText.{rule}
 use Rattle.read_parts.proofs.Later.{rule-later}
 use Rattle.read_head.specs.SheetHead.{signalLine}
 use Rattle.read_sheet.specs.Sheet.{ruleTo, ruleLine}
@@ -122,7 +122,7 @@ pub data SignalIs (s places : List ℕ) (p : ℕ) : Read ℕ → Type 0 where
 
 module _ (s places : List ℕ) (p : ℕ) where
   abbrev fresh : ℕ → ℕ → Read ℕ
-  fresh v q = pick (eqb (findName (wordAt s v) (namesAt s places)) (length places)) (λ _. got v q) (refused 4 v)
+  fresh v q = pick (eqb (findName (spellingAt s v) (namesAt s places)) (length places)) (λ _. got v q) (refused 4 v)
 
   pub signal-is : SignalIs s places p (signalLine s places p)
   unfolding signalLine

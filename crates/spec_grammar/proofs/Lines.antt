@@ -12,19 +12,19 @@ use borrow.Author.Tests.{eq-eqb, eqb-true, eqb-false, ltb-true, lt-ltb, le-leb, 
 use lib.Dec.{eqb, ltb}
 use lib.ListN.{length, length-append}
 use Rattle.spec_limits.specs.Limits.{mostNameBytes}
-use Rattle.read_names.specs.declared.Word as words
-use Rattle.read_names.specs.declared.Word.the-variants.{Name, Other}
+use Rattle.read_names.specs.declared.NameRead as words
+use Rattle.read_names.specs.declared.NameRead.the-variants.{Name, Other}
 use Rattle.read_bytes.specs.Read.{Read}
 use Rattle.read_bytes.specs.Read.Read.{got, refused}
 use Rattle.read_bytes.specs.Bytes.{byte, bytes, peek, oneOf, digit, nameByte, starts, runAt, runEnd, InLine}
-use Rattle.read_names.specs.Words.{wordAt, nameAt}
+use Rattle.read_names.specs.Spellings.{spellingAt, nameAt}
 use Rattle.read_lines.specs.Lines.{inLine, lineEnd, line, whole, wholeNumber, wholeName}
 use Rattle.read_bytes.proofs.Places.{peek-in}
 use Rattle.read_bytes.proofs.Runs.{run-more, run-none, run-past, end-more, end-here, end-stops}
 use Rattle.read_lines.proofs.KeyedLines.{lf-ends, lf-not}
 use Rattle.read_names.proofs.Names.{Named, named}
 use Rattle.read_interval.specs.Interval.{leading}
-use Rattle.spec_grammar.specs.Tokens.{Each, Word, decimal}
+use Rattle.spec_grammar.specs.Tokens.{Each, Spelling, decimal}
 use Rattle.spec_grammar.specs.Lines.{LineAt, Number, SignalName}
 use Rattle.spec_grammar.proofs.Standing.{starts-head, starts-tail, starts-none, starts-cons, starts-one, stand-same, word-stands, word-run, word-longest, word-each, word-first, letter-word}
 use Rattle.spec_grammar.proofs.Signs.{leading-digit}
@@ -270,12 +270,12 @@ name-not e = let z : _≡_ {A = ℕ} 0 1 = cc in omega arith
 
 module _ (s : List ℕ) (u content : ℕ) (v : List ℕ) (a : LineAt s u v) where
   -- A name that takes the value whole is the word there.
-  pub same-word : SignalName v → wordAt s u ≡ v
+  pub same-word : SignalName v → spellingAt s u ≡ v
   unfolding nameByte
   same-word n =
       let i = word-longest s u v (word-each (n .name .word)) (a .stands) in
-      let j = stops s u (wordAt s u) (length v) (word-stands s u) (each-in-line nameByte refl (wordAt s u) (word-run s u)) (a .ends) in
-      stand-same s u (wordAt s u) v (word-stands s u) (a .stands) (omega arith)
+      let j = stops s u (spellingAt s u) (length v) (word-stands s u) (each-in-line nameByte refl (spellingAt s u) (word-run s u)) (a .ends) in
+      stand-same s u (spellingAt s u) v (word-stands s u) (a .stands) (omega arith)
 
   name-reads : SignalName v → nameAt s u ≡ Name (u + length v)
   unfolding nameAt runEnd
@@ -289,16 +289,16 @@ module _ (s : List ℕ) (u content : ℕ) (v : List ℕ) (a : LineAt s u v) wher
   unfolding runEnd
   name-is = go (nameAt s u) refl
     where
-      is-name : {q : ℕ} → Named s u q → length (wordAt s u) ≡ length v → SignalName v
+      is-name : {q : ℕ} → Named s u q → length (spellingAt s u) ≡ length v → SignalName v
       is-name n e =
-          let j = stand-same s u (wordAt s u) v (word-stands s u) (a .stands) e in
+          let j = stand-same s u (spellingAt s u) v (word-stands s u) (a .stands) e in
           subst SignalName j
           (record {
             name = record { word = letter-word s u (n .first); not-since = other-word s u true (n .not-since); not-until = other-word s u false (n .not-until) };
             short = n .short;
           })
 
-      go : (w : words.Word) → nameAt s u ≡ w → NameIs v u (u + length v) content (wholeName u content (u + length v) w)
+      go : (w : words.NameRead) → nameAt s u ≡ w → NameIs v u (u + length v) content (wholeName u content (u + length v) w)
       go (Name q) e = on (named s u e) (eqb q (u + length v)) refl
         where
           on : Named s u q → (b : Bool) → eqb q (u + length v) ≡ b → NameIs v u (u + length v) content (whole u q (u + length v) content u)

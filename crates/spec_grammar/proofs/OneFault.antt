@@ -13,7 +13,7 @@ use lib.Dec.{eqb, ltb}
 use lib.ListN.{length}
 use Rattle.spec_limits.specs.Limits.{mostOpen}
 use Rattle.read_bytes.specs.Bytes.{bytes, oneOf, letter}
-use Rattle.read_names.specs.Words.{findName}
+use Rattle.read_names.specs.Spellings.{findName}
 use Rattle.spec_tilco.specs.Lists.{All}
 use Rattle.read_interval.specs.declared.Span.{Span}
 use Rattle.read_interval.specs.declared.Span.the-variants.{Over, Refused}

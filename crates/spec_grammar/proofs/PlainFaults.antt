@@ -16,12 +16,12 @@ use Rattle.read_bytes.specs.declared.bytes.Class.the-variants.{Letter, Digit, S
 use Rattle.read_bytes.specs.Read.{Read, andThen}
 use Rattle.read_bytes.specs.Read.Read.{got, refused}
 use Rattle.read_bytes.specs.Bytes.{byte, bytes, peek, pick, oneOf, letter, classOf, starts, runEnd}
-use Rattle.read_names.specs.Words.{wordAt, findName, sameText, isWord}
+use Rattle.read_names.specs.Spellings.{spellingAt, findName, sameText, isSpelled}
 use Rattle.read_bytes.proofs.Classes.{tag, class-letter}
 use Rattle.read_names.proofs.Names.{same-text}
 use Rattle.spec_tilco.specs.Formula.{Op, And, Or, Implies, Iff, Written}
-use Rattle.read_parts.specs.Grammar as reading
-use Rattle.read_parts.specs.Grammar.{Reader, negated, closed, inParens, second, arguments, kept, worded, declared, plainBy, plainIn, inside, rule}
+use Rattle.read_parts.specs.FormulaText as reading
+use Rattle.read_parts.specs.FormulaText.{Reader, negated, thenParen, inParens, second, arguments, sinceUntil, nameOrKeep, declared, plainPartBy, plainPartIn, inside, rule}
 use Rattle.spec_grammar.specs.Tokens.{TokenAt, Tokens}
 use Rattle.spec_grammar.specs.Grammar.{Part, formula, keepWord, Name, Is}
 use Rattle.spec_grammar.specs.RuleFaults.{AnyName, AnySpan}
@@ -363,12 +363,12 @@ module _ {names : List (List ℕ)} (s : List ℕ) (ν : View names) (e : ℕ) wh
                 subst (λ z. Is N I Part.plain (suc c) z (Written.keep t f x)) (sym (append-assoc us (bytes "," ∷ []) (ts ++ (bytes ")" ∷ []))))
                 (Is.keep t h i)
 
-            same : (R : Read Written) → closed s (andThen R (λ x u. got (Written.keep t f x) u)) ≡ closedBy (Written.keep t f) R
+            same : (R : Read Written) → thenParen s (andThen R (λ x u. got (Written.keep t f x) u)) ≡ closedBy (Written.keep t f) R
             same (got x u) = refl
             same (refused n u) = refl
 
             go : (c : Bool) → eqb (peek s q) (byte ",") ≡ c
-                → Out s ν e b (e + suc d) j st Part.plain (suc d) p (pick (eqb (peek s q) (byte ",")) (λ _. closed s (andThen (reading.formula P s (q + 1)) (λ x u. got (Written.keep t f x) u))) (refused 5 q))
+                → Out s ν e b (e + suc d) j st Part.plain (suc d) p (pick (eqb (peek s q) (byte ",")) (λ _. thenParen s (andThen (reading.formula P s (q + 1)) (λ x u. got (Written.keep t f x) u))) (refused 5 q))
             go true i =
                 rw (i, same (reading.formula P s (q + 1)))
                 (closing Kind.second b (e + suc d) d p (q + 1) j st (Written.keep t f) (us ++ (bytes "," ∷ [])) (tokens-then us stand (one-at (lone-token s q refl (eqb-true (peek s q) (byte ",") i)) refl))
@@ -415,8 +415,8 @@ module _ {names : List (List ℕ)} (s : List ℕ) (ν : View names) (e : ℕ) wh
                       (Is.keep t (h .is) (name-formula N I c (ν .name) n));
                 }
 
-      kept-out : {I : Option Reader} {d : ℕ} → Inner I d → Out s ν e b (e + d) j st Part.plain d p (kept I t s (p + 5))
-      unfolding kept
+      kept-out : {I : Option Reader} {d : ℕ} → Inner I d → Out s ν e b (e + d) j st Part.plain d p (sinceUntil I t s (p + 5))
+      unfolding sinceUntil
       kept-out {I} {d} h = go (eqb (peek s (p + 5)) (byte "(")) refl h
         where
           go : {I : Option Reader} {d : ℕ} (c : Bool) → eqb (peek s (p + 5)) (byte "(") ≡ c → Inner I d → Out s ν e b (e + d) j st Part.plain d p (pick (eqb (peek s (p + 5)) (byte "(")) (λ _. arguments I t s (p + 5)) (refused 5 (p + 5)))
@@ -426,21 +426,21 @@ module _ {names : List (List ℕ)} (s : List ℕ) (ν : View names) (e : ℕ) wh
 
     -- ---- words
 
-    declared-out : (d r : ℕ) → letter (peek s p) ≡ true → isWord s p (bytes "since") ≡ false → isWord s p (bytes "until") ≡ false → Out s ν e b r j st Part.plain d p (declared names s p)
+    declared-out : (d r : ℕ) → letter (peek s p) ≡ true → isSpelled s p (bytes "since") ≡ false → isSpelled s p (bytes "until") ≡ false → Out s ν e b r j st Part.plain d p (declared names s p)
     unfolding declared runEnd
-    declared-out d r l x y = go (ltb (findName (wordAt s p) names) (length names)) refl
+    declared-out d r l x y = go (ltb (findName (spellingAt s p) names) (length names)) refl
       where
-        name : Name (wordAt s p)
+        name : Name (spellingAt s p)
         name = record { word = letter-word s p l; not-since = other-word s p true x; not-until = other-word s p false y }
 
-        go : (c : Bool) → ltb (findName (wordAt s p) names) (length names) ≡ c
-            → Out s ν e b r j st Part.plain d p (pick (ltb (findName (wordAt s p) names) (length names)) (λ _. got (Written.name (findName (wordAt s p) names)) (p + length (wordAt s p))) (refused 6 p))
+        go : (c : Bool) → ltb (findName (spellingAt s p) names) (length names) ≡ c
+            → Out s ν e b r j st Part.plain d p (pick (ltb (findName (spellingAt s p) names) (length names)) (λ _. got (Written.name (findName (spellingAt s p) names)) (p + length (spellingAt s p))) (refused 6 p))
         go true i =
-            let ok = ν .named (wordAt s p) (findName (wordAt s p) names) (record { found = refl; declared = ltb-true (findName (wordAt s p) names) (length names) i }) in
+            let ok = ν .named (spellingAt s p) (findName (spellingAt s p) names) (record { found = refl; declared = ltb-true (findName (spellingAt s p) names) (length names) i }) in
             rw i
             (Out.good
             (record {
-              tokens = wordAt s p ∷ [];
+              tokens = spellingAt s p ∷ [];
               stand = one-at (word-token s p l) refl;
               is = Is.name name (ok .0);
               left = j;
@@ -459,23 +459,23 @@ module _ {names : List (List ℕ)} (s : List ℕ) (ν : View names) (e : ℕ) wh
               before = Before.whole (nothing-yet d);
               hopes =
                   Hopes.name (word-token s p l) name
-                  (λ k h. let u = h .found in let v = h .declared in let w = ltb-false (findName (wordAt s p) names) (length names) i in omega arith)
+                  (λ k h. let u = h .found in let v = h .declared in let w = ltb-false (findName (spellingAt s p) names) (length names) i in omega arith)
                   (record { rest = []; says = Written.name 0; is = Is.name name tt });
             }))
 
-    worded-out : {I : Option Reader} {d : ℕ} → Inner I d → letter (peek s p) ≡ true → Out s ν e b (e + d) j st Part.plain d p (worded I names s p)
-    unfolding worded
-    worded-out {I} {d} h l = go (isWord s p (bytes "since")) refl (isWord s p (bytes "until")) refl
+    worded-out : {I : Option Reader} {d : ℕ} → Inner I d → letter (peek s p) ≡ true → Out s ν e b (e + d) j st Part.plain d p (nameOrKeep I names s p)
+    unfolding nameOrKeep
+    worded-out {I} {d} h l = go (isSpelled s p (bytes "since")) refl (isSpelled s p (bytes "until")) refl
       where
-        go : (x : Bool) → isWord s p (bytes "since") ≡ x → (y : Bool) → isWord s p (bytes "until") ≡ y
-            → Out s ν e b (e + d) j st Part.plain d p (pick (isWord s p (bytes "since")) (λ _. kept I true s (p + 5)) (pick (isWord s p (bytes "until")) (λ _. kept I false s (p + 5)) (declared names s p)))
+        go : (x : Bool) → isSpelled s p (bytes "since") ≡ x → (y : Bool) → isSpelled s p (bytes "until") ≡ y
+            → Out s ν e b (e + d) j st Part.plain d p (pick (isSpelled s p (bytes "since")) (λ _. sinceUntil I true s (p + 5)) (pick (isSpelled s p (bytes "until")) (λ _. sinceUntil I false s (p + 5)) (declared names s p)))
         go true x y z = rw x (kept-out true (rw (this-word s p true x) at (word-token s p l)) h)
         go false x true z = rw (x, z) (kept-out false (rw (this-word s p false z) at (word-token s p l)) h)
         go false x false z = rw (x, z) (declared-out d (e + d) l x z)
 
     -- ---- every plain part
 
-    plain-by : {I : Option Reader} {d : ℕ} → Inner I d → (k : Class) → classOf (peek s p) ≡ k → Out s ν e b (e + d) j st Part.plain d p (plainBy k I names s p)
+    plain-by : {I : Option Reader} {d : ℕ} → Inner I d → (k : Class) → classOf (peek s p) ≡ k → Out s ν e b (e + d) j st Part.plain d p (plainPartBy k I names s p)
     unfolding classOf tag
     plain-by h Letter c = worded-out h (class-letter (peek s p) .0 c)
     plain-by {d = d} h Digit c = Out.bad (want-bad b (e + d) d p j st (no-letter (peek s p) c (λ x. (let y = ap tag x in omega arith))) (λ x. (let y = ap tag (sym c ∙ ap classOf x) in omega arith)) (λ x. (let y = ap tag (sym c ∙ ap classOf x) in omega arith)))
@@ -491,8 +491,8 @@ module _ {names : List (List ℕ)} (s : List ℕ) (ν : View names) (e : ℕ) wh
         go false i = rw i (Out.bad (want-bad b (e + d) d p j st (no-letter (peek s p) c (λ x. (let y = ap tag x in omega arith))) (λ x. (let y = ap tag (sym c ∙ ap classOf x) in omega arith)) (eqb-false (peek s p) (byte "(") i)))
     plain-by {d = d} h Other c = Out.bad (want-bad b (e + d) d p j st (no-letter (peek s p) c (λ x. (let y = ap tag x in omega arith))) (λ x. (let y = ap tag (sym c ∙ ap classOf x) in omega arith)) (λ x. (let y = ap tag (sym c ∙ ap classOf x) in omega arith)))
 
-  plain-out : {I : Option Reader} {d : ℕ} → Inner I d → (p b : ℕ) (j : Joins) (st : List Frame) → Out s ν e b (e + d) j st Part.plain d p (plainIn I names s p)
-  unfolding plainIn
+  plain-out : {I : Option Reader} {d : ℕ} → Inner I d → (p b : ℕ) (j : Joins) (st : List Frame) → Out s ν e b (e + d) j st Part.plain d p (plainPartIn I names s p)
+  unfolding plainPartIn
   plain-out h p b j st = plain-by b p j st h (classOf (peek s p)) refl
 
   inner : (d : ℕ) → Inner (inside d names s) d
@@ -503,8 +503,8 @@ module _ {names : List (List ℕ)} (s : List ℕ) (ν : View names) (e : ℕ) wh
   -- ---- a rule
 
   pub rule-out : (p : ℕ) → Out s ν e (e + mostOpen) (e + mostOpen) fresh [] formula mostOpen p (rule names s p)
-  unfolding rule reading.plain
-  rule-out p = go (formula-out mostOpen (plainIn (inside mostOpen names s) names s) (plain-out (inner mostOpen)) p [])
+  unfolding rule reading.plainPart
+  rule-out p = go (formula-out mostOpen (plainPartIn (inside mostOpen names s) names s) (plain-out (inner mostOpen)) p [])
     where
       go : {R : Read Written} → Out s ν e (e + mostOpen) (e + mostOpen) fresh [] formula mostOpen p R → Out s ν e (e + mostOpen) (e + mostOpen) fresh [] formula mostOpen p (andThen R (λ f q. pick (eqb q (length s)) (λ _. got f q) (refused 5 q)))
       go (Out.bad x) = Out.bad x

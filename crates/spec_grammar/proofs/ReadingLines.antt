@@ -14,7 +14,7 @@ use Rattle.spec_limits.specs.Limits.{mostBytes}
 use Rattle.read_bytes.specs.Read.{Read, andThen}
 use Rattle.read_bytes.specs.Read.Read.{got, refused}
 use Rattle.read_bytes.specs.Bytes.{bytes, pick, InLine}
-use Rattle.read_names.specs.Words.{wordAt, findName}
+use Rattle.read_names.specs.Spellings.{spellingAt, findName}
 use Rattle.read_lines.specs.Lines.{rangedLine, upTo}
 use Rattle.read_bytes.proofs.Answers.{not-both, same-value, then-same}
 use Rattle.spec_tilco.specs.Inference.{Mark, mark}
@@ -37,7 +37,7 @@ data KnownIs (names : List (List ℕ)) (r : List ℕ) (p : ℕ) : Read ℕ → T
 
 module _ (names : List (List ℕ)) (r : List ℕ) (p : ℕ) where
   abbrev known : ℕ → ℕ → Read ℕ
-  known v q = pick (ltb (findName (wordAt r v) names) (length names)) (λ _. got (findName (wordAt r v) names) q) (refused 12 v)
+  known v q = pick (ltb (findName (spellingAt r v) names) (length names)) (λ _. got (findName (spellingAt r v) names) q) (refused 12 v)
 
   known-is : KnownIs names r p (knownLine names r p)
   unfolding knownLine

@@ -14,8 +14,8 @@ use Rattle.read_bytes.specs.Read.Read.{got, refused}
 use Rattle.read_bytes.specs.Bytes.{byte, bytes}
 use Rattle.read_bytes.proofs.Answers.{not-both}
 use Rattle.spec_tilco.specs.Formula.{Written}
-use Rattle.read_parts.specs.Grammar.{rule}
-use Rattle.spec_grammar.specs.Tokens.{Word, TokenAt, Tokens}
+use Rattle.read_parts.specs.FormulaText.{rule}
+use Rattle.spec_grammar.specs.Tokens.{Spelling, TokenAt, Tokens}
 use Rattle.spec_grammar.specs.Grammar.{formula, Name, Is, Declared, Legal, Rule}
 use Rattle.spec_grammar.specs.RuleFaults.{AnySpan, AnyName, Begins, Wrong, RuleFault, Becomes, Open}
 use Rattle.spec_grammar.proofs.Standing.{next-is, none-is}
@@ -35,7 +35,7 @@ lax = record { named = λ w. true; spanned = λ o v w c. true }
 some-name : Name (bytes "a")
 some-name =
     record {
-      word = Word.word refl tt;
+      word = Spelling.word refl tt;
       not-since = λ e. (let z : byte "a" ≡ byte "s" = cc in omega arith);
       not-until = λ e. (let z : byte "a" ≡ byte "u" = cc in omega arith);
     }

@@ -13,11 +13,11 @@ use Rattle.spec_limits.specs.Limits.{mostBytes, mostRuleBytes}
 use Rattle.read_bytes.specs.Read.{Read, andThen}
 use Rattle.read_bytes.specs.Read.Read.{got, refused}
 use Rattle.read_bytes.specs.Bytes.{bytes, between}
-use Rattle.read_names.specs.Words.{namesAt}
+use Rattle.read_names.specs.Spellings.{namesAt}
 use Rattle.read_lines.specs.Lines.{inTurn}
 use Rattle.read_bytes.proofs.Answers.{not-both, same-value, same-place, then-same}
 use Rattle.spec_tilco.specs.Formula.{Written}
-use Rattle.read_parts.specs.Grammar as reading
+use Rattle.read_parts.specs.FormulaText as reading
 use Rattle.read_sheet.specs.Sheet as sheet
 use Rattle.read_sheet.specs.Sheet.{Contents, contents, atEnd, ruleLine, sheetOf}
 use Rattle.spec_grammar.specs.Lines.{LineAt, after}

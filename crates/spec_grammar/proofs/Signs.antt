@@ -10,14 +10,14 @@ use borrow.Author.Tests.{eqb-true, ltb-true}
 use lib.Dec.{eqb, ltb}
 use lib.ListN.{length}
 use Rattle.read_bytes.specs.Bytes.{byte, bytes, peek, pick, oneOf, letter, digit, starts}
-use Rattle.read_names.specs.Words.{wordAt, sameText, findName}
+use Rattle.read_names.specs.Spellings.{spellingAt, sameText, findName}
 use Rattle.read_bytes.proofs.Tests.{between-in, between-is}
 use Rattle.read_names.proofs.Names.{find-in}
 use Rattle.spec_tilco.specs.Formula.{Op, And, Or, Implies, Iff}
 use Rattle.spec_tilco.specs.Lists.{All}
 use Rattle.read_interval.specs.Interval.{leading}
-use Rattle.read_parts.specs.Grammar.{signText}
-use Rattle.spec_grammar.specs.Tokens.{Word, Numeral, End, signs, Token, TokenAt}
+use Rattle.read_parts.specs.FormulaText.{signText}
+use Rattle.spec_grammar.specs.Tokens.{Spelling, Numeral, End, signs, Token, TokenAt}
 use Rattle.spec_grammar.proofs.Standing.{starts-head, starts-one, word-stands, word-longest, word-each, letter-word, word-first}
 
 -- The sign that starts with the byte b.
@@ -111,7 +111,7 @@ sign-opening = among Opening signs all-opening
 
 -- A token has a first byte.
 pub token-some : {w : List ℕ} → Token w → (b : ℕ) × (u : List ℕ) × (w ≡ b ∷ u)
-token-some (Token.word (Word.word {b} {w} h k)) = (b, w, refl)
+token-some (Token.word (Spelling.word {b} {w} h k)) = (b, w, refl)
 token-some (Token.end End.nought) = (byte "0", [], refl)
 token-some (Token.end (End.plus (Numeral.numeral {b} {w} h k l))) = (b, w, refl)
 token-some (Token.end (End.minus {w} n)) = (byte "-", w, refl)
@@ -181,14 +181,14 @@ letter-no-end b h k =
 -- ---- words
 
 module _ (s : List ℕ) (p : ℕ) where
-  pub word-no-end : {w : List ℕ} → Word w → starts s p w ≡ true → (digit (peek s p) ≡ true) ⊎ (peek s p ≡ byte "-") → ⊥
+  pub word-no-end : {w : List ℕ} → Spelling w → starts s p w ≡ true → (digit (peek s p) ≡ true) ⊎ (peek s p ≡ byte "-") → ⊥
   word-no-end k e h = letter-no-end (peek s p) (word-first s p k e) h
 
   -- Where a letter stands, the token is the word.
-  pub word-token : letter (peek s p) ≡ true → TokenAt s p (wordAt s p)
+  pub word-token : letter (peek s p) ≡ true → TokenAt s p (spellingAt s p)
   word-token h = record { token = Token.word (letter-word s p h); stands = word-stands s p; longest = longest }
     where
-      longest : (v : List ℕ) → Token v → starts s p v ≡ true → length v ≤ length (wordAt s p)
+      longest : (v : List ℕ) → Token v → starts s p v ≡ true → length v ≤ length (spellingAt s p)
       longest v (Token.word k) e = word-longest s p v (word-each k) e
       longest v (Token.end k) e = absurd (letter-no-end (peek s p) h (end-first s p k e))
       longest v (Token.sign m) e = absurd (sign-letter s p m e h)

@@ -15,7 +15,7 @@ use Rattle.read_bytes.specs.declared.bytes.Class.the-variants.{Letter, Digit, S
 use Rattle.read_bytes.specs.Read.{Read, andThen}
 use Rattle.read_bytes.specs.Read.Read.{got, refused}
 use Rattle.read_bytes.specs.Bytes.{byte, bytes, peek, pick, oneOf, letter, classOf, nameByte, starts, runEnd}
-use Rattle.read_names.specs.Words.{wordAt, wordEnd, findName, sameText, isWord}
+use Rattle.read_names.specs.Spellings.{spellingAt, spellingEnd, findName, sameText, isSpelled}
 use Rattle.read_bytes.proofs.Answers.{not-both, same-value, same-place, through, came}
 use Rattle.read_bytes.proofs.Classes.{class-letter}
 use Rattle.read_names.proofs.Names.{same-text}
@@ -25,8 +25,8 @@ use Rattle.spec_tilco.specs.Formula.{Op, And, Or, Implies, Iff, Written}
 use Rattle.read_interval.specs.declared.Span.{Span}
 use Rattle.read_interval.specs.declared.Span.the-variants.{Over, Refused}
 use Rattle.read_interval.specs.Interval.{interval}
-use Rattle.read_parts.specs.Grammar as reading
-use Rattle.read_parts.specs.Grammar.{Reader, times, timedPart, signText, repeats, more, inParens, negated, closed, second, arguments, kept, worded, declared, plainBy, plainIn, inside, rule}
+use Rattle.read_parts.specs.FormulaText as reading
+use Rattle.read_parts.specs.FormulaText.{Reader, times, timedPart, signText, repeats, more, inParens, negated, thenParen, second, arguments, sinceUntil, nameOrKeep, declared, plainPartBy, plainPartIn, inside, rule}
 use Rattle.spec_grammar.specs.Tokens.{TokenAt, Tokens}
 use Rattle.spec_grammar.specs.Grammar.{Part, below, before, formula, keepWord, timeSign, Is, Stands, Rule}
 use Rattle.spec_grammar.proofs.Standing.{one-at, tokens-then, letter-word}
@@ -51,16 +51,16 @@ keep-length true = refl
 keep-length false = refl
 
 -- Is the word at p since (with true) or until?
-pub keep-is : (s : List ℕ) (p : ℕ) (b : Bool) → isWord s p (keepWord b) ≡ sameText (keepWord b) (wordAt s p)
+pub keep-is : (s : List ℕ) (p : ℕ) (b : Bool) → isSpelled s p (keepWord b) ≡ sameText (keepWord b) (spellingAt s p)
 unfolding every nameByte
 keep-is s p true = is-word s p (bytes "since") refl
 keep-is s p false = is-word s p (bytes "until") refl
 
-pub this-word : (s : List ℕ) (p : ℕ) (b : Bool) → isWord s p (keepWord b) ≡ true → wordAt s p ≡ keepWord b
-this-word s p b e = sym (same-text (keepWord b) (wordAt s p) .0 (sym (keep-is s p b) ∙ e))
+pub this-word : (s : List ℕ) (p : ℕ) (b : Bool) → isSpelled s p (keepWord b) ≡ true → spellingAt s p ≡ keepWord b
+this-word s p b e = sym (same-text (keepWord b) (spellingAt s p) .0 (sym (keep-is s p b) ∙ e))
 
-pub other-word : (s : List ℕ) (p : ℕ) (b : Bool) → isWord s p (keepWord b) ≡ false → wordAt s p ≡ keepWord b → ⊥
-other-word s p b e i = true≢false (sym (same-text (keepWord b) (wordAt s p) .1 (sym i)) ∙ sym (keep-is s p b) ∙ e)
+pub other-word : (s : List ℕ) (p : ℕ) (b : Bool) → isSpelled s p (keepWord b) ≡ false → spellingAt s p ≡ keepWord b → ⊥
+other-word s p b e i = true≢false (sym (same-text (keepWord b) (spellingAt s p) .1 (sym i)) ∙ sym (keep-is s p b) ∙ e)
 
 -- A test let the reading go on.
 passed : (b : Bool) (R : Read Written) (n p : ℕ) {f : Written} {q : ℕ} → pick b (λ _. R) (refused n p) ≡ got f q → (b ≡ true) × (R ≡ got f q)
@@ -187,7 +187,7 @@ module _ (names : List (List ℕ)) (s : List ℕ) where
       moved (record { tokens = bytes "!" ∷ a .tokens; stand = Tokens.next (lone-token s p refl t) (a .stand); is = Is.not (a .is) }) (c .then)
 
   -- What a closing parenthesis follows.
-  closed-is : (R : Read Written) {f : Written} {q : ℕ} → closed s R ≡ got f q → (u : ℕ) × (R ≡ got f u) × TokenAt s u (bytes ")") × (u + 1 ≡ q)
+  closed-is : (R : Read Written) {f : Written} {q : ℕ} → thenParen s R ≡ got f q → (u : ℕ) × (R ≡ got f u) × TokenAt s u (bytes ")") × (u + 1 ≡ q)
   closed-is R e =
       let c = came R (λ g u. pick (eqb (peek s u) (byte ")")) (λ _. got g (u + 1)) (refused 5 u)) e in
       let t = through (eqb (peek s (c .place)) (byte ")")) (c .value) (c .place + 1) 5 (c .place) (c .then) in
@@ -220,8 +220,8 @@ module _ (names : List (List ℕ)) (s : List ℕ) where
       }
 
   -- since or until, from its word on.
-  kept-sound : {I : Option Reader} {d : ℕ} → Inner I d → (b : Bool) (p : ℕ) (f : Written) (q : ℕ) → TokenAt s p (keepWord b) → kept I b s (p + 5) ≡ got f q → Stands names s Part.plain d p q f
-  unfolding kept
+  kept-sound : {I : Option Reader} {d : ℕ} → Inner I d → (b : Bool) (p : ℕ) (f : Written) (q : ℕ) → TokenAt s p (keepWord b) → sinceUntil I b s (p + 5) ≡ got f q → Stands names s Part.plain d p q f
+  unfolding sinceUntil
   kept-sound shut b p f q t e = let k = passed (eqb (peek s (p + 5)) (byte "(")) (refused 8 (p + 5)) 5 (p + 5) e in absurd (not-both (sym (k .1)))
   kept-sound (opens {d} {P} h) b p f q t e =
       let k = passed (eqb (peek s (p + 5)) (byte "(")) (arguments (option.some P) b s (p + 5)) 5 (p + 5) e in
@@ -243,30 +243,30 @@ module _ (names : List (List ℕ)) (s : List ℕ) where
   -- ---- words
 
   -- Names.
-  declared-sound : (d p : ℕ) (f : Written) (q : ℕ) → letter (peek s p) ≡ true → isWord s p (bytes "since") ≡ false → isWord s p (bytes "until") ≡ false → declared names s p ≡ got f q → Stands names s Part.plain d p q f
+  declared-sound : (d p : ℕ) (f : Written) (q : ℕ) → letter (peek s p) ≡ true → isSpelled s p (bytes "since") ≡ false → isSpelled s p (bytes "until") ≡ false → declared names s p ≡ got f q → Stands names s Part.plain d p q f
   unfolding declared runEnd
   declared-sound d p f q l a b e =
-      let t = through (ltb (findName (wordAt s p) names) (length names)) (Written.name (findName (wordAt s p) names)) (wordEnd s p) 6 p e in
+      let t = through (ltb (findName (spellingAt s p) names) (length names)) (Written.name (findName (spellingAt s p) names)) (spellingEnd s p) 6 p e in
       moved
       (record {
-        tokens = wordAt s p ∷ [];
+        tokens = spellingAt s p ∷ [];
         stand = one-at (word-token s p l) refl;
         is =
             Is.name (record { word = letter-word s p l; not-since = other-word s p true a; not-until = other-word s p false b })
-            (record { found = refl; declared = ltb-true (findName (wordAt s p) names) (length names) (t .0) });
+            (record { found = refl; declared = ltb-true (findName (spellingAt s p) names) (length names) (t .0) });
       })
       (let i = t .1 in let j = t .2 in cc)
 
-  worded-sound : {I : Option Reader} {d : ℕ} → Inner I d → (p : ℕ) (f : Written) (q : ℕ) → letter (peek s p) ≡ true → worded I names s p ≡ got f q → Stands names s Part.plain d p q f
-  unfolding worded
-  worded-sound {I} {d} h p f q l e = go (isWord s p (bytes "since")) refl (isWord s p (bytes "until")) refl
+  worded-sound : {I : Option Reader} {d : ℕ} → Inner I d → (p : ℕ) (f : Written) (q : ℕ) → letter (peek s p) ≡ true → nameOrKeep I names s p ≡ got f q → Stands names s Part.plain d p q f
+  unfolding nameOrKeep
+  worded-sound {I} {d} h p f q l e = go (isSpelled s p (bytes "since")) refl (isSpelled s p (bytes "until")) refl
     where
-      go : (a : Bool) → isWord s p (bytes "since") ≡ a → (b : Bool) → isWord s p (bytes "until") ≡ b → Stands names s Part.plain d p q f
+      go : (a : Bool) → isSpelled s p (bytes "since") ≡ a → (b : Bool) → isSpelled s p (bytes "until") ≡ b → Stands names s Part.plain d p q f
       go true i b j = kept-sound h true p f q (rw (this-word s p true i) at (word-token s p l)) (rw i at e)
       go false i true j = kept-sound h false p f q (rw (this-word s p false j) at (word-token s p l)) (rw (i, j) at e)
       go false i false j = declared-sound d p f q l i j (rw (i, j) at e)
 
-  plain-by : {I : Option Reader} {d : ℕ} → Inner I d → (k : Class) (p : ℕ) (f : Written) (q : ℕ) → classOf (peek s p) ≡ k → plainBy k I names s p ≡ got f q → Stands names s Part.plain d p q f
+  plain-by : {I : Option Reader} {d : ℕ} → Inner I d → (k : Class) (p : ℕ) (f : Written) (q : ℕ) → classOf (peek s p) ≡ k → plainPartBy k I names s p ≡ got f q → Stands names s Part.plain d p q f
   plain-by h Letter p f q c e = worded-sound h p f q (class-letter (peek s p) .0 c) e
   plain-by h Digit p f q c e = absurd (not-both (sym e))
   plain-by {I} h Sign p f q c e =
@@ -277,8 +277,8 @@ module _ (names : List (List ℕ)) (s : List ℕ) where
       parens-sound h p f q (eqb-true (peek s p) (byte "(") (k .0)) (k .1)
   plain-by h Other p f q c e = absurd (not-both (sym e))
 
-  plain-sound : {I : Option Reader} {d : ℕ} → Inner I d → Sound Part.plain d (plainIn I names s)
-  unfolding plainIn
+  plain-sound : {I : Option Reader} {d : ℕ} → Inner I d → Sound Part.plain d (plainPartIn I names s)
+  unfolding plainPartIn
   plain-sound h p f q e = plain-by h (classOf (peek s p)) p f q refl e
 
   inner-inside : (d : ℕ) → Inner (inside d names s) d
@@ -288,10 +288,10 @@ module _ (names : List (List ℕ)) (s : List ℕ) where
 
   -- What is read as a rule is one.
   pub rule-sound : (p : ℕ) {f : Written} {q : ℕ} → rule names s p ≡ got f q → Rule names s p f × (q ≡ length s)
-  unfolding rule reading.plain
+  unfolding rule reading.plainPart
   rule-sound p {f} {q} e =
-      let c = came (reading.formula (reading.plain mostOpen names s) s p) (λ g r. pick (eqb r (length s)) (λ _. got g r) (refused 5 r)) e in
+      let c = came (reading.formula (reading.plainPart mostOpen names s) s p) (λ g r. pick (eqb r (length s)) (λ _. got g r) (refused 5 r)) e in
       let t = through (eqb (c .place) (length s)) (c .value) (c .place) 5 (c .place) (c .then) in
       let i = eqb-true (c .place) (length s) (t .0) in
-      let a = formula-sound mostOpen (plainIn (inside mostOpen names s) names s) (plain-sound (inner-inside mostOpen)) p _ _ (c .first) in
+      let a = formula-sound mostOpen (plainPartIn (inside mostOpen names s) names s) (plain-sound (inner-inside mostOpen)) p _ _ (c .first) in
       (moved a (let j = t .1 in cc), sym (t .2) ∙ i)

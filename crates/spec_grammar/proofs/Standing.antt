@@ -1,4 +1,4 @@
--- Texts that stand at a place: byte by byte, one of each length, and words.
+-- Texts that stand at a place: byte by byte, one of each length, and spellings.
 -- Assumes nothing.
 use mathlib.Core.Path.{_≡_, refl, sym, subst}
 use mathlib.Core.Bool.{Bool, true, false, and-eq-true-iff}
@@ -9,10 +9,10 @@ use borrow.Author.Tests.{eqb-true, eq-eqb}
 use lib.Dec.{eqb}
 use lib.ListN.{length}
 use Rattle.read_bytes.specs.Bytes.{peek, letter, nameByte, starts}
-use Rattle.read_names.specs.Words.{wordAt}
+use Rattle.read_names.specs.Spellings.{spellingAt}
 use Rattle.read_bytes.proofs.Runs.{run-past}
 use Rattle.read_names.proofs.Spelling.{word-more, word-none}
-use Rattle.spec_grammar.specs.Tokens.{Each, Word, TokenAt, Tokens}
+use Rattle.spec_grammar.specs.Tokens.{Each, Spelling, TokenAt, Tokens}
 
 module _ (s : List ℕ) (p : ℕ) where
   pub starts-head : (x : ℕ) (w : List ℕ) → starts s p (x ∷ w) ≡ true → peek s p ≡ x
@@ -80,25 +80,25 @@ module _ {s : List ℕ} where
       let r = tokens-part us (n .1) in
       (r .0, Tokens.next (n .0) (r .1), r .2)
 
--- ---- words
+-- ---- spellings
 
--- The word at p stands there, of letters and digits.
-word-runs : (s : List ℕ) (n p : ℕ) → length s ≤ p + n → (starts s p (wordAt s p) ≡ true) × Each nameByte (wordAt s p)
+-- The spelling at p stands there, of letters and digits.
+word-runs : (s : List ℕ) (n p : ℕ) → length s ≤ p + n → (starts s p (spellingAt s p) ≡ true) × Each nameByte (spellingAt s p)
 word-runs s zero p h = rw (run-past nameByte s p (omega arith)) (starts-none s p, tt)
 word-runs s (suc n) p h = go (nameByte (peek s p)) refl (word-runs s n (p + 1) (omega arith))
   where
-    go : (b : Bool) → nameByte (peek s p) ≡ b → (starts s (p + 1) (wordAt s (p + 1)) ≡ true) × Each nameByte (wordAt s (p + 1)) → (starts s p (wordAt s p) ≡ true) × Each nameByte (wordAt s p)
-    go true e r = rw (word-more s p e) (starts-cons s p (peek s p) (wordAt s (p + 1)) refl (r .0), (e, r .1))
+    go : (b : Bool) → nameByte (peek s p) ≡ b → (starts s (p + 1) (spellingAt s (p + 1)) ≡ true) × Each nameByte (spellingAt s (p + 1)) → (starts s p (spellingAt s p) ≡ true) × Each nameByte (spellingAt s p)
+    go true e r = rw (word-more s p e) (starts-cons s p (peek s p) (spellingAt s (p + 1)) refl (r .0), (e, r .1))
     go false e r = rw (word-none s p e) (starts-none s p, tt)
 
-pub word-stands : (s : List ℕ) (p : ℕ) → starts s p (wordAt s p) ≡ true
+pub word-stands : (s : List ℕ) (p : ℕ) → starts s p (spellingAt s p) ≡ true
 word-stands s p = word-runs s (length s) p (omega arith) .0
 
-pub word-run : (s : List ℕ) (p : ℕ) → Each nameByte (wordAt s p)
+pub word-run : (s : List ℕ) (p : ℕ) → Each nameByte (spellingAt s p)
 word-run s p = word-runs s (length s) p (omega arith) .1
 
 -- And no longer text of letters and digits does.
-pub word-longest : (s : List ℕ) (p : ℕ) (v : List ℕ) → Each nameByte v → starts s p v ≡ true → length v ≤ length (wordAt s p)
+pub word-longest : (s : List ℕ) (p : ℕ) (v : List ℕ) → Each nameByte v → starts s p v ≡ true → length v ≤ length (spellingAt s p)
 word-longest s p [] h e = omega arith
 word-longest s p (x ∷ v) h e =
     let k : nameByte (peek s p) ≡ true = rw (starts-head s p x v e) (h .0) in
@@ -109,14 +109,14 @@ pub letter-named : (b : ℕ) → letter b ≡ true → nameByte b ≡ true
 unfolding nameByte
 letter-named b e = rw e
 
-pub word-each : {w : List ℕ} → Word w → Each nameByte w
-word-each (Word.word {b} h k) = (letter-named b h, k)
+pub word-each : {w : List ℕ} → Spelling w → Each nameByte w
+word-each (Spelling.word {b} h k) = (letter-named b h, k)
 
--- A letter starts a word.
-pub letter-word : (s : List ℕ) (p : ℕ) → letter (peek s p) ≡ true → Word (wordAt s p)
+-- A letter starts a spelling.
+pub letter-word : (s : List ℕ) (p : ℕ) → letter (peek s p) ≡ true → Spelling (spellingAt s p)
 letter-word s p e =
     let h = letter-named (peek s p) e in
-    rw (word-more s p h) (Word.word e (word-runs s (length s) (p + 1) (omega arith) .1))
+    rw (word-more s p h) (Spelling.word e (word-runs s (length s) (p + 1) (omega arith) .1))
 
-pub word-first : {v : List ℕ} (s : List ℕ) (p : ℕ) → Word v → starts s p v ≡ true → letter (peek s p) ≡ true
-word-first s p (Word.word {b} {w} h k) e = rw (starts-head s p b w e) h
+pub word-first : {v : List ℕ} (s : List ℕ) (p : ℕ) → Spelling v → starts s p v ≡ true → letter (peek s p) ≡ true
+word-first s p (Spelling.word {b} {w} h k) e = rw (starts-head s p b w e) h

@@ -20,7 +20,7 @@ use Rattle.read_interval.specs.declared.Span.{Span}
 use Rattle.read_interval.specs.declared.Span.the-variants.{Over, Refused}
 use Rattle.read_interval.specs.Interval as reading
 use Rattle.read_interval.specs.Interval.{endAt, endThen, endAfter, closeAt, commaAt, spanOf, endZero}
-use Rattle.read_parts.specs.Grammar.{Reader, spanThen, times, timedPart}
+use Rattle.read_parts.specs.FormulaText.{Reader, spanThen, times, timedPart}
 use Rattle.spec_grammar.specs.Tokens.{End, Token, TokenAt, Tokens}
 use Rattle.spec_grammar.specs.Grammar.{Part, timeSign, Interval, Is}
 use Rattle.spec_grammar.specs.RuleFaults.{AnyName, AnySpan, SpanBegins}

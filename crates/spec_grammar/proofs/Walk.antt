@@ -9,11 +9,11 @@ use Prim.Native.Nat.{ℕ, zero, suc, _+_}
 use native.Mathlib.Omega.{arith}
 use lib.Dec.{eqb}
 use Rattle.read_bytes.specs.Bytes.{byte, bytes, pick, oneOf, letter, digit}
-use Rattle.read_names.specs.Words.{sameText}
+use Rattle.read_names.specs.Spellings.{sameText}
 use Rattle.read_names.proofs.Names.{same-text}
 use Rattle.spec_tilco.specs.Formula.{Op, And, Or, Implies, Iff, Written}
-use Rattle.read_parts.specs.Grammar.{signText, repeats}
-use Rattle.spec_grammar.specs.Tokens.{Word, Numeral, End}
+use Rattle.read_parts.specs.FormulaText.{signText, repeats}
+use Rattle.spec_grammar.specs.Tokens.{Spelling, Numeral, End}
 use Rattle.spec_grammar.specs.Grammar.{Part, keepWord, timeSign, Name, Interval, Is}
 use Rattle.spec_grammar.specs.RuleFaults.{AnyName, AnySpan}
 use Rattle.spec_grammar.proofs.Signs.{leading-digit}
@@ -77,8 +77,8 @@ other-text w x n = go (sameText w x) refl
     go true i = absurd (n (same-text w x .0 i))
     go false i = i
 
-pub word-letter : {w : List ℕ} → Word w → letter (firstOf w) ≡ true
-word-letter (Word.word h k) = h
+pub word-letter : {w : List ℕ} → Spelling w → letter (firstOf w) ≡ true
+word-letter (Spelling.word h k) = h
 
 -- One more is opened.
 abbrev pub opened : ℕ → (ℕ → Place) → Option Place

@@ -7,11 +7,11 @@ use Prim.Native.Nat.{ℕ, suc, _+_, _<_}
 use lib.ListN.{length}
 use Rattle.spec_limits.specs.Limits.{mostOpen}
 use Rattle.read_bytes.specs.Bytes.{byte, bytes, pick, oneOf}
-use Rattle.read_names.specs.Words.{findName}
+use Rattle.read_names.specs.Spellings.{findName}
 use Rattle.spec_tilco.specs.Formula.{Op, And, Or, Implies, Iff, Written}
 use Rattle.read_interval.specs.Interval.{leftOut, near, overOffset}
-use Rattle.read_parts.specs.Grammar.{signText, repeats}
-use Rattle.spec_grammar.specs.Tokens.{Word, End, Tokens}
+use Rattle.read_parts.specs.FormulaText.{signText, repeats}
+use Rattle.spec_grammar.specs.Tokens.{Spelling, End, Tokens}
 
 -- A plain part, a timed part, and the level of each of & | => <=>: an and-part, an or-part, an implication part and a formula.
 pub data Part : Type 0 where
@@ -34,7 +34,7 @@ before o = pick (repeats o) (λ _. level o) (below o)
 
 -- "since and until are reserved."
 pub record Name (w : List ℕ) : Type 0 where
-  pub word : Word w
+  pub word : Spelling w
   pub not-since : w ≡ bytes "since" → ⊥
   pub not-until : w ≡ bytes "until" → ⊥
 

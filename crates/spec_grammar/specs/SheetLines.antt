@@ -7,7 +7,7 @@ use Prim.Native.Nat.{ℕ, zero, suc, _+_, _<_}
 use lib.ListN.{length}
 use Rattle.spec_limits.specs.Limits.{mostRuleBytes, mostRules, mostSignals, mostTicks}
 use Rattle.read_bytes.specs.Bytes.{bytes, between}
-use Rattle.read_names.specs.Words.{namesAt}
+use Rattle.read_names.specs.Spellings.{namesAt}
 use Rattle.spec_tilco.specs.Formula.{Written}
 use Rattle.spec_grammar.specs.Grammar.{Rule}
 use Rattle.spec_grammar.specs.RuleFaults.{RuleFault}

@@ -15,8 +15,8 @@ abbrev pub Each : (ℕ → Bool) → List ℕ → Type 0
 Each P = All (λ b. P b ≡ true)
 
 -- A letter, then letters or digits: a name of any length, since or until.
-pub data Word : List ℕ → Type 0 where
-  word : {b : ℕ} {w : List ℕ} → letter b ≡ true → Each nameByte w → Word (b ∷ w)
+pub data Spelling : List ℕ → Type 0 where
+  word : {b : ℕ} {w : List ℕ} → letter b ≡ true → Each nameByte w → Spelling (b ∷ w)
 
 -- The number that digits write after digits of the value v.
 unfoldable pub decimal : ℕ → List ℕ → ℕ
@@ -40,7 +40,7 @@ signs =
     ∷ bytes "," ∷ []
 
 pub data Token : List ℕ → Type 0 where
-  word : {w : List ℕ} → Word w → Token w
+  word : {w : List ℕ} → Spelling w → Token w
   end : {w : List ℕ} {v : ℕ} → End w v → Token w
   sign : {w : List ℕ} → List·Memᴰ w signs → Token w
 

@@ -10,16 +10,16 @@ use Rattle.read_bytes.specs.Read.{Read}
 use Rattle.read_bytes.specs.Read.Read.{got, refused as unread}
 use Rattle.read_bytes.proofs.Answers.{not-both, same-value}
 use Rattle.spec_tilco.specs.Inference.{Mark, mark, Clash}
-use Rattle.spec_tilco.specs.Table.{Standing, tableWords, Inside, factsOf, Reading, Added, Answer, Asked}
+use Rattle.spec_tilco.specs.Table.{Standing, tableWords, Inside, factsOf, InRange, Added, Answer, Asked}
 use Rattle.spec_tilco.proofs.Demand1.{asked-one}
 use Rattle.spec_tilco.proofs.Demand2.{added-one}
 use Rattle.read_sheet.specs.Sheet.{Contents, meant}
 use Rattle.read_readings.specs.Readings.{readings}
 use Rattle.open_sheet.specs.Results.{Result, accepted, refused}
-use Rattle.spec_operations.specs.Results.{Gain, gain}
+use Rattle.spec_operations.specs.Gain.{Gain, gain}
 use Rattle.open_sheet.specs.SheetIn.{sheetIn, namesIn}
-use Rattle.open_table.specs.Opening.{Opens}
-use Rattle.open_table.specs.Opening.Opens.{both, not-the-sheet, not-the-length, not-inside}
+use Rattle.open_table.specs.Opens.{Opens}
+use Rattle.open_table.specs.Opens.Opens.{both, not-the-sheet, not-the-length, not-inside}
 use Rattle.spec_operations.specs.Operations.{checked, Adds, Asks}
 use Rattle.spec_operations.specs.Operations.Adds.{not-opened, not-read, added}
 use Rattle.spec_operations.specs.Operations.Asks.{not-opened as not-asked, out-of-range, asked}
@@ -138,8 +138,8 @@ module _ {s T : List ℕ} {x t : ℕ} where
   asks-one (not-asked o) (asked y i j) = opens-or-not y o
   asks-one (out-of-range o i) (not-asked y) = opens-or-not o y
   asks-one (out-of-range o i) (out-of-range y j) = refl
-  asks-one (out-of-range o i) (asked y j v) = absurd (i (subst (λ (z : Contents). Reading (meant z) (mark x t true)) (opens-same y o) j))
+  asks-one (out-of-range o i) (asked y j v) = absurd (i (subst (λ (z : Contents). InRange (meant z) (mark x t true)) (opens-same y o) j))
   asks-one (asked o i u) (not-asked y) = opens-or-not o y
-  asks-one (asked o i u) (out-of-range y j) = absurd (j (subst (λ (z : Contents). Reading (meant z) (mark x t true)) (opens-same o y) i))
+  asks-one (asked o i u) (out-of-range y j) = absurd (j (subst (λ (z : Contents). InRange (meant z) (mark x t true)) (opens-same o y) i))
   asks-one (asked {a = a} o i u) (asked {k = l} y j v) =
       ap accepted (asked-one (Standing (meant l) T) x t (subst (λ (z : Contents). Asked (Standing (meant z) T) x t a) (opens-same o y) u) v)

@@ -12,10 +12,10 @@ use Rattle.spec_tilco.proofs.Order.{row-count}
 use Rattle.read_sheet.specs.Sheet.{Contents, meant}
 use Rattle.open_sheet.specs.Results.{accepted}
 use Rattle.open_sheet.specs.SheetIn.{sheetIn}
-use Rattle.open_table.specs.Opening.{Opens}
-use Rattle.open_sheet.specs.Ready.{Ready}
-use Rattle.open_table.specs.Ready.{AtHand}
-use Rattle.open_table.specs.Opening.Opens.{both}
+use Rattle.open_table.specs.Opens.{Opens}
+use Rattle.open_sheet.specs.OpenedSheet.{OpenedSheet}
+use Rattle.open_table.specs.OpenedTable.{OpenedTable}
+use Rattle.open_table.specs.Opens.Opens.{both}
 use Rattle.open_table.proofs.Tables.{InSheet, in-sheet, RowWords, row-words, table-most}
 
 -- What an opened table has.
@@ -27,8 +27,8 @@ pub record Fitting (s T : List ℕ) (k : Contents) : Type 0 where
 pub fitting : {s T : List ℕ} {k : Contents} → Opens s T (accepted k) → Fitting s T k
 fitting (both e l i) = record { holds = e; long = l; inside = i }
 
-module _ {s T places B tops : List ℕ} {w t count : ℕ} (h : AtHand s T places B tops w t count) (n : ℕ) (e : n ≡ words w) where
-  abbrev k : Ready s places B tops w t count
+module _ {s T places B tops : List ℕ} {w t count : ℕ} (h : OpenedTable s T places B tops w t count) (n : ℕ) (e : n ≡ words w) where
+  abbrev k : OpenedSheet s places B tops w t count
   k = h .sheet
 
   abbrev c : Contents

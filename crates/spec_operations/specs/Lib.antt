@@ -1,3 +1,3 @@
 -- The definitions that the contracts cite, lowest layer first.
-pub mod Results
+pub mod Gain
 pub mod Operations

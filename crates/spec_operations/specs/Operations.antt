@@ -8,13 +8,13 @@ use Prim.Native.Nat.{ℕ, _-_}
 use Rattle.read_bytes.specs.Read.Read.{got, refused as unread}
 use Rattle.spec_tilco.specs.Inference.{Mark, mark, Clash}
 use Rattle.spec_tilco.specs.Lowering.{rowCount}
-use Rattle.spec_tilco.specs.Table.{Standing, factsOf, Reading, Added, Answer, Asked}
+use Rattle.spec_tilco.specs.Table.{Standing, factsOf, InRange, Added, Answer, Asked}
 use Rattle.read_sheet.specs.Sheet.{Contents, meant}
 use Rattle.read_readings.specs.Readings.{readings}
 use Rattle.open_sheet.specs.Results.{Result, accepted, refused}
-use Rattle.spec_operations.specs.Results.{Gain, gain}
+use Rattle.spec_operations.specs.Gain.{Gain, gain}
 use Rattle.open_sheet.specs.SheetIn.{sheetIn, namesIn}
-use Rattle.open_table.specs.Opening.{Opens}
+use Rattle.open_table.specs.Opens.{Opens}
 
 -- "check: the sheet's row count, or a refusal."
 abbrev pub counted : Result Contents → Result ℕ
@@ -35,5 +35,5 @@ pub data Adds (s r T U : List ℕ) : Result Gain → Type 0 where
 -- What ask answers: 17 after the sheet and the table, else what the table says as it was lent.
 pub data Asks (s T : List ℕ) (x t : ℕ) : Result Answer → Type 0 where
   not-opened : {n p : ℕ} → Opens s T (refused n p) → Asks s T x t (refused n p)
-  out-of-range : {k : Contents} → Opens s T (accepted k) → (Reading (meant k) (mark x t true) → ⊥) → Asks s T x t (refused 17 0)
-  asked : {k : Contents} {a : Answer} → Opens s T (accepted k) → Reading (meant k) (mark x t true) → Asked (Standing (meant k) T) x t a → Asks s T x t (accepted a)
+  out-of-range : {k : Contents} → Opens s T (accepted k) → (InRange (meant k) (mark x t true) → ⊥) → Asks s T x t (refused 17 0)
+  asked : {k : Contents} {a : Answer} → Opens s T (accepted k) → InRange (meant k) (mark x t true) → Asked (Standing (meant k) T) x t a → Asks s T x t (accepted a)

@@ -12,7 +12,7 @@ use lib.Count.{ones, onesIn}
 use lib.ListN.{length, getD}
 use lib.Pow.{pow-pos}
 use lib.Seq.{ext-getD}
-use Rattle.spec_ticks.specs.Ticks.{bit, Has, In, block, Marked, Small, tally, empty}
+use Rattle.spec_ticks.specs.Ticks.{bit, Has, In, block, MarkAt, Small, tally, empty}
 use Rattle.spec_ticks.proofs.Bits.{lt-or-ge, bit-lt, bit-same, bit-ext, has-below, no-ticks}
 use Rattle.spec_ticks.proofs.Counts.{ones-grow}
 
@@ -85,7 +85,7 @@ module _ (n : ℕ) (some : 1 ≤ n) where
   module _ (width : ℕ) where
     -- every mark of T's first k rows is a mark of U
     abbrev pub Under : ℕ → List ℕ → List ℕ → Type 0
-    Under k T U = (r t : ℕ) (v : Bool) → r < k → Marked width n T r t v → Marked width n U r t v
+    Under k T U = (r t : ℕ) (v : Bool) → r < k → MarkAt width n T r t v → MarkAt width n U r t v
 
     word-under : (k : ℕ) (T U : List ℕ) → Small width T → Under k T U → (i : ℕ) → i < 2 * k * n → (t : ℕ) → Has (getD T i 0) t → Has (getD U i 0) t
     word-under k T U small f i h t e =
@@ -118,7 +118,7 @@ module _ (n : ℕ) (some : 1 ≤ n) where
 
     -- Two tables of one length are equal when they have the same marks.
     pub same-table : (T U : List ℕ) → length T ≡ length U → Small width T → Small width U
-        → ((r t : ℕ) (v : Bool) → Marked width n T r t v → Marked width n U r t v) → ((r t : ℕ) (v : Bool) → Marked width n U r t v → Marked width n T r t v) → T ≡ U
+        → ((r t : ℕ) (v : Bool) → MarkAt width n T r t v → MarkAt width n U r t v) → ((r t : ℕ) (v : Bool) → MarkAt width n U r t v → MarkAt width n T r t v) → T ≡ U
     same-table T U e st su f g =
         ext-getD 0 T U e (λ i h. let p = placed i in
         word-same (suc (p .row)) T U st su (λ r t v l. f r t v) (λ r t v l. g r t v) i (placed-above i p))
@@ -133,7 +133,7 @@ empty-word (suc m) (suc i) = empty-word m i
 pub empty-small : (width m : ℕ) → Small width (empty m)
 empty-small width m i = subst (λ (w : ℕ). w < 2 ^ width) (sym (empty-word m i)) (pow-pos width)
 
-pub empty-bare : (width n m r t : ℕ) (v : Bool) → Marked width n (empty m) r t v → ⊥
+pub empty-bare : (width n m r t : ℕ) (v : Bool) → MarkAt width n (empty m) r t v → ⊥
 empty-bare width n m r t v i =
     omega (arith, no-ticks (t % width), subst (λ (w : ℕ). Has w (t % width)) (empty-word m (block r v * n + t / width)) (i .set-at))
 

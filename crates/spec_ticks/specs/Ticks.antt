@@ -30,8 +30,8 @@ abbrev pub block : ℕ → Bool → ℕ
 block r v = 2 * r + side v
 
 -- Row r has the value v at tick t, in a table of n words for each row and value.
-abbrev pub Marked : ℕ → ℕ → List ℕ → ℕ → ℕ → Bool → Type 0
-Marked width n T r t v = In width n T (block r v * n) t
+abbrev pub MarkAt : ℕ → ℕ → List ℕ → ℕ → ℕ → Bool → Type 0
+MarkAt width n T r t v = In width n T (block r v * n) t
 
 -- Every word has at most `width` bits.
 abbrev pub Small : ℕ → List ℕ → Type 0

@@ -13,7 +13,7 @@ use Rattle.spec_tilco.specs.Lists.{All}
 use Rattle.spec_tilco.specs.Formula.{Sheet}
 use Rattle.spec_tilco.specs.Inference.{Mark, mark, start, node, _or_}
 use Rattle.spec_tilco.specs.Lowering.{program}
-use Rattle.spec_tilco.specs.Table.{words, Standing, Inside, factsOf, Taken, Reading, Leads, Added}
+use Rattle.spec_tilco.specs.Table.{words, Standing, Inside, factsOf, ReadMarks, InRange, Leads, Added}
 use Rattle.spec_tilco.proofs.Lists.{all-at}
 use Rattle.spec_tilco.proofs.Derives.{cut, monotone, stays-inside}
 use Rattle.spec_tilco.proofs.Closing.{SettledAt, finished}
@@ -36,7 +36,7 @@ module _ (s : Sheet) where
       (λ m i. B .exactly m .1 (A .exactly m .0 i)) (λ m i. A .exactly m .1 (B .exactly m .0 i))
 
   -- What stood before stands after, and so does every reading.
-  pub added-keeps : {T U : List ℕ} {R : List Mark} → Added s T R U → (m : Mark) → _or_ (Standing s T) (Taken R) m → Standing s U m
+  pub added-keeps : {T U : List ℕ} {R : List Mark} → Added s T R U → (m : Mark) → _or_ (Standing s T) (ReadMarks R) m → Standing s U m
   added-keeps A m i = A .exactly m .1 (start i)
 
   -- The table made is closed: the rules lead to nothing more.
@@ -47,7 +47,7 @@ module _ (s : Sheet) where
   pub added-again : {T U : List ℕ} {R : List Mark} → Added s T R U → Added s U R U
   added-again {T} {U} {R} A = record { size = refl; small = A .small; exactly = λ m. (λ i. start (inl i), λ d. added-closed A m (monotone stood d)) }
     where
-      stood : (n : Mark) → _or_ (Standing s U) (Taken R) n → Standing s U n
+      stood : (n : Mark) → _or_ (Standing s U) (ReadMarks R) n → Standing s U n
       stood n (inl i) = i
       stood n (inr i) = added-keeps A n (inr i)
 
@@ -57,29 +57,29 @@ module _ (s : Sheet) where
       tally-grows (words (s .window)) (words-some (s .window) some) 64 (s .signals) T U small (λ r t v l i. added-keeps A (mark r t v) (inl i))
 
   -- No mark leaves the window.
-  pub added-inside : {T U : List ℕ} {R : List Mark} → Inside (s .window) (Standing s T) → All (Reading s) R → Added s T R U → Inside (s .window) (Standing s U)
+  pub added-inside : {T U : List ℕ} {R : List Mark} → Inside (s .window) (Standing s T) → All (InRange s) R → Added s T R U → Inside (s .window) (Standing s U)
   added-inside {T} {U} {R} f read A r t v i = stays-inside begun r t v (A .exactly (mark r t v) .0 i)
     where
-      begun : Inside (s .window) (_or_ (Standing s T) (Taken R))
+      begun : Inside (s .window) (_or_ (Standing s T) (ReadMarks R))
       begun q u w (inl j) = f q u w j
-      begun q u w (inr j) = all-at (Reading s) R read (mark q u w) j .1
+      begun q u w (inr j) = all-at (InRange s) R read (mark q u w) j .1
 
   -- What a closing loop has to show of its last table U: all of it is derived, the start and the tops stand in it, and each row is settled.
   pub finished-added : (T : List ℕ) (R : List Mark) (U : List ℕ) → length U ≡ length T → Small 64 U
-      → ((m : Mark) → Standing s U m → Leads s (_or_ (Standing s T) (Taken R)) m)
-      → ((m : Mark) → _or_ (Standing s T) (Taken R) m → Standing s U m)
+      → ((m : Mark) → Standing s U m → Leads s (_or_ (Standing s T) (ReadMarks R)) m)
+      → ((m : Mark) → _or_ (Standing s T) (ReadMarks R) m → Standing s U m)
       → ((r : ℕ) → List·Memᴰ r (program s .tops) → (t : ℕ) → t < s .window → Standing s U (mark r t true))
       → ((r : ℕ) → r < length (program s .rows) → SettledAt (s .window) (Standing s U) r (node (program s) r))
       → Added s T R U
   finished-added T R U size small only begun tops settled = record {
     size = size;
     small = small;
-    exactly = finished (program s) (s .window) (Standing s U) (_or_ (Standing s T) (Taken R)) only begun tops settled;
+    exactly = finished (program s) (s .window) (Standing s U) (_or_ (Standing s T) (ReadMarks R)) only begun tops settled;
   }
 
   -- Where the readings were put into the table first, and nothing else: adding none to that table is adding them.
   pub added-from : (T T₁ : List ℕ) (R : List Mark) {U : List ℕ} → length T₁ ≡ length T
-      → ((m : Mark) → Standing s T₁ m → _or_ (Standing s T) (Taken R) m) → ((m : Mark) → _or_ (Standing s T) (Taken R) m → Standing s T₁ m)
+      → ((m : Mark) → Standing s T₁ m → _or_ (Standing s T) (ReadMarks R) m) → ((m : Mark) → _or_ (Standing s T) (ReadMarks R) m → Standing s T₁ m)
       → Added s T₁ [] U → Added s T R U
   added-from T T₁ R e f g A = record {
     size = A .size ∙ e;
@@ -87,6 +87,6 @@ module _ (s : Sheet) where
     exactly = λ m. (λ i. monotone down (A .exactly m .0 i), λ d. A .exactly m .1 (monotone (λ n i. inl (g n i)) d));
   }
     where
-      down : (m : Mark) → _or_ (Standing s T₁) (Taken []) m → _or_ (Standing s T) (Taken R) m
+      down : (m : Mark) → _or_ (Standing s T₁) (ReadMarks []) m → _or_ (Standing s T) (ReadMarks R) m
       down m (inl i) = f m i
       down m (inr i) = absurd (List·Memᴰ·not-nil i)

@@ -9,7 +9,7 @@ use native.Mathlib.Omega.{arith}
 use Rattle.spec_tilco.specs.Formula.{And, Or, Written, Sheet}
 use Rattle.spec_tilco.specs.Inference.{Node, signal, notOf, gate, look, node, Mark, mark, Marks, up-both, two, start}
 use Rattle.spec_tilco.specs.Lowering.{program}
-use Rattle.spec_tilco.specs.Table.{Standing, Taken, Added}
+use Rattle.spec_tilco.specs.Table.{Standing, ReadMarks, Added}
 use Rattle.spec_tilco.specs.Short.{Short, start as given, top, and-left, and-right, and-off-left, and-off-right, or-right, or-left, or-off, look-down, look-up, not-down, not-up}
 use Rattle.spec_tilco.proofs.At.{at-getD}
 
@@ -36,13 +36,13 @@ abbrev Kept : Marks
 Kept (mark r t true) = r ≡ 3 → ⊥
 Kept (mark r t false) = ⊥
 
-reading-kept : (m : Mark) → Taken readings m → Kept m
+reading-kept : (m : Mark) → ReadMarks readings m → Kept m
 reading-kept m i = ⊎-elim (λ e. subst⁻¹ Kept e (λ z. absurd (omega arith))) (λ j. ⊎-elim (λ e. subst⁻¹ Kept e (λ z. absurd (omega arith))) (λ k. absurd (List·Memᴰ·not-nil k)) (List·Memᴰ·cases-cons j)) (List·Memᴰ·cases-cons i)
 
 top-kept : (r : ℕ) → List·Memᴰ r (program sheet .tops) → r ≡ 3 → ⊥
 top-kept r i z = ⊎-elim (λ e. omega arith) (λ j. List·Memᴰ·not-nil j) (List·Memᴰ·cases-cons i)
 
-short-kept : {m : Mark} → Short (program sheet) 1 (Taken readings) m → Kept m
+short-kept : {m : Mark} → Short (program sheet) 1 (ReadMarks readings) m → Kept m
 short-kept (given {m} s) = reading-kept m s
 short-kept (top {r} i h) = top-kept r i
 short-kept (and-left {r} {a} {b} e d) = λ z. short-kept d (shape r (gate true a b) e)
@@ -58,7 +58,7 @@ short-kept (not-down {r} {x} e d) = shape r (notOf x) e
 short-kept (not-up {r} {x} e d) = shape r (notOf x) e
 
 -- Every table that add makes has a&b true, and the short set does not lead to that.
-pub not-dropped : (T U : List ℕ) → Added sheet T readings U → Standing sheet U (mark 3 0 true) × (Short (program sheet) 1 (Taken readings) (mark 3 0 true) → ⊥)
+pub not-dropped : (T U : List ℕ) → Added sheet T readings U → Standing sheet U (mark 3 0 true) × (Short (program sheet) 1 (ReadMarks readings) (mark 3 0 true) → ⊥)
 not-dropped T U A = (
   A .exactly (mark 3 0 true) .1 (two (up-both {r = 3} {a = 0} {b = 1} refl) (start (inr (List·Memᴰ·head refl))) (start (inr (List·Memᴰ·tail (List·Memᴰ·head refl))))),
   λ d. short-kept d refl,

@@ -8,7 +8,7 @@ use Prim.Native.Nat.{ℕ, zero, suc, _+_, _<_, _≤_}
 use native.Mathlib.Omega.{arith}
 use lib.ListN.{length-append, replicate, length-replicate, getD-replicate, List·getD-append}
 use Rattle.spec_tilco.specs.Lists.{All, total, laid}
-use Rattle.spec_tilco.specs.Formula.{Op, And, Or, Implies, Iff, Written, Formula, hiddens, plain, stepOf, defining, definings, spelled, Sheet, signalRows, formulas, Named, Spans, Declared}
+use Rattle.spec_tilco.specs.Formula.{Op, And, Or, Implies, Iff, Written, Formula, hiddens, overSignals, stepOf, defining, definings, spelled, Sheet, signalRows, formulas, Named, Spans, Declared}
 use Rattle.spec_tilco.specs.Inference.{Node, signal, notOf, gate, look, node}
 use Rattle.spec_tilco.specs.Lowering.{BTL, lit, join, timed, paired, lowered, size, joined, topOf, rowsAll, topsAll, lows, program, rowCount}
 use Rattle.spec_tilco.proofs.Lists.{all-append, all-weaker}
@@ -53,11 +53,11 @@ module _ (S : ℕ → ℕ → Type 0) (steps : (b : Bool) → S (stepOf b) 0) wh
     abbrev Low : Formula → Type 0
     Low f = (z : Bool) → Within S m (lowered z f)
 
-    plain-low : (x : ℕ) (w : Written) → Fit n w → x + hiddens w ≤ m → Low (plain x w)
+    plain-low : (x : ℕ) (w : Written) → Fit n w → x + hiddens w ≤ m → Low (overSignals x w)
     plain-low x (Written.name y) d h s = omega (arith, d .0)
     plain-low x (Written.neg f) d h s = plain-low x f d h (not s)
     plain-low x (Written.pair o f g) d h s =
-        paired-within m o s (λ z. lowered z (plain x f)) (λ z. lowered z (plain (x + hiddens f) g)) (plain-low x f (d .0 .0, d .1 .0) (omega arith)) (plain-low (x + hiddens f) g (d .0 .1, d .1 .1) (omega arith))
+        paired-within m o s (λ z. lowered z (overSignals x f)) (λ z. lowered z (overSignals (x + hiddens f) g)) (plain-low x f (d .0 .0, d .1 .0) (omega arith)) (plain-low (x + hiddens f) g (d .0 .1, d .1 .1) (omega arith))
     plain-low x (Written.time u lo k f) d h s = (d .1 .0, plain-low x f (d .0, d .1 .1) h s)
     plain-low x (Written.keep b f g) d h s = omega arith
 
@@ -79,7 +79,7 @@ module _ (S : ℕ → ℕ → Type 0) (steps : (b : Bool) → S (stepOf b) 0) wh
     definings-within x (Written.keep b f g) d h =
         let l : Fit n f = (d .0 .0, d .1 .0) in
         let r : Fit n g = (d .0 .1, d .1 .1) in (
-          defining-low b x (plain (suc x) f) (plain (suc x + hiddens f) g) (omega arith) (plain-low (suc x) f l (omega arith)) (plain-low (suc x + hiddens f) g r (omega arith)) true,
+          defining-low b x (overSignals (suc x) f) (overSignals (suc x + hiddens f) g) (omega arith) (plain-low (suc x) f l (omega arith)) (plain-low (suc x + hiddens f) g r (omega arith)) true,
           append-within (definings (suc x) f) (definings (suc x + hiddens f) g) (definings-within (suc x) f l (omega arith)) (definings-within (suc x + hiddens f) g r (omega arith)),
         )
 

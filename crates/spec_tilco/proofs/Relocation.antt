@@ -7,7 +7,7 @@ use mathlib.Core.Logic.{_⊎_, inl, inr}
 use Prim.Native.Nat.{ℕ, zero, suc, _+_, _<_, _≤_}
 use native.Mathlib.Omega.{arith}
 use Rattle.spec_tilco.specs.Lists.{total}
-use Rattle.spec_tilco.specs.Formula.{Op, And, Or, Implies, Iff, Written, Formula, sig, hiddens, plain, defining, definings, spelled, Named}
+use Rattle.spec_tilco.specs.Formula.{Op, And, Or, Implies, Iff, Written, Formula, sig, hiddens, overSignals, defining, definings, spelled, Named}
 use Rattle.spec_tilco.specs.Inference.{Node, signal, notOf, gate, look}
 use Rattle.spec_tilco.specs.Lowering.{BTL, lit, join, timed, turn, paired, lowered, size, joined, topOf, rowsOf, rowsAll, topsAll, lows}
 use Rattle.spec_tilco.proofs.At.{At, at-left, at-right, Joined, at-joined, Timed, at-timed}
@@ -164,7 +164,7 @@ module _ (f : ℕ → ℕ) where
   right x y k l S = run f x y (k + l) S (x + k) (y + k) k l (omega arith) (omega arith) (omega arith)
 
   module _ (n : ℕ) (fixed : (i : ℕ) → i < n → f i ≡ i) where
-    plain-ren : (x y : ℕ) (w : Written) → Named n w → Slides f x y (hiddens w) → plain y w ≡ renF (plain x w)
+    plain-ren : (x y : ℕ) (w : Written) → Named n w → Slides f x y (hiddens w) → overSignals y w ≡ renF (overSignals x w)
     plain-ren x y (Written.name z) d S = ap sig (sym (fixed z d))
     plain-ren x y (Written.neg g) d S = ap Formula.neg (plain-ren x y g d S)
     plain-ren x y (Written.pair o g k) d S =
@@ -190,7 +190,7 @@ module _ (f : ℕ → ℕ) where
         let L : Slides f (suc x) (suc y) (hiddens g) = left (suc x) (suc y) (hiddens g) (hiddens k) I in
         let R : Slides f (suc x + hiddens g) (suc y + hiddens g) (hiddens k) = right (suc x) (suc y) (hiddens g) (hiddens k) I in
         ap₂ (λ (e : Formula) (l : List Formula). e ∷ l)
-        (defining-ren b x y (plain (suc x) g) _ (plain (suc x + hiddens g) k) _ (first x y (hiddens g + hiddens k) S) (plain-ren (suc x) (suc y) g (d .0) L) (plain-ren (suc x + hiddens g) (suc y + hiddens g) k (d .1) R))
+        (defining-ren b x y (overSignals (suc x) g) _ (overSignals (suc x + hiddens g) k) _ (first x y (hiddens g + hiddens k) S) (plain-ren (suc x) (suc y) g (d .0) L) (plain-ren (suc x + hiddens g) (suc y + hiddens g) k (d .1) R))
         (append-ren (suc x) (suc y) g k (definings-ren (suc x) (suc y) g (d .0) L) (definings-ren (suc x + hiddens g) (suc y + hiddens g) k (d .1) R))
 
     lows-ren : (gs : List Formula) → lows (map renF gs) ≡ map renB (lows gs)

@@ -5,7 +5,7 @@ use mathlib.Core.Bool.{Bool, true, false, not, _||_, Bool·not-not}
 use Prim.Native.Nat.{ℕ, zero, suc, _+_}
 use lib.IntN.{ℤ}
 use Rattle.spec_tilco.specs.Formula.{Op, And, Or, Implies, Iff, Formula}
-use Rattle.spec_tilco.specs.Meaning.{History, moved, gateOf, span, opOf, value}
+use Rattle.spec_tilco.specs.Meaning.{History, atOffset, gateOf, span, opOf, value}
 use Rattle.spec_tilco.specs.Lowering.{BTL, turn, paired, lowered, worth}
 
 turn-not : (s x : Bool) → turn (not s) x ≡ turn s (not x)
@@ -43,4 +43,4 @@ lowering-keeps h s (Formula.neg f) t = lowering-keeps h (not s) f t ∙ turn-not
 lowering-keeps h s (Formula.pair o f g) t =
     paired-worth h o s (λ z. lowered z f) (λ z. lowered z g) t (value h f t) (value h g t) (λ z. lowering-keeps h z f t) (λ z. lowering-keeps h z g t)
 lowering-keeps h s (Formula.time u lo n f) t =
-    ap (λ (p : ℕ → Bool). span (turn u s) p lo n) (fun-ext (λ k. lowering-keeps h s f (moved t k))) ∙ turn-span u s (λ k. value h f (moved t k)) lo n
+    ap (λ (p : ℕ → Bool). span (turn u s) p lo n) (fun-ext (λ k. lowering-keeps h s f (atOffset t k))) ∙ turn-span u s (λ k. value h f (atOffset t k)) lo n

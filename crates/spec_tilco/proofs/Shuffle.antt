@@ -9,7 +9,7 @@ use native.Mathlib.Nat.{zero-add}
 use native.Mathlib.Omega.{arith}
 use lib.ListN.{replicate, length-replicate}
 use Rattle.spec_tilco.specs.Lists.{All, total, laid}
-use Rattle.spec_tilco.specs.Formula.{Op, And, Or, Implies, Iff, Written, Formula, hiddens, plain, defining, definings, spelled, Sheet, signalRows, withRules, Named, Declared}
+use Rattle.spec_tilco.specs.Formula.{Op, And, Or, Implies, Iff, Written, Formula, hiddens, overSignals, defining, definings, spelled, Sheet, signalRows, withRules, Named, Declared}
 use Rattle.spec_tilco.specs.Inference.{Node, signal, Program, node, Mark, mark, Marks, One, down-left, down-right, up-left, up-right, look-down, look-up, not-down, not-up, Two, up-both, rest-right, rest-left, Derives, start, top, one, two, Clash}
 use Rattle.spec_tilco.specs.Lowering.{BTL, lit, paired, lowered, size, topOf, rowsOf, rowsAll, topsAll, lows, program}
 use Rattle.spec_tilco.specs.Table.{Leads}
@@ -70,11 +70,11 @@ lit-size : (s : Bool) (x y : ℕ) → size (lit s x) ≡ size (lit s y)
 lit-size true x y = refl
 lit-size false x y = refl
 
-plain-size : (x y : ℕ) (w : Written) (s : Bool) → size (lowered s (plain x w)) ≡ size (lowered s (plain y w))
+plain-size : (x y : ℕ) (w : Written) (s : Bool) → size (lowered s (overSignals x w)) ≡ size (lowered s (overSignals y w))
 plain-size x y (Written.name z) s = refl
 plain-size x y (Written.neg f) s = plain-size x y f (not s)
 plain-size x y (Written.pair o f g) s =
-    paired-size o s (λ z. lowered z (plain x f)) (λ z. lowered z (plain (x + hiddens f) g)) (λ z. lowered z (plain y f)) (λ z. lowered z (plain (y + hiddens f) g))
+    paired-size o s (λ z. lowered z (overSignals x f)) (λ z. lowered z (overSignals (x + hiddens f) g)) (λ z. lowered z (overSignals y f)) (λ z. lowered z (overSignals (y + hiddens f) g))
     (plain-size x y f) (plain-size (x + hiddens f) (y + hiddens f) g)
 plain-size x y (Written.time u lo n f) s = omega (arith, plain-size x y f s)
 plain-size x y (Written.keep b f g) s = lit-size s x y
@@ -95,7 +95,7 @@ definings-size x y (Written.time u lo n f) = definings-size x y f
 definings-size x y (Written.keep b f g) =
     omega (
       arith,
-      defining-size b x y (plain (suc x) f) (plain (suc y) f) (plain (suc x + hiddens f) g) (plain (suc y + hiddens f) g) (plain-size (suc x) (suc y) f) (plain-size (suc x + hiddens f) (suc y + hiddens f) g),
+      defining-size b x y (overSignals (suc x) f) (overSignals (suc y) f) (overSignals (suc x + hiddens f) g) (overSignals (suc y + hiddens f) g) (plain-size (suc x) (suc y) f) (plain-size (suc x + hiddens f) (suc y + hiddens f) g),
       lows-size (definings (suc x) f) (definings (suc x + hiddens f) g),
       lows-size (definings (suc y) f) (definings (suc y + hiddens f) g),
       definings-size (suc x) (suc y) f,

@@ -10,7 +10,7 @@ use native.Mathlib.Omega.{arith}
 use lib.IntN.{ℤ, pos, _-ℤ_, +ℤ-negℤ-cancel}
 use Rattle.spec_tilco.specs.Lists.{All, tab, laid}
 use Rattle.spec_tilco.specs.Formula.{Sheet, signalRows, formulas, Declared}
-use Rattle.spec_tilco.specs.Meaning.{History, moved, gateOf, Obeys}
+use Rattle.spec_tilco.specs.Meaning.{History, atOffset, gateOf, Obeys}
 use Rattle.spec_tilco.specs.Inference.{Node, signal, notOf, gate, look, Program, node, Mark, mark, Marks, Shifted, One, down-left, down-right, up-left, up-right, look-down, look-up, not-down, not-up, Two, up-both, rest-right, rest-left, Derives, start, top, one, two, Clash}
 use Rattle.spec_tilco.specs.Lowering.{BTL, lit, join, timed, lowered, worth, size, joined, topOf, topsAll, assembled, lows, program, parts, partAt, rowPart}
 use Rattle.spec_tilco.specs.Table.{Leads}
@@ -66,7 +66,7 @@ abbrev Worthy : (ℕ → ℤ → Bool) → ℕ → Node → Type 0
 Worthy v r signal = Unit {0}
 Worthy v r (notOf x) = (t : ℤ) → v r t ≡ not (v x t)
 Worthy v r (gate u a b) = (t : ℤ) → v r t ≡ gateOf u (v a t) (v b t)
-Worthy v r (look k c) = (t : ℤ) → v r t ≡ v c (moved t k)
+Worthy v r (look k c) = (t : ℤ) → v r t ≡ v c (atOffset t k)
 
 -- Row r stands for c.
 abbrev Is : (ℕ → BTL) → ℕ → BTL → Type 0
@@ -112,7 +112,7 @@ module _ (m : ℕ) (F : ℕ → BTL) (own : (x : ℕ) → x < m → F x ≡ lit 
       joins = λ u a c b k t. ap (λ (z : BTL). worth h z t) (top-is (join u a c) b k)
           ∙ sym (ap₂ (λ (x y : BTL). gateOf u (worth h x t) (worth h y t)) (top-is a b (left-stood u a c b k)) (top-is c (b + size a) (right-stood u a c b k)));
       looks = λ u lo n a b k j l t. ap (λ (z : BTL). worth h z t) (looked u lo n a b (k .1) .looks j l)
-          ∙ sym (ap (λ (z : BTL). worth h z (moved t (lo + j))) (top-is a b (child-stood u lo n a b k)));
+          ∙ sym (ap (λ (z : BTL). worth h z (atOffset t (lo + j))) (top-is a b (child-stood u lo n a b k)));
       ties = λ u lo n a b k j l t. let s = looked u lo n a b (k .1) in ap (λ (z : BTL). worth h z t) (s .ties j l)
           ∙ sym (ap₂ (λ (x y : BTL). gateOf u (worth h x t) (worth h y t)) (joined-is u lo n a b s j (omega arith)) (s .looks (suc j) (omega arith)));
     }
@@ -120,7 +120,7 @@ module _ (m : ℕ) (F : ℕ → BTL) (own : (x : ℕ) → x < m → F x ≡ lit 
 -- ---- a sheet's program
 
 -- The two ways to say which tick an offset leads to agree.
-moved-shifted : (t k s : ℕ) → Shifted t k s → moved (pos t) k ≡ pos s
+moved-shifted : (t k s : ℕ) → Shifted t k s → atOffset (pos t) k ≡ pos s
 moved-shifted t k s e = ap (λ (n : ℕ). pos n -ℤ pos 64) e ∙ +ℤ-negℤ-cancel (pos s) (pos 64)
 
 module _ (m : ℕ) (cs : List BTL) where

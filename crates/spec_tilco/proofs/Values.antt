@@ -9,7 +9,7 @@ use native.Mathlib.Decide.{decLe}
 use native.Mathlib.Omega.{arith}
 use lib.IntN.{ℤ, pos, negℤ, _+ℤ_, _-ℤ_, +ℤ-assoc}
 use Rattle.spec_tilco.specs.Formula.{Iff, Formula, stepOf, defining}
-use Rattle.spec_tilco.specs.Meaning.{History, moved, gateOf, span, opOf, value}
+use Rattle.spec_tilco.specs.Meaning.{History, atOffset, gateOf, span, opOf, value}
 
 -- ---- a gate's value u is both children's; its other value is one child's
 
@@ -90,14 +90,14 @@ module _ (u : Bool) (p : ℕ → Bool) (lo : ℕ) where
 
 -- f@i is true at t when f is true at t + x for every whole x in the interval.
 pub always-means : (h : History) (f : Formula) (lo n : ℕ) (t : ℤ)
-    → (value h (Formula.time true lo n f) t ≡ true) ↔ ((j : ℕ) → j ≤ n → value h f (moved t (lo + j)) ≡ true)
-always-means h f lo n t = (at-each true (λ k. value h f (moved t k)) lo n, of-each true (λ k. value h f (moved t k)) lo n)
+    → (value h (Formula.time true lo n f) t ≡ true) ↔ ((j : ℕ) → j ≤ n → value h f (atOffset t (lo + j)) ≡ true)
+always-means h f lo n t = (at-each true (λ k. value h f (atOffset t k)) lo n, of-each true (λ k. value h f (atOffset t k)) lo n)
 
 -- f?i for at least one.
 pub sometime-means : (h : History) (f : Formula) (lo n : ℕ) (t : ℤ)
-    → (value h (Formula.time false lo n f) t ≡ true) ↔ ((j : ℕ) × (j ≤ n) × (value h f (moved t (lo + j)) ≡ true))
+    → (value h (Formula.time false lo n f) t ≡ true) ↔ ((j : ℕ) × (j ≤ n) × (value h f (atOffset t (lo + j)) ≡ true))
 sometime-means h f lo n t =
-    (at-some false (λ k. value h f (moved t k)) lo n, λ r. of-some false (λ k. value h f (moved t k)) lo n (r .0) (r .1) (r .2))
+    (at-some false (λ k. value h f (atOffset t k)) lo n, λ r. of-some false (λ k. value h f (atOffset t k)) lo n (r .0) (r .1) (r .2))
 
 -- ---- since and until
 
@@ -107,14 +107,14 @@ iff-same true false h = sym h
 iff-same false true h = h
 iff-same false false h = refl
 
-tick-before : (t : ℤ) → moved t 63 ≡ t -ℤ pos 1
+tick-before : (t : ℤ) → atOffset t 63 ≡ t -ℤ pos 1
 tick-before t = +ℤ-assoc t (pos 63) (negℤ (pos 64))
 
-tick-after : (t : ℤ) → moved t 65 ≡ t +ℤ pos 1
+tick-after : (t : ℤ) → atOffset t 65 ≡ t +ℤ pos 1
 tick-after t = +ℤ-assoc t (pos 65) (negℤ (pos 64))
 
 module _ (h : History) (x : ℕ) (f g : Formula) (t : ℤ) where
-  recursion : (b : Bool) (s : ℤ) → moved t (stepOf b) ≡ s → value h (defining b x f g) t ≡ true → h x t ≡ value h f t || (value h g t && h x s)
+  recursion : (b : Bool) (s : ℤ) → atOffset t (stepOf b) ≡ s → value h (defining b x f g) t ≡ true → h x t ≡ value h f t || (value h g t && h x s)
   recursion b s e d = iff-same _ _ d ∙ ap (λ (z : ℤ). value h f t || (value h g t && h x z)) e
 
   -- since(A,B) is A, or B with since(A,B) a tick before.

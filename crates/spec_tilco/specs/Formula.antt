@@ -50,12 +50,12 @@ hiddens (Written.time u lo n f) = hiddens f
 hiddens (Written.keep b f g) = suc (hiddens f + hiddens g)
 
 -- The rule over signals, its hidden ones numbered from x in the order written, outer before inner.
-abbrev pub plain : ℕ → Written → Formula
-plain x (Written.name y) = sig y
-plain x (Written.neg f) = Formula.neg (plain x f)
-plain x (Written.pair o f g) = Formula.pair o (plain x f) (plain (x + hiddens f) g)
-plain x (Written.time u lo n f) = Formula.time u lo n (plain x f)
-plain x (Written.keep b f g) = sig x
+abbrev pub overSignals : ℕ → Written → Formula
+overSignals x (Written.name y) = sig y
+overSignals x (Written.neg f) = Formula.neg (overSignals x f)
+overSignals x (Written.pair o f g) = Formula.pair o (overSignals x f) (overSignals (x + hiddens f) g)
+overSignals x (Written.time u lo n f) = Formula.time u lo n (overSignals x f)
+overSignals x (Written.keep b f g) = sig x
 
 -- [-1,-1] for since and [1,1] for until, with 64 added.
 abbrev pub stepOf : Bool → ℕ
@@ -73,11 +73,11 @@ definings x (Written.neg f) = definings x f
 definings x (Written.pair o f g) = definings x f ++ definings (x + hiddens f) g
 definings x (Written.time u lo n f) = definings x f
 definings x (Written.keep b f g) =
-    defining b x (plain (suc x) f) (plain (suc x + hiddens f) g) ∷ definings (suc x) f ++ definings (suc x + hiddens f) g
+    defining b x (overSignals (suc x) f) (overSignals (suc x + hiddens f) g) ∷ definings (suc x) f ++ definings (suc x + hiddens f) g
 
 -- "Each rule is followed by the defining rules of its hidden signals."
 abbrev pub spelled : Written → ℕ → List Formula
-spelled w x = plain x w ∷ definings x w
+spelled w x = overSignals x w ∷ definings x w
 
 -- A sheet as it is read: the window's ticks, the number of declared signals, the rules.
 pub record Sheet : Type 0 where

@@ -12,8 +12,8 @@ abbrev pub History : Type 0
 History = ℕ → ℤ → Bool
 
 -- The tick at the offset k, written with 64 added, from tick t.
-abbrev pub moved : ℤ → ℕ → ℤ
-moved t k = t +ℤ pos k -ℤ pos 64
+abbrev pub atOffset : ℤ → ℕ → ℤ
+atOffset t k = t +ℤ pos k -ℤ pos 64
 
 -- And with true, or with false.
 abbrev pub gateOf : Bool → Bool → Bool → Bool
@@ -37,7 +37,7 @@ abbrev pub value : History → Formula → ℤ → Bool
 value h (Formula.sig x) t = h x t
 value h (Formula.neg f) t = not (value h f t)
 value h (Formula.pair o f g) t = opOf o (value h f t) (value h g t)
-value h (Formula.time u lo n f) t = span u (λ k. value h f (moved t k)) lo n
+value h (Formula.time u lo n f) t = span u (λ k. value h f (atOffset t k)) lo n
 
 -- "It obeys the sheet when each rule is true at each tick of the window": the defining rules too.
 abbrev pub Obeys : Sheet → History → Type 0

@@ -8,7 +8,7 @@ use mathlib.Core.Logic.{_↔_}
 use Prim.Native.Nat.{ℕ, _+_, _*_, _/_, _<_}
 use lib.IntN.{pos}
 use lib.ListN.{length}
-use Rattle.spec_ticks.specs.Ticks.{Marked, Small, tally}
+use Rattle.spec_ticks.specs.Ticks.{MarkAt, Small, tally}
 use Rattle.spec_tilco.specs.Formula.{Sheet}
 use Rattle.spec_tilco.specs.Meaning.{History}
 use Rattle.spec_tilco.specs.Lowering.{program, rowCount}
@@ -20,7 +20,7 @@ words W = (W + 63) / 64
 
 -- "Word 2r holds row r's true marks and word 2r+1 its false marks; bit t is tick t": the mark stands in a table of n words a row and value.
 abbrev pub Stands : ℕ → List ℕ → Marks
-Stands n T (mark r t v) = Marked 64 n T r t v
+Stands n T (mark r t v) = MarkAt 64 n T r t v
 
 -- The mark stands in the sheet's table.
 abbrev pub Standing : Sheet → List ℕ → Marks
@@ -43,12 +43,12 @@ abbrev pub factsOf : Sheet → List ℕ → ℕ
 factsOf s T = facts (words (s .window)) (s .signals) T
 
 -- The marks of a list of readings.
-abbrev pub Taken : List Mark → Marks
-Taken R m = List·Memᴰ m R
+abbrev pub ReadMarks : List Mark → Marks
+ReadMarks R m = List·Memᴰ m R
 
 -- A reading is of a declared signal at a tick of the window (refusals 12 and 13).
-abbrev pub Reading : Sheet → Mark → Type 0
-Reading s (mark x t v) = (x < s .signals) × (t < s .window)
+abbrev pub InRange : Sheet → Mark → Type 0
+InRange s (mark x t v) = (x < s .signals) × (t < s .window)
 
 -- A history agrees with a reading.
 abbrev pub Agrees : History → Mark → Type 0
@@ -63,7 +63,7 @@ Leads s = Derives (program s) (s .window)
 pub record Added (s : Sheet) (T : List ℕ) (R : List Mark) (U : List ℕ) : Type 0 where
   pub size : length U ≡ length T
   pub small : Small 64 U
-  pub exactly : (m : Mark) → Standing s U m ↔ Leads s (_or_ (Standing s T) (Taken R)) m
+  pub exactly : (m : Mark) → Standing s U m ↔ Leads s (_or_ (Standing s T) (ReadMarks R)) m
 
 -- What ask may answer.
 pub data Answer : Type 0 where

@@ -16,7 +16,7 @@ use Rattle.spec_ticks.proofs.Bits.{lt-or-ge, has-below, no-ticks}
 use Rattle.spec_ticks.proofs.Counts.{first-has}
 use Rattle.spec_tilco.specs.Inference.{Clash}
 use Rattle.spec_tilco.specs.Table.{Stands}
-use Rattle.table_words.specs.Gains.{HasRow, Ticks, Both}
+use Rattle.table_words.specs.WordTicks.{HasRow, Ticks, Both}
 use Rattle.table_facts.specs.Clashes.{ClashIn}
 use Rattle.table_words.proofs.OneWord.{flow-ticks}
 

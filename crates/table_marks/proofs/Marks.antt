@@ -20,15 +20,15 @@ use Rattle.spec_ticks.proofs.Bits.{or-left, or-right, or-out}
 use Rattle.spec_ticks.proofs.Shifts.{one-has, one-only}
 use Rattle.spec_ticks.proofs.Tables.{block-apart}
 use Rattle.spec_tilco.specs.Inference.{Mark, mark, Marks, _or_}
-use Rattle.spec_tilco.specs.Table.{Stands, Taken}
-use Rattle.table_marks.specs.Puts.{Gains, Puts}
+use Rattle.spec_tilco.specs.Table.{Stands, ReadMarks}
+use Rattle.table_marks.specs.Puts.{AddsMarks, Puts}
 
 -- No mark gained.
-pub gains-none : (n : ℕ) (R : Marks) (T : List ℕ) → ((m : Mark) → R m → ⊥) → Gains n R T T
+pub gains-none : (n : ℕ) (R : Marks) (T : List ℕ) → ((m : Mark) → R m → ⊥) → AddsMarks n R T T
 gains-none n R T f = record { size = refl; exactly = λ m. (inl, ⊎-elim (λ i. i) (λ h. absurd (f m h))) }
 
 -- Marks gained one set after the other.
-pub gains-then : (n : ℕ) (R Q S : Marks) {T T′ T″ : List ℕ} → ((m : Mark) → (_or_ R Q) m ↔ S m) → Gains n R T T′ → Gains n Q T′ T″ → Gains n S T T″
+pub gains-then : (n : ℕ) (R Q S : Marks) {T T′ T″ : List ℕ} → ((m : Mark) → (_or_ R Q) m ↔ S m) → AddsMarks n R T T′ → AddsMarks n Q T′ T″ → AddsMarks n S T T″
 gains-then n R Q S f a b = record {
   size = b .size ∙ a .size;
   exactly = λ m. (
@@ -40,7 +40,7 @@ gains-then n R Q S f a b = record {
 
 -- No mark put leaves the table as it is.
 pub puts-none : (n : ℕ) (T : List ℕ) → Puts n [] T T
-puts-none n T = gains-none n (Taken []) T (λ m i. List·Memᴰ·not-nil i)
+puts-none n T = gains-none n (ReadMarks []) T (λ m i. List·Memᴰ·not-nil i)
 
 -- The same list of marks.
 pub puts-same : {n : ℕ} (ms ns : List Mark) {T T′ : List ℕ} → ms ≡ ns → Puts n ms T T′ → Puts n ns T T′
@@ -49,7 +49,7 @@ puts-same {n} ms ns {T} {T′} e a = subst (λ (l : List Mark). Puts n l T T′)
 -- A mark put after others is put with them.
 pub puts-more : {n : ℕ} (ms : List Mark) (m : Mark) {T T′ T″ : List ℕ} → Puts n ms T T′ → Puts n (m ∷ []) T′ T″ → Puts n (ms ++ (m ∷ [])) T T″
 puts-more {n} ms m a b =
-    gains-then n (Taken ms) (Taken (m ∷ [])) (Taken (ms ++ (m ∷ [])))
+    gains-then n (ReadMarks ms) (ReadMarks (m ∷ [])) (ReadMarks (ms ++ (m ∷ [])))
     (λ x. (⊎-elim (Memᴰ·append-left (m ∷ [])) (Memᴰ·append-right ms), λ i. List·Memᴰ·append-cases ms i)) a b
 
 -- The word of tick t alone, as the code makes it.
@@ -118,7 +118,7 @@ puts-word n T row t v h i w e l f = record { size = length-set T i w; exactly = 
     same : (x u : ℕ) (y : Bool) → x ≡ row → y ≡ v → u / 64 ≡ t / 64 → u % 64 ≡ t % 64 → mark x u y ≡ mark row t v
     same x u y a b c d = let z : u ≡ t = omega arith in cc (a, b, z)
 
-    both : (m : Mark) → Stands n (set T i w) m ↔ (_or_ (Stands n T) (Taken (mark row t v ∷ []))) m
+    both : (m : Mark) → Stands n (set T i w) m ↔ (_or_ (Stands n T) (ReadMarks (mark row t v ∷ []))) m
     both (mark x u y) = (
       λ m. ⊎-elim inl (λ a. inr (List·Memᴰ·head (same x u y (a .0) (a .1) (a .2) (one-only (t % 64) (u % 64) (a .3))))) (joined x u y .0 m),
       ⊎-elim (λ m. joined x u y .1 (inl m)) (λ a. subst (Stands n (set T i w)) (sym (List·Memᴰ·eq-of-singleton a)) (joined row t v .1 (inr (refl, refl, refl, one-has (t % 64))))),

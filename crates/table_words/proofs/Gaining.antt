@@ -17,8 +17,8 @@ use Rattle.spec_ticks.proofs.Tables.{block-apart}
 use Rattle.spec_tilco.specs.Inference.{Mark, mark, Marks, _or_}
 use Rattle.spec_tilco.specs.Table.{Stands}
 use Rattle.table_marks.proofs.Marks.{gains-then, word-joined}
-use Rattle.table_marks.specs.Puts.{Gains}
-use Rattle.table_words.specs.Gains.{Ticks, Here, Sides, Reads, Bits, room, Joins}
+use Rattle.table_marks.specs.Puts.{AddsMarks}
+use Rattle.table_words.specs.WordTicks.{Ticks, Here, Sides, Reads, Bits, room, Joins}
 use Rattle.table_words.proofs.OneWord.{read-ticks}
 use Rattle.table_words.proofs.Telling.{tells-none, tells-some}
 
@@ -44,14 +44,14 @@ module _ (n : ℕ) (T : List ℕ) (r : ℕ) (v : Bool) (q ticks : ℕ) (l : q < 
   abbrev joined : ℕ
   joined = bitOr (getD T i 0) ticks
 
-  set-gains : (w : ℕ) → w ≡ joined → Gains n (Here r v q (Bits ticks)) T (set T i w)
+  set-gains : (w : ℕ) → w ≡ joined → AddsMarks n (Here r v q (Bits ticks)) T (set T i w)
   set-gains w f = record { size = length-set T i w; exactly = each }
     where
       each : (m : Mark) → Stands n (set T i w) m ↔ (_or_ (Stands n T) (Here r v q (Bits ticks))) m
       each (mark x u y) = word-joined n T r v q ticks l i w e inside f x u y
 
-  none-gained : joined ≡ getD T i 0 → Gains n (Here r v q (Bits ticks)) T T
-  none-gained s = subst (Gains n (Here r v q (Bits ticks)) T) (ap (set T i) s ∙ set-getD T i 0) (set-gains joined refl)
+  none-gained : joined ≡ getD T i 0 → AddsMarks n (Here r v q (Bits ticks)) T T
+  none-gained s = subst (AddsMarks n (Here r v q (Bits ticks)) T) (ap (set T i) s ∙ set-getD T i 0) (set-gains joined refl)
 
   -- All of the ticks were there.
   pub joins-none : joined ≡ getD T i 0 → Joins n (Here r v q (Bits ticks)) T T 0

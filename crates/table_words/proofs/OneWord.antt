@@ -15,7 +15,7 @@ use Rattle.spec_ticks.proofs.Shifts.{bit-up, bit-under}
 use Rattle.spec_ticks.proofs.Tables.{in-to, in-from}
 use Rattle.spec_tilco.specs.Inference.{mark}
 use Rattle.spec_tilco.specs.Table.{Stands}
-use Rattle.table_words.specs.Gains.{Ticks, Both, Apart}
+use Rattle.table_words.specs.WordTicks.{Ticks, Both, Apart}
 
 -- A word moved up by k, as the code does it: the bits that leave it are dropped.
 abbrev up : ℕ → ℕ → ℕ

@@ -5,7 +5,7 @@ use mathlib.Core.Logic.{_⊎_, inl, inr, ⊎-elim}
 use Prim.Native.Nat.{ℕ, zero, suc, _+_, _≤_, _<_}
 use native.Mathlib.Nat.{le-of-eq}
 use native.Mathlib.Omega.{arith}
-use Rattle.table_words.specs.Gains.{room, Tells}
+use Rattle.table_words.specs.WordTicks.{room, Tells}
 
 pub some-or-none : (k : ℕ) → (0 < k) ⊎ (k ≡ 0)
 some-or-none zero = inr refl

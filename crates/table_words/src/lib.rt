@@ -5,7 +5,7 @@ ghost use mathlib.Core.Path.{_≡_};
 ghost use Prim.Native.Nat.{_+_, _*_, _^_, _<_};
 ghost use lib.ListN.{getD};
 ghost use Rattle.spec_ticks.specs.Ticks.{block};
-ghost use Rattle.table_words.specs.Gains.{HasRow, Ticks, Here, Sides, Reads, Bits, Joins};
+ghost use Rattle.table_words.specs.WordTicks.{HasRow, Ticks, Here, Sides, Reads, Bits, Joins};
 
 // Word q of a row's marks of one value.
 pub fn word_at(marks: &[u64], n: usize, q: usize, row: usize, value: bool) -> u64

@@ -1,10 +1,10 @@
 // Lines of the listing: a key, a value, and LF. Assumes that the places of a line can be counted.
-use read_names::word_end;
+use read_names::spelling_end;
 use write_bytes::decimal;
 use write_bytes::push;
 use write_bytes::push_text;
 ghost use Rattle.read_bytes.specs.Bytes.{bytes};
-ghost use Rattle.read_names.specs.Words.{wordAt};
+ghost use Rattle.read_names.specs.Spellings.{spellingAt};
 ghost use Rattle.write_bytes.specs.Writes.{Counted, Wrote, decimalText};
 ghost use Rattle.write_lines.specs.LineTexts.{lineText};
 
@@ -18,13 +18,13 @@ pub fn write_number_line(key: &[u8], n: usize, out: &mut [u8], used: usize) -> u
     push(b'\n', out, end)
 }
 
-// The word at a place of the text.
+// The spelling at a place of the text.
 fn write_word(s: &[u8], at: usize, out: &mut [u8], used: usize) -> usize
-    requires { ⌜ Counted used (wordAt (now s) at) ⌝ }
-    ensures { λ r. ⌜ Wrote (wordAt (now (s .entry)) at) used (now (out .entry)) (now (out .exit)) r ⌝ }
+    requires { ⌜ Counted used (spellingAt (now s) at) ⌝ }
+    ensures { λ r. ⌜ Wrote (spellingAt (now (s .entry)) at) used (now (out .entry)) (now (out .exit)) r ⌝ }
 {
     if at < s.len() {
-        let e = word_end(s, at);
+        let e = spelling_end(s, at);
         push_text(&s[at..e], out, used)
     } else {
         used
@@ -33,8 +33,8 @@ fn write_word(s: &[u8], at: usize, out: &mut [u8], used: usize) -> usize
 
 // The line of a signal's name, which stands at a place of the text.
 pub fn write_name_line(s: &[u8], at: usize, out: &mut [u8], used: usize) -> usize
-    requires { ⌜ Counted used (lineText (bytes "signal=") (wordAt (now s) at)) ⌝ }
-    ensures { λ r. ⌜ Wrote (lineText (bytes "signal=") (wordAt (now (s .entry)) at)) used (now (out .entry)) (now (out .exit)) r ⌝ }
+    requires { ⌜ Counted used (lineText (bytes "signal=") (spellingAt (now s) at)) ⌝ }
+    ensures { λ r. ⌜ Wrote (lineText (bytes "signal=") (spellingAt (now (s .entry)) at)) used (now (out .entry)) (now (out .exit)) r ⌝ }
 {
     let value = push_text(b"signal=", out, used);
     let end = write_word(s, at, out, value);

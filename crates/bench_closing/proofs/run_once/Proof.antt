@@ -1,6 +1,6 @@
 -- `run_once` is safe and ends. Assumes nothing.
 use native.Mathlib.Omega.{arith}
-use Rattle.bench_closing.proofs.Preparing.{settle-asks}
+use Rattle.bench_closing.proofs.Preparing.{close-asks}
 use borrow.Author.Needs.{needs}
 use Rattle.bench_closing.proofs.run_once.Statement.{statement}
 use Rattle.bench_closing.proofs.run_once.Tie as tie
@@ -8,8 +8,8 @@ use Rattle.bench_closing.proofs.run_once.Tie as tie
 lay-requires : tie.Need-lay-requires
 lay-requires c κs = search needs
 
-settle-requires : tie.Need-settle-requires
-settle-requires c κs = let p = c .before .before .before .before .before .before .before .before .before .before .before .before .before .before .pre in settle-asks (p .0) _ _ (record { table = omega (arith, p .1 .table); list = p .1 .list })
+close-with-tops-requires : tie.Need-close-with-tops-requires
+close-with-tops-requires c κs = let p = c .before .before .before .before .before .before .before .before .before .before .before .before .before .before .pre in close-asks (p .0) _ _ (record { table = omega (arith, p .1 .table); list = p .1 .list })
 
 same-length : tie.Need-same-length
 same-length c = search needs
@@ -31,7 +31,7 @@ run-once-spec =
     tie.close
     (tie.spec
     lay-requires
-    settle-requires
+    close-with-tops-requires
     same-length
     same-length-2
     returns

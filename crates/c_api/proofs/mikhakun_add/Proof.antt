@@ -2,8 +2,8 @@
 use mathlib.Core.Path.{refl, ap, subst}
 use denote.Ref.{now}
 use Rattle.open_sheet.specs.Results.{accepted, refused}
-use Rattle.spec_operations.specs.Results.{gain}
-use Rattle.op_add.specs.Results.{addingSays}
+use Rattle.spec_operations.specs.Gain.{gain}
+use Rattle.op_add.specs.AddingSays.{addingSays}
 use Rattle.spec_operations.specs.Operations.{Adds}
 use Rattle.c_api.specs.Leaves.{left}
 use Rattle.c_api.proofs.Written.{gain-written}

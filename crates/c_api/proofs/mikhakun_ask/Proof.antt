@@ -3,7 +3,7 @@ use mathlib.Core.Path.{refl, ap, subst}
 use denote.Ref.{now}
 use Rattle.table_marks.specs.Values.{valueSays}
 use Rattle.open_sheet.specs.Results.{accepted, refused}
-use Rattle.op_ask.specs.Results.{askingSays}
+use Rattle.op_ask.specs.AskingSays.{askingSays}
 use Rattle.spec_operations.specs.Operations.{Asks}
 use Rattle.c_api.specs.Leaves.{left}
 use borrow.Author.Needs.{needs}

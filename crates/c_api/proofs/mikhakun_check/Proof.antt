@@ -1,6 +1,6 @@
 -- `mikhakun_check` meets its contract. Assumes nothing.
 use mathlib.Core.Path.{sym, ap, _∙_}
-use Rattle.op_check.specs.Results.{checkingSays}
+use Rattle.op_check.specs.CheckingSays.{checkingSays}
 use Rattle.c_api.specs.Leaves.{leaves, rowValues}
 use borrow.Author.Needs.{needs}
 use Rattle.c_api.proofs.mikhakun_check.Statement.{statement}

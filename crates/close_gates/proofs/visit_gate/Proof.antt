@@ -7,7 +7,7 @@ use Rattle.close_rules.proofs.Decoding.{has-row}
 use Rattle.close_rules.proofs.RowRules.{gate-ticks, gate-steps}
 use Rattle.close_parents.proofs.Linking.{ended}
 use Rattle.close_list.proofs.Workable.{queueable-as}
-use Rattle.close_store.proofs.Heeding.{notes-but, notes-then, notes-parents, rests-here, visits-by}
+use Rattle.close_store.proofs.Storing.{notes-but, notes-then, notes-parents, rests-here, visits-by}
 use Rattle.close_gates.proofs.visit_gate.Statement.{statement}
 use Rattle.close_gates.proofs.visit_gate.Tie as tie
 
@@ -29,30 +29,30 @@ words-at-requires-3 c κs =
     let o = c .before .before .before .before .before .before .before .before .before .before .pre .1 in
     (o .2, has-row (a .n) (a .count) (a .marks .now) (a .b) (o .0) (omega (arith, o .1, o .4)))
 
-mark-own-requires : tie.Need-mark-own-requires
-mark-own-requires c κs =
+store-own-requires : tie.Need-store-own-requires
+store-own-requires c κs =
     let asked = c .before .before .before .before .before .before .before .before .before .before .before .before .before .before .before .before .before .before .before .before .pre in
     let a = c .before .before .before .before .before .before .before .before .before .before .before .before .before .before .before .before .before .before .before .before .args in
     let given = asked .0 in
     let o = asked .1 in
     ((o .1, o .2, has-row (a .n) (a .count) (a .marks .now) (a .row) (o .0) (o .1)), (ended (given .linked), given .roomy))
 
-mark-child-requires : tie.Need-mark-child-requires
-mark-child-requires c κs =
+store-child-requires : tie.Need-store-child-requires
+store-child-requires c κs =
     let asked = c .before .before .before .before .before .before .before .before .before .before .before .before .before .before .before .before .before .before .before .before .before .before .before .before .before .before .before .pre in
     let a = c .before .before .before .before .before .before .before .before .before .before .before .before .before .before .before .before .before .before .before .before .before .before .before .before .before .before .before .args in
     let o = asked .1 in
-    let own = c .before .before .before .before .before .before .mark-own .ensures in
+    let own = c .before .before .before .before .before .before .store-own .ensures in
     let l : a .a < a .count = omega (arith, o .1, o .3) in
     (queueable-as (own .1 .1 .enters .keeps .size) (asked .0), (l, o .2, omega (arith, has-row (a .n) (a .count) (a .marks .now) (a .a) (o .0) l, own .0 .gains .size)))
 
-mark-child-requires-2 : tie.Need-mark-child-requires-2
-mark-child-requires-2 c κs =
+store-child-requires-2 : tie.Need-store-child-requires-2
+store-child-requires-2 c κs =
     let asked = c .before .before .before .before .before .before .before .before .before .before .before .before .before .before .before .before .before .before .before .before .before .before .before .before .before .before .before .before .before .before .before .before .before .before .pre in
     let a = c .before .before .before .before .before .before .before .before .before .before .before .before .before .before .before .before .before .before .before .before .before .before .before .before .before .before .before .before .before .before .before .before .before .before .args in
     let o = asked .1 in
-    let own = c .before .before .before .before .before .before .before .before .before .before .before .before .before .mark-own .ensures in
-    let left = c .before .before .before .before .before .before .mark-child .ensures in
+    let own = c .before .before .before .before .before .before .before .before .before .before .before .before .before .store-own .ensures in
+    let left = c .before .before .before .before .before .before .store-child .ensures in
     let l : a .b < a .count = omega (arith, o .1, o .4) in
     (queueable-as (left .notes .keeps .size ∙ own .1 .1 .enters .keeps .size) (asked .0), (l, o .2, omega (arith, has-row (a .n) (a .count) (a .marks .now) (a .b) (o .0) l, own .0 .gains .size, left .joins .gains .size)))
 
@@ -69,9 +69,9 @@ returns c =
     let words-at3 = c .before .before .before .before .before .before .before .before .before .before .before .before .before .before .before .before .before .before .before .before .before .before .before .before .before .before .before .before .words-at3 in
     let a = c .before .before .before .before .before .before .before .before .before .before .before .before .before .before .before .before .before .before .before .before .before .before .before .before .before .before .before .before .before .before .before .before .before .before .before .before .before .before .before .args in
     let o = c .before .before .before .before .before .before .before .before .before .before .before .before .before .before .before .before .before .before .before .before .before .before .before .before .before .before .before .before .before .before .before .before .before .before .before .before .before .before .before .pre in
-    let own = c .before .before .before .before .before .before .before .before .before .before .before .before .before .before .before .before .before .before .mark-own .ensures in
-    let left = c .before .before .before .before .before .before .before .before .before .before .before .mark-child .ensures in
-    let right = c .before .before .before .before .mark-child2 .ensures in
+    let own = c .before .before .before .before .before .before .before .before .before .before .before .before .before .before .before .before .before .before .store-own .ensures in
+    let left = c .before .before .before .before .before .before .before .before .before .before .before .store-child .ensures in
+    let right = c .before .before .before .before .store-child2 .ensures in
     let w = gate-ticks (words-at .ensures) (words-at2 .ensures) (words-at3 .ensures) in
     λ W. visits-by _ _ _ _ _ _ W _ _ _ _ _ _ (gate-steps _ _ _ _ _ _ _ _ _ _ _ _ _ (o .1 .3) (o .1 .4) _ _ _ (w .0) (w .1) (w .2) (own .0) (left .joins) (right .joins) W)
     (λ e. notes-then _ _ _ (notes-parents _ _ _ _ _ (o .0 .linked) _ _ _ _ (o .1 .1) (rests-here (a .rows .now) (a .row) _ e (λ w s. s .0)) (own .1 .1))
@@ -84,9 +84,9 @@ visit-gate-spec =
     words-at-requires
     words-at-requires-2
     words-at-requires-3
-    mark-own-requires
-    mark-child-requires
-    mark-child-requires-2
+    store-own-requires
+    store-child-requires
+    store-child-requires-2
     same-length
     same-length-2
     returns)

@@ -1,6 +1,6 @@
 -- `enter` meets its contract. Assumes nothing.
 use borrow.Author.Needs.{needs}
-use Rattle.close_list.proofs.Noting.{enters-one}
+use Rattle.close_list.proofs.Queueing.{enters-one}
 use Rattle.close_list.proofs.enter.Statement.{statement}
 use Rattle.close_list.proofs.enter.Tie as tie
 

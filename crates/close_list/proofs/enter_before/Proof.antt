@@ -3,7 +3,7 @@ use borrow.Author.Needs.{needs}
 use native.Mathlib.Omega.{arith}
 use mathlib.Core.Path.{ap, _∙_}
 use Prim.Native.Nat.{ℕ, _-_, _*_}
-use Rattle.close_list.proofs.Noting.{column-in, enters-as}
+use Rattle.close_list.proofs.Queueing.{column-in, enters-as}
 use Rattle.close_list.proofs.enter_before.Statement.{statement}
 use Rattle.close_list.proofs.enter_before.Tie as tie
 

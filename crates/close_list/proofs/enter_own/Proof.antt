@@ -1,7 +1,7 @@
 -- `enter_own` meets its contract. Assumes nothing.
 use borrow.Author.Needs.{needs}
 use native.Mathlib.Omega.{arith}
-use Rattle.close_list.proofs.Noting.{column-in, words-few, enters-none, enters-own, enters-two}
+use Rattle.close_list.proofs.Queueing.{column-in, words-few, enters-none, enters-own, enters-two}
 use Rattle.close_list.proofs.ByKind.{offset-below, row-own-none, row-own-look, row-own-here}
 use Rattle.close_list.proofs.enter_own.Statement.{statement}
 use Rattle.close_list.proofs.enter_own.Tie as tie

@@ -1,7 +1,7 @@
 -- `enter_parents` meets its contract. The invariant: a row of the list has its bit, or is still ahead. Assumes nothing.
 use native.Mathlib.Omega.{arith}
 use borrow.Author.Needs.{needs}
-use Rattle.close_list.proofs.Noting.{Walking, walk-start, walk-more, walk-edge, walk-end}
+use Rattle.close_list.proofs.Queueing.{Walking, walk-start, walk-more, walk-edge, walk-end}
 use Rattle.close_list.proofs.enter_parents.Statement.{statement}
 use Rattle.close_list.proofs.enter_parents.Tie as tie
 

@@ -1,14 +1,14 @@
 -- `start` meets its contract. The invariant: what rests on a mark in a word before q is on the list. Assumes nothing.
 use native.Mathlib.Omega.{arith}
 use Prim.Native.Nat.{_-_, _≤_, _<_}
-use Rattle.close_list.specs.Items.{Starts}
+use Rattle.close_list.specs.Items.{QueuesMarked}
 use Rattle.close_list.proofs.Workable.{queueable-as}
 use Rattle.close_list.proofs.Starting.{starts-none, starts-column, starts-as, starts-done}
 use Rattle.close_list.proofs.start.Statement.{statement}
 use Rattle.close_list.proofs.start.Tie as tie
 
 abbrev Inv-loop : tie.InvT-loop
-Inv-loop rows count n heads nexts todo₀ marks q₀ todo q = (q ≤ n) × Starts count rows n (λ x p. (x < count) × (p < q)) marks todo₀ todo
+Inv-loop rows count n heads nexts todo₀ marks q₀ todo q = (q ≤ n) × QueuesMarked count rows n (λ x p. (x < count) × (p < q)) marks todo₀ todo
 
 abbrev μ-loop : tie.MeasureT-loop
 μ-loop rows count n heads nexts todo₀ marks q₀ todo q = n - q

@@ -7,7 +7,7 @@ use mathlib.Core.Logic.{⊎-elim}
 use lib.Bits.{bitOr}
 use lib.ListN.{getD}
 use Rattle.table_marks.proofs.Places.{two-blocks, first-block, second-block}
-use Rattle.close_list.specs.Items.{Starts}
+use Rattle.close_list.specs.Items.{QueuesMarked}
 use Rattle.close_list.proofs.Starting.{place-in, starts-none, starts-touched, starts-bare, starts-row, starts-as}
 use Rattle.close_list.proofs.Workable.{queueable-as}
 use Rattle.close_list.proofs.start_column.Statement.{statement}
@@ -15,7 +15,7 @@ use Rattle.close_list.proofs.start_column.Tie as tie
 
 abbrev Inv-loop : tie.InvT-loop
 Inv-loop rows count n q heads nexts todo₀ marks x₀ place₀ todo x place =
-    (x ≤ count) × (place ≡ 2 * x * n + q) × Starts count rows n (λ y p. (y < x) × (p ≡ q)) marks todo₀ todo
+    (x ≤ count) × (place ≡ 2 * x * n + q) × QueuesMarked count rows n (λ y p. (y < x) × (p ≡ q)) marks todo₀ todo
 
 abbrev μ-loop : tie.MeasureT-loop
 μ-loop rows count n q heads nexts todo₀ marks x₀ place₀ todo x place = count - x
@@ -63,8 +63,8 @@ shared-slice-read-no c =
     let i = place-in (a .n) (a .count) _ (a .q) _ _ (omega arith) (o .1 .0) (o .1 .1) (l .1) in
     omega arith
 
-touch-requires : tie.Need-touch-requires Inv-loop μ-loop
-touch-requires c κs =
+queue-resting-requires : tie.Need-queue-resting-requires Inv-loop μ-loop
+queue-resting-requires c κs =
     let o = c .before .before .before .before .before .before .before .before .before .before .before .pre in
     let l = c .before .before .before .before .before .loop .inv in
     (queueable-as (l .2 .keeps .size) (o .0), (omega arith, o .1 .0))
@@ -125,7 +125,7 @@ start-column-spec =
     add-no
     mul-no
     shared-slice-read-no
-    touch-requires
+    queue-resting-requires
     mul-place
     add-place
     add-x

@@ -45,8 +45,8 @@ shift-requires c κs =
     let if3 = c .before .before .if3 in
     omega (arith, part-small (a .up) (a .offset), part-of .ensures .1, if3 .left)
 
-mark-look-requires : tie.Need-mark-look-requires
-mark-look-requires c κs =
+store-look-requires : tie.Need-store-look-requires
+store-look-requires c κs =
     let if2 = c .before .before .before .before .before .before .before .if2 in
     let o = c .before .before .before .before .before .before .before .before .before .before .before .before .before .before .before .before .pre in
     ((o .0 .0, omega (arith, if2 .left, o .1 .0 .within), o .0 .1), (o .1 .1 .0, o .1 .1 .1))
@@ -70,7 +70,7 @@ same-length-2 c = search needs
 returns-4 : tie.Need-returns-4
 returns-4 c =
     let part-of = c .before .before .before .before .before .before .before .before .before .before .before .before .before .before .before .before .before .before .before .part-of in
-    let mark-look = c .before .before .before .before .before .before .before .mark-look in
+    let store-look = c .before .before .before .before .before .before .before .store-look in
     let good = c .before .before .before .before .before .before .before .before .before .before .before .before .before .before .before .before .before .before .before .before .before .before .before .before .good in
     let if1 = c .before .before .before .before .before .before .before .before .before .before .before .before .before .before .before .before .before .if1 in
     let window-beside = c .before .before .before .before .before .before .before .before .before .before .before .window-beside in
@@ -79,11 +79,11 @@ returns-4 c =
     let o = c .before .before .before .before .before .before .before .before .before .before .before .before .before .before .before .before .before .before .before .before .before .before .before .before .pre in
     let t = o .1 .0 in
     let f = part-of .ensures in
-    let own = mark-look .ensures in
+    let own = store-look .ensures in
     let b = part-beside (a .up) _ _ _ _ (f .0) (f .1) (omega (arith, if1 .left)) in (
       part-some _ _ _ _ _ _ _ _ _ _ _ (part-of .result .e - a .offset / 64) _ _ (o .0 .2) (omega (arith, if1 .left, f .0))
           (gives-as _ (shift .ensures) (from-child _ _ _ _ _ _ _ _ _ (a .up) b (window-beside .ensures) (omega (arith, good)) (omega (arith, good)) (t .reads))) (own .0)
-          (gives-as _ (c .before .shift2 .ensures) (from-look _ _ _ _ _ _ _ _ _ (a .up) b (t .window) (omega (arith, mark-look, good)) (omega (arith, mark-look, good)) (own .1 .0))) (rw (f .2) at (own .1 .1)) (c .join .ensures),
+          (gives-as _ (c .before .shift2 .ensures) (from-look _ _ _ _ _ _ _ _ _ (a .up) b (t .window) (omega (arith, store-look, good)) (omega (arith, store-look, good)) (own .1 .0))) (rw (f .2) at (own .1 .1)) (c .join .ensures),
       record { within = t .within; window = t .window; reads = child-stays _ _ _ _ _ (o .0 .2) (own .0) (t .reads) },
     )
 
@@ -97,7 +97,7 @@ look-part-spec =
     returns-3
     window-beside-requires
     shift-requires
-    mark-look-requires
+    store-look-requires
     shift-requires-2
     join-requires
     same-length

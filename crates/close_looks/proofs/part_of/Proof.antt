@@ -1,7 +1,7 @@
 -- `part_of` meets its contract. Assumes nothing.
 use mathlib.Core.Path.{sym, ap}
 use mathlib.Core.Bool.{Bool}
-use Rattle.close_shift.specs.Moved.{endOf, apart}
+use Rattle.close_shift.specs.ShiftedWords.{endOf, apart}
 use Rattle.close_looks.specs.Parts.{nextOf}
 use borrow.Author.Needs.{needs}
 use Rattle.close_looks.proofs.part_of.Statement.{statement}

@@ -5,9 +5,9 @@ use mathlib.Core.Logic.{inl, inr, ⊎-elim}
 use Prim.Native.Nat.{_+_, _-_, _/_}
 use Rattle.close_rules.proofs.RowRules.{look-steps}
 use Rattle.close_parents.proofs.Linking.{ended}
-use Rattle.close_list.proofs.Noting.{roomy-as}
+use Rattle.close_list.proofs.Queueing.{roomy-as}
 use Rattle.close_list.proofs.Workable.{row-there}
-use Rattle.close_store.proofs.Heeding.{notes-then, notes-look, looks-by}
+use Rattle.close_store.proofs.Storing.{notes-then, notes-look, looks-by}
 use borrow.Author.Needs.{needs}
 use Rattle.close_looks.proofs.visit_look.Statement.{statement}
 use Rattle.close_looks.proofs.visit_look.Tie as tie

@@ -2,7 +2,7 @@
 use borrow.Author.Needs.{needs}
 use mathlib.Core.Path.{sym, subst}
 use Prim.Native.Nat.{ℕ, _<_}
-use Rattle.table_words.specs.Gains.{Ticks}
+use Rattle.table_words.specs.WordTicks.{Ticks}
 use Rattle.close_shift.proofs.window_beside.Statement.{statement}
 use Rattle.close_shift.proofs.window_beside.Tie as tie
 

@@ -5,22 +5,22 @@ use mathlib.Core.Path.{_≡_, refl, _∙_}
 use Prim.Native.Nat.{_+_, _*_, _/_, _%_, _^_, _<_}
 use lib.ListN.{getD}
 use Rattle.spec_limits.specs.Limits.{codeKinds, codeNumbers}
-use Rattle.table_words.specs.Gains.{room}
+use Rattle.table_words.specs.WordTicks.{room}
 use Rattle.close_rules.specs.Codes.{LooksAt}
 use Rattle.close_rules.proofs.Decoding.{look-start, look-in}
 use Rattle.close_parents.proofs.Children.{look-below}
 use Rattle.close_looks.specs.Parts.{Sees, GatheredFor}
 use Rattle.close_list.proofs.Workable.{queueable, row-there}
-use Rattle.close_word.specs.Stretches.{ItemAt}
+use Rattle.close_word.specs.VisitSeries.{ItemAt}
 use Rattle.close_word.proofs.Taking.{item-inside, item-next}
 use Rattle.close_word.proofs.Working.{stretch-less}
-use Rattle.close_word.proofs.Gathering.{Gathering, gathering-none, gathering-more, gathering-end, gathering-workable}
+use Rattle.close_word.proofs.Gathering.{LooksSoFar, gathering-none, gathering-more, gathering-end, gathering-workable}
 use Rattle.close_word.proofs.take_looks.Statement.{statement}
 use Rattle.close_word.proofs.take_looks.Tie as tie
 
 abbrev Inv-loop : tie.InvT-loop
 Inv-loop rows count i j first q n window heads nexts todo₀ marks₀ start kind c child given₀ k₀ todo marks given k =
-    Gathering count rows window n j (k ≡ first) (GatheredFor child given) marks₀ marks todo₀ todo
+    LooksSoFar count rows window n j (k ≡ first) (GatheredFor child given) marks₀ marks todo₀ todo
     × Sees n window marks child
     × (k < 64 → ItemAt count n (child .q) i j k todo × LooksAt rows (64 * i + k) (child .row))
 
@@ -112,8 +112,8 @@ loop-again c =
     let starts = look-start (a .rows .now) (64 * a .i + a .first) (o .1) in
     (gathering-more _ _ _ _ _ _ (loop .inv .0) (take-look .ensures .0), take-look .ensures .1, λ l. let k = c .next-look .ensures l in (item-next (loop .inv .2 (omega arith) .0) l (k .0), rw (s .0) (k .1 ∙ starts)))
 
-mark-child-requires : tie.Need-mark-child-requires Inv-loop μ-loop
-mark-child-requires c κs =
+store-child-requires : tie.Need-store-child-requires Inv-loop μ-loop
+store-child-requires c κs =
     let asked = c .before .before .before .before .before .before .before .before .before .before .before .before .pre in
     let loop = c .before .before .before .loop in
     let a = c .before .before .before .before .before .before .before .before .before .before .before .before .args in
@@ -128,23 +128,23 @@ mark-child-requires c κs =
 same-length : tie.Need-same-length Inv-loop μ-loop
 same-length c =
     let loop = c .before .before .before .before .before .before .before .before .loop in
-    let mark-child = c .before .before .before .before .mark-child in
-    mark-child .ensures .notes .keeps .size ∙ loop .inv .0 .long
+    let store-child = c .before .before .before .before .store-child in
+    store-child .ensures .notes .keeps .size ∙ loop .inv .0 .long
 
 same-length-2 : tie.Need-same-length-2 Inv-loop μ-loop
 same-length-2 c =
     let loop = c .before .before .before .before .before .before .before .before .loop in
-    let mark-child = c .before .before .before .before .mark-child in
+    let store-child = c .before .before .before .before .store-child in
     let k = c .before .before .before .before .before .before .before .before .before .before .before .before .before .before .before .before .before .pre .0 .coded in
-    mark-child .ensures .joins .gains .size ∙ loop .inv .0 .each (k .program) (k .codes) .infers .size
+    store-child .ensures .joins .gains .size ∙ loop .inv .0 .each (k .program) (k .codes) .infers .size
 
 returns : tie.Need-returns Inv-loop μ-loop
 returns c =
     let asked = c .before .before .before .before .before .before .before .before .before .before .before .before .before .before .before .before .before .pre in
     let loop = c .before .before .before .before .before .before .before .before .loop in
-    let mark-child = c .before .before .before .before .mark-child in
+    let store-child = c .before .before .before .before .store-child in
     let s = c .before .before .before .before .before .before .before .before .before .child-at .ensures in
-    gathering-end _ _ _ _ _ _ _ _ _ (λ e. omega (arith, e, asked .1 .0 .bit)) (rw (s .0, s .1) at (loop .inv .0)) (mark-child .ensures)
+    gathering-end _ _ _ _ _ _ _ _ _ (λ e. omega (arith, e, asked .1 .0 .bit)) (rw (s .0, s .1) at (loop .inv .0)) (store-child .ensures)
 
 pub take-looks-spec : {M : Type 1} → statement M
 take-looks-spec =
@@ -164,7 +164,7 @@ take-looks-spec =
     next-look-requires
     loop-less
     loop-again
-    mark-child-requires
+    store-child-requires
     same-length
     same-length-2
     returns)

@@ -1,19 +1,19 @@
--- `work_word` meets its contract. The invariant: a stretch of visits. The measure: the table's room, and then the word. Assumes nothing.
+-- `work_word` meets its contract. The invariant: a series of visits. The measure: the table's room, and then the word. Assumes nothing.
 use native.Mathlib.Omega.{arith}
 use mathlib.Core.Path.{refl}
 use Prim.Native.Nat.{_+_, _*_, _^_, _<_}
 use lib.ListN.{getD}
-use Rattle.table_words.specs.Gains.{room}
+use Rattle.table_words.specs.WordTicks.{room}
 use Rattle.close_list.specs.Items.{per}
-use Rattle.close_word.specs.Stretches.{Works, NoWord}
+use Rattle.close_word.specs.VisitSeries.{WorksList, NoWord}
 use Rattle.close_word.proofs.Working.{works-none, works-then, works-word, works-workable, taken-less}
-use Rattle.close_list.proofs.Noting.{column-in}
+use Rattle.close_list.proofs.Queueing.{column-in}
 use Rattle.close_word.proofs.work_word.Statement.{statement}
 use Rattle.close_word.proofs.work_word.Tie as tie
 
 abbrev Inv-loop : tie.InvT-loop
 Inv-loop rows count i q n window heads nexts todo₀ marks₀ stride j from₀ todo marks from =
-    Works count rows window n NoWord marks₀ marks todo₀ todo × (from < 64)
+    WorksList count rows window n NoWord marks₀ marks todo₀ todo × (from < 64)
 
 abbrev μ-loop : tie.MeasureT-loop
 μ-loop rows count i q n window heads nexts todo₀ marks₀ stride j from₀ todo marks from =

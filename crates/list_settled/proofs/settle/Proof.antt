@@ -4,7 +4,7 @@ use mathlib.Core.Path.{refl}
 use lib.ListN.{length-take}
 use Rattle.table_marks.specs.Sizes.{mostTableWords}
 use Rattle.open_sheet.proofs.Buffers.{fresh}
-use Rattle.open_table.proofs.Tables.{when-ready, when-refused}
+use Rattle.open_table.proofs.Tables.{when-sheet, when-refused}
 use Rattle.list_settled.proofs.Printing.{take-empty, take-empty-length, words-most, begun, prints-no-sheet}
 use borrow.Author.Needs.{needs}
 use Rattle.list_settled.proofs.settle.Statement.{statement}
@@ -26,31 +26,31 @@ enum-known-o : tie.Need-enum-known-o
 enum-known-o c = search needs
 
 mul-words : tie.Need-mul-words
-mul-words c = let y = when-ready (c .before .before .before .before .before .before .open-sheet .ensures) (c .before .o .given .1) .1 in omega (arith, words-most y _ refl .1)
+mul-words c = let y = when-sheet (c .before .before .before .before .before .before .open-sheet .ensures) (c .before .o .given .1) .1 in omega (arith, words-most y _ refl .1)
 
 words-of-requires : tie.Need-words-of-requires
-words-of-requires c κs = let y = when-ready (c .before .before .before .before .before .before .open-sheet .ensures) (c .before .o .given .1) .1 in words-most y _ refl .0
+words-of-requires c κs = let y = when-sheet (c .before .before .before .before .before .before .open-sheet .ensures) (c .before .o .given .1) .1 in words-most y _ refl .0
 
 mul-words-2 : tie.Need-mul-words-2
-mul-words-2 c = let y = when-ready (c .before .before .before .before .before .before .before .open-sheet .ensures) (c .before .before .o .given .1) .1 in omega (arith, words-most y _ (c .words-of .ensures) .2)
+mul-words-2 c = let y = when-sheet (c .before .before .before .before .before .before .before .open-sheet .ensures) (c .before .before .o .given .1) .1 in omega (arith, words-most y _ (c .words-of .ensures) .2)
 
 array-share-prefix-places : tie.Need-array-share-prefix-places
-array-share-prefix-places c = when-ready (c .before .before .before .before .before .before .before .open-sheet .ensures) (c .before .before .o .given .1) .0
+array-share-prefix-places c = when-sheet (c .before .before .before .before .before .before .before .open-sheet .ensures) (c .before .before .o .given .1) .0
 
 slice-aggregate-settle-table : tie.Need-slice-aggregate-settle-table
-slice-aggregate-settle-table c = let h = when-ready (c .before .before .before .before .before .before .before .before .open-sheet .ensures) (c .before .before .before .o .given .1) in simp length-take (omega (arith, h .0))
+slice-aggregate-settle-table c = let h = when-sheet (c .before .before .before .before .before .before .before .before .open-sheet .ensures) (c .before .before .before .o .given .1) in simp length-take (omega (arith, h .0))
 
 array-borrow-prefix-table : tie.Need-array-borrow-prefix-table
-array-borrow-prefix-table c = let y = when-ready (c .before .before .before .before .before .before .before .before .open-sheet .ensures) (c .before .before .before .o .given .1) .1 in words-most y _ (c .before .words-of .ensures) .2
+array-borrow-prefix-table c = let y = when-sheet (c .before .before .before .before .before .before .before .before .open-sheet .ensures) (c .before .before .before .o .given .1) .1 in words-most y _ (c .before .words-of .ensures) .2
 
 slice-aggregate-settle-table-2 : tie.Need-slice-aggregate-settle-table-2
 slice-aggregate-settle-table-2 c =
-    let y = when-ready (c .before .before .before .before .before .before .before .before .before .open-sheet .ensures) (c .before .before .before .before .o .given .1) .1 in
+    let y = when-sheet (c .before .before .before .before .before .before .before .before .before .open-sheet .ensures) (c .before .before .before .before .o .given .1) .1 in
     take-empty-length _ mostTableWords (words-most y _ (c .before .before .words-of .ensures) .2)
 
 settle-table-requires : tie.Need-settle-table-requires
 settle-table-requires c κs =
-    let y = when-ready (c .before .before .before .before .before .before .before .before .before .before .open-sheet .ensures) (c .before .before .before .before .before .o .given .1) .1 in
+    let y = when-sheet (c .before .before .before .before .before .before .before .before .before .before .open-sheet .ensures) (c .before .before .before .before .before .o .given .1) .1 in
     begun y _ (c .before .before .before .words-of .ensures) _ (take-empty _ mostTableWords (words-most y _ (c .before .before .before .words-of .ensures) .2))
 
 enum-known-o-2 : tie.Need-enum-known-o-2

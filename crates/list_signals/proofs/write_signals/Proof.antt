@@ -4,7 +4,7 @@ use native.Mathlib.Omega.{arith}
 use mathlib.Core.Path.{_≡_, refl}
 use Prim.Native.Nat.{ℕ, _-_}
 use lib.ListN.{length, drop}
-use Rattle.read_names.specs.Words.{namesAt}
+use Rattle.read_names.specs.Spellings.{namesAt}
 use Rattle.spec_tilco.specs.Table.{Stands, Answer}
 use Rattle.write_bytes.specs.Writes.{Counted}
 use Rattle.write_bytes.proofs.Writing.{counted-like, counted-first}

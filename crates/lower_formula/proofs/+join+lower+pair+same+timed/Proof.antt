@@ -3,7 +3,7 @@
 use Prim.Native.Nat.{ℕ, _+_, _*_, _<_}
 use Rattle.read_arena.proofs.Puts.{arena-fewer}
 use Rattle.read_arena.proofs.Read.{form-step, right-step}
-use Rattle.read_arena.specs.Readings.{formAt}
+use Rattle.read_arena.specs.NodeRules.{formAt}
 use Rattle.lower_rows.proofs.Runs.{buffer-on}
 use Rattle.lower_formula.proofs.Parts.{went, join-full, join-full-2, join-then, timed-full, timed-then}
 use Rattle.lower_formula.proofs.Sizes.{weight, weight-some}
@@ -30,7 +30,7 @@ use Rattle.lower_formula.proofs.+join+lower+pair+same+timed.Lts-timed a
 use Rattle.read_arena.proofs.node_at.Reads as node-at-reads
 use Rattle.lower_formula.proofs.turned.Reads as turned-reads
 use Rattle.lower_rows.proofs.interval.spread.Reads as spread-reads
-use Rattle.lower_rows.proofs.words.gate_word.Reads as gate-word-reads
+use Rattle.lower_rows.proofs.words.gate_code.Reads as gate-code-reads
 use Rattle.lower_rows.proofs.words.name_row.Reads as name-row-reads
 use Rattle.lower_rows.proofs.words.push_row.Reads as push-row-reads
 use Rattle.lower_formula.proofs.+join+lower+pair+same+timed.{statement}
@@ -83,7 +83,7 @@ module _ (t : ℕ) where
   timed-below = and 2 timed-kinds.ps (falls 2 timed-kinds.ps _<_ μ-timed t) timed.Pre
 
   abbrev join-calls : join-lts.Claims
-  join-calls = (lower-below, lower.Post, gate-word-reads.Asked, gate-word-reads.Learnt, push-row-reads.Asked, push-row-reads.Learnt)
+  join-calls = (lower-below, lower.Post, gate-code-reads.Asked, gate-code-reads.Learnt, push-row-reads.Asked, push-row-reads.Learnt)
 
   abbrev lower-calls : lower-lts.Claims
   lower-calls = (node-at-reads.Asked, node-at-reads.Learnt, name-row-reads.Asked, name-row-reads.Learnt, lower-below, lower.Post, pair-below, pair.Post, turned-reads.Asked, turned-reads.Learnt, timed-below, timed.Post)
@@ -92,7 +92,7 @@ module _ (t : ℕ) where
   pair-calls = (join-below, join.Post, same-below, same.Post)
 
   abbrev same-calls : same-lts.Claims
-  same-calls = (join-below, join.Post, gate-word-reads.Asked, gate-word-reads.Learnt, push-row-reads.Asked, push-row-reads.Learnt)
+  same-calls = (join-below, join.Post, gate-code-reads.Asked, gate-code-reads.Learnt, push-row-reads.Asked, push-row-reads.Learnt)
 
   abbrev timed-calls : timed-lts.Claims
   timed-calls = (lower-below, lower.Post, spread-reads.Asked, spread-reads.Learnt)
@@ -136,8 +136,8 @@ module _ (t : ℕ) where
       let second = c .before .before .before .before .lower2 .ensures in
       join-full-2 _ _ _ _ _ first _ _ _ _ a-is _ _ second (c .enum-told2 .given .1)
 
-  join-gate-word-requires : join-lts.Need-gate-word-requires join-calls join-at join.Post
-  join-gate-word-requires c κs = search needs
+  join-gate-code-requires : join-lts.Need-gate-code-requires join-calls join-at join.Post
+  join-gate-code-requires c κs = search needs
 
   join-push-row-requires : join-lts.Need-push-row-requires join-calls join-at join.Post
   join-push-row-requires c κs =
@@ -155,7 +155,7 @@ module _ (t : ℕ) where
       let second = c .before .before .before .before .before .before .before .before .before .before .lower2 .ensures in
       let b-is = c .before .before .before .before .before .before .b .given .1 in
       join-then _ _ _ _ _ first _ _ _ _ a-is _ _ second _ _ _ _ b-is
-      (rw (c .before .before .before .before .gate-word .ensures) at (c .before .before .push-row .ensures))
+      (rw (c .before .before .before .before .gate-code .ensures) at (c .before .before .push-row .ensures))
 
   lower-node-at-requires : lower-lts.Need-node-at-requires lower-calls lower-at lower.Post
   lower-node-at-requires c κs = search needs
@@ -339,8 +339,8 @@ module _ (t : ℕ) where
       let second = c .before .before .before .before .join2 .ensures in
       join-full-2 _ _ _ _ _ first _ _ _ _ a-is _ _ second (c .enum-told2 .given .1)
 
-  same-gate-word-requires : same-lts.Need-gate-word-requires same-calls same-at same.Post
-  same-gate-word-requires c κs = search needs
+  same-gate-code-requires : same-lts.Need-gate-code-requires same-calls same-at same.Post
+  same-gate-code-requires c κs = search needs
 
   same-push-row-requires : same-lts.Need-push-row-requires same-calls same-at same.Post
   same-push-row-requires c κs =
@@ -358,7 +358,7 @@ module _ (t : ℕ) where
       let second = c .before .before .before .before .before .before .before .before .before .before .join2 .ensures in
       let b-is = c .before .before .before .before .before .before .b .given .1 in
       join-then _ _ _ _ _ first _ _ _ _ a-is _ _ second _ _ _ _ b-is
-      (rw (c .before .before .before .before .gate-word .ensures) at (c .before .before .push-row .ensures))
+      (rw (c .before .before .before .before .gate-code .ensures) at (c .before .before .push-row .ensures))
 
   timed-lower-requires : timed-lts.Need-lower-requires timed-calls timed-at timed.Post
   timed-lower-requires c κs = let given = c .before .before .before .pre .1 in (omega arith, (given .0, given .1 .1))
@@ -393,8 +393,8 @@ module _ (t : ℕ) where
 pub +join+lower+pair+same+timed-spec : {M : Type 1} → statement M
 +join+lower+pair+same+timed-spec =
     close μ-join μ-lower μ-pair μ-same μ-timed
-    (λ t. join-lts.spec (join-calls t) (join-at t) join.Post (join-lower-requires t) (join-enum-known-a t) (join-enum-told t) (join-same-length t) (join-returns t) (join-lower-requires-2 t) (join-enum-known-b t) (join-enum-told-2 t) (join-same-length-2 t) (join-returns-2 t) (join-gate-word-requires t) (join-push-row-requires t) (join-same-length-3 t) (join-returns-3 t))
+    (λ t. join-lts.spec (join-calls t) (join-at t) join.Post (join-lower-requires t) (join-enum-known-a t) (join-enum-told t) (join-same-length t) (join-returns t) (join-lower-requires-2 t) (join-enum-known-b t) (join-enum-told-2 t) (join-same-length-2 t) (join-returns-2 t) (join-gate-code-requires t) (join-push-row-requires t) (join-same-length-3 t) (join-returns-3 t))
     (λ t. lower-lts.spec (lower-calls t) (lower-at t) lower.Post (lower-node-at-requires t) (lower-enum-known-row t) (lower-name-row-requires t) (lower-enum-known-x t) (lower-lower-requires t) (lower-enum-known-sign t) (lower-pair-requires t) (lower-enum-known-always t) (lower-turned-requires t) (lower-timed-requires t) (lower-enum-known-row-2 t) (lower-name-row-requires-2 t) (lower-same-length t) (lower-returns t) (lower-same-length-2 t) (lower-returns-2 t) (lower-same-length-3 t) (lower-returns-3 t) (lower-same-length-4 t) (lower-returns-4 t) (lower-same-length-5 t) (lower-returns-5 t))
     (λ t. pair-lts.spec (pair-calls t) (pair-at t) pair.Post (pair-enum-told t) (pair-join-requires t) (pair-enum-told-2 t) (pair-join-requires-2 t) (pair-enum-told-3 t) (pair-join-requires-3 t) (pair-enum-told-4 t) (pair-same-requires t) (pair-same-length t) (pair-returns t) (pair-same-length-2 t) (pair-returns-2 t) (pair-same-length-3 t) (pair-returns-3 t) (pair-same-length-4 t) (pair-returns-4 t))
-    (λ t. same-lts.spec (same-calls t) (same-at t) same.Post (same-join-requires t) (same-enum-known-a t) (same-enum-told t) (same-same-length t) (same-returns t) (same-join-requires-2 t) (same-enum-known-b t) (same-enum-told-2 t) (same-same-length-2 t) (same-returns-2 t) (same-gate-word-requires t) (same-push-row-requires t) (same-same-length-3 t) (same-returns-3 t))
+    (λ t. same-lts.spec (same-calls t) (same-at t) same.Post (same-join-requires t) (same-enum-known-a t) (same-enum-told t) (same-same-length t) (same-returns t) (same-join-requires-2 t) (same-enum-known-b t) (same-enum-told-2 t) (same-same-length-2 t) (same-returns-2 t) (same-gate-code-requires t) (same-push-row-requires t) (same-same-length-3 t) (same-returns-3 t))
     (λ t. timed-lts.spec (timed-calls t) (timed-at t) timed.Post (timed-lower-requires t) (timed-enum-known-top t) (timed-enum-told t) (timed-same-length t) (timed-returns t) (timed-spread-requires t) (timed-same-length-2 t) (timed-returns-2 t))

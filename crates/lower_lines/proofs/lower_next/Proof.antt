@@ -3,8 +3,8 @@ use native.Mathlib.Omega.{arith}
 use mathlib.Core.Bool.{true}
 use lib.ListN.{length-map}
 use Rattle.spec_tilco.specs.Lowering.{lowered}
-use Rattle.read_arena.specs.Readings.{definingsAt}
-use Rattle.lower_rule.specs.Rules.{wholeAt}
+use Rattle.read_arena.specs.NodeRules.{definingsAt}
+use Rattle.lower_rule.specs.RuleRows.{wholeAt}
 use Rattle.lower_lines.proofs.Trying.{room-next, follows-full, follows-over, follows-more}
 use borrow.Author.Needs.{needs}
 use Rattle.lower_lines.proofs.lower_next.Statement.{statement}

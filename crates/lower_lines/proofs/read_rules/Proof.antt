@@ -6,7 +6,7 @@ use mathlib.Core.List.{List, []}
 use lib.ListN.{length}
 use Rattle.spec_limits.specs.Limits.{arenaNumbers}
 use Rattle.spec_tilco.specs.Formula.{Written}
-use Rattle.lower_rule.specs.Rules.{buffers}
+use Rattle.lower_rule.specs.RuleRows.{buffers}
 use Rattle.read_sheet.proofs.Ruled.{passed-off}
 use Rattle.read_sheet.proofs.Answers.{when-rule, when-no-rule}
 use Rattle.lower_lines.specs.InTurn.RulesRead.{refused-at}

@@ -4,7 +4,7 @@ use mathlib.Core.Path.{refl}
 use lib.ListN.{length-take}
 use Rattle.spec_operations.specs.Operations.Adds.{not-opened}
 use Rattle.open_sheet.proofs.Buffers.{fresh}
-use Rattle.open_table.proofs.Tables.{when-hand, when-not}
+use Rattle.open_table.proofs.Tables.{when-opened, when-not-opened}
 use borrow.Author.Needs.{needs}
 use Rattle.op_add.proofs.add.Statement.{statement}
 use Rattle.op_add.proofs.add.Tie as tie
@@ -25,10 +25,10 @@ enum-known-o : tie.Need-enum-known-o
 enum-known-o c = search needs
 
 array-share-prefix-places : tie.Need-array-share-prefix-places
-array-share-prefix-places c = let h = when-hand (c .before .before .before .before .before .before .open-table .ensures) (c .before .o .given .1) in omega (arith, h .0)
+array-share-prefix-places c = let h = when-opened (c .before .before .before .before .before .before .open-table .ensures) (c .before .o .given .1) in omega (arith, h .0)
 
 slice-aggregate-add-opened : tie.Need-slice-aggregate-add-opened
-slice-aggregate-add-opened c = let h = when-hand (c .before .before .before .before .before .before .before .open-table .ensures) (c .before .before .o .given .1) in simp length-take (omega (arith, h .0))
+slice-aggregate-add-opened c = let h = when-opened (c .before .before .before .before .before .before .before .open-table .ensures) (c .before .before .o .given .1) in simp length-take (omega (arith, h .0))
 
 slice-aggregate-add-opened-2 : tie.Need-slice-aggregate-add-opened-2
 slice-aggregate-add-opened-2 c = search needs
@@ -37,7 +37,7 @@ slice-aggregate-add-opened-3 : tie.Need-slice-aggregate-add-opened-3
 slice-aggregate-add-opened-3 c = search needs
 
 add-opened-requires : tie.Need-add-opened-requires
-add-opened-requires c κs = when-hand (c .before .before .before .before .before .before .before .before .before .before .open-table .ensures) (c .before .before .before .before .before .o .given .1) .1
+add-opened-requires c κs = when-opened (c .before .before .before .before .before .before .before .before .before .before .open-table .ensures) (c .before .before .before .before .before .o .given .1) .1
 
 enum-known-o-2 : tie.Need-enum-known-o-2
 enum-known-o-2 c = search needs
@@ -52,7 +52,7 @@ same-length-2 : tie.Need-same-length-2
 same-length-2 c = search needs
 
 returns-2 : tie.Need-returns-2
-returns-2 c = not-opened (when-not (c .before .before .before .before .before .before .open-table .ensures) (c .before .o2 .given .1)) refl
+returns-2 c = not-opened (when-not-opened (c .before .before .before .before .before .before .open-table .ensures) (c .before .o2 .given .1)) refl
 
 pub add-spec : {M : Type 1} → statement M
 add-spec =

@@ -3,7 +3,7 @@ use native.Mathlib.Omega.{arith}
 use mathlib.Core.Path.{refl, _∙_}
 use Rattle.read_readings.proofs.Outcomes.{when-accepted, when-refused}
 use Rattle.spec_operations.proofs.Opened.{some-window, some-words, table-length, signals-few, signals-fit}
-use Rattle.op_add.proofs.Outcomes.{readings-refused, settle-asks, same-size, no-fewer, gains}
+use Rattle.op_add.proofs.Outcomes.{readings-refused, close-asks, same-size, no-fewer, gains}
 use borrow.Author.Needs.{needs}
 use Rattle.op_add.proofs.add_opened.Statement.{statement}
 use Rattle.op_add.proofs.add_opened.Tie as tie
@@ -29,22 +29,22 @@ take-readings-requires c κs =
 enum-told : tie.Need-enum-told
 enum-told c = search needs
 
-slice-aggregate-settle : tie.Need-slice-aggregate-settle
-slice-aggregate-settle c = search needs
+slice-aggregate-close-with-tops : tie.Need-slice-aggregate-close-with-tops
+slice-aggregate-close-with-tops c = search needs
 
-settle-requires : tie.Need-settle-requires
-settle-requires c κs =
+close-with-tops-requires : tie.Need-close-with-tops-requires
+close-with-tops-requires c κs =
     let given = c .before .before .before .before .before .before .before .before .before .before .before .before .before .before .before .before .before .pre in
     let words = c .before .before .before .before .before .before .before .before .before .before .words-of .ensures in
     let taken = when-accepted (c .before .before .before .before .before .before .take-readings .ensures) (c .before .before .enum-told .given .1) in
-    settle-asks given _ words _ _ taken _ (omega arith)
+    close-asks given _ words _ _ taken _ (omega arith)
 
 count-facts-requires-2 : tie.Need-count-facts-requires-2
 count-facts-requires-2 c κs =
     let given = c .before .before .before .before .before .before .before .before .before .before .before .before .before .before .before .before .before .before .before .before .before .before .pre in
     let words = c .before .before .before .before .before .before .before .before .before .before .before .before .before .before .before .words-of .ensures in
     let taken = when-accepted (c .before .before .before .before .before .before .before .before .before .before .before .take-readings .ensures) (c .before .before .before .before .before .before .before .enum-told .given .1) in
-    let z = same-size given _ words _ _ taken _ (c .before .before .before .before .settle .ensures) in
+    let z = same-size given _ words _ _ taken _ (c .before .before .before .before .close-with-tops .ensures) in
     (some-words given _ words .some, omega (arith, signals-fit given _ words .0, z), signals-fit given _ words .1)
 
 clash-in-requires : tie.Need-clash-in-requires
@@ -52,14 +52,14 @@ clash-in-requires c κs =
     let given = c .before .before .before .before .before .before .before .before .before .before .before .before .before .before .before .before .before .before .before .before .before .before .before .before .pre in
     let words = c .before .before .before .before .before .before .before .before .before .before .before .before .before .before .before .before .before .words-of .ensures in
     let taken = when-accepted (c .before .before .before .before .before .before .before .before .before .before .before .before .before .take-readings .ensures) (c .before .before .before .before .before .before .before .before .before .enum-told .given .1) in
-    same-size given _ words _ _ taken _ (c .before .before .before .before .before .before .settle .ensures) ∙ table-length given _ words
+    same-size given _ words _ _ taken _ (c .before .before .before .before .before .before .close-with-tops .ensures) ∙ table-length given _ words
 
 sub-new : tie.Need-sub-new
 sub-new c =
     let given = c .before .before .before .before .before .before .before .before .before .before .before .before .before .before .before .before .before .before .before .before .before .before .before .before .before .pre in
     let words = c .before .before .before .before .before .before .before .before .before .before .before .before .before .before .before .before .before .before .words-of .ensures in
     let taken = when-accepted (c .before .before .before .before .before .before .before .before .before .before .before .before .before .before .take-readings .ensures) (c .before .before .before .before .before .before .before .before .before .before .enum-told .given .1) in
-    no-fewer given _ words _ _ taken _ (c .before .before .before .before .before .before .before .settle .ensures) _ _ (c .before .before .before .before .before .before .before .before .before .before .before .before .before .before .before .before .count-facts .ensures) (c .before .before .count-facts2 .ensures) (λ i. omega (arith, c .before .before .before .before .before .before .before .before .before .before .before .before .before .before .before .before .before .before .before .slice-known .given i))
+    no-fewer given _ words _ _ taken _ (c .before .before .before .before .before .before .before .close-with-tops .ensures) _ _ (c .before .before .before .before .before .before .before .before .before .before .before .before .before .before .before .before .count-facts .ensures) (c .before .before .count-facts2 .ensures) (λ i. omega (arith, c .before .before .before .before .before .before .before .before .before .before .before .before .before .before .before .before .before .before .before .slice-known .given i))
 
 enum-known-r : tie.Need-enum-known-r
 enum-known-r c = search needs
@@ -72,7 +72,7 @@ returns c =
     let given = c .before .before .before .before .before .before .before .before .before .before .before .before .before .before .before .before .before .before .before .before .before .before .before .before .before .pre in
     let words = c .before .before .before .before .before .before .before .before .before .before .before .before .before .before .before .before .before .before .words-of .ensures in
     let taken = when-accepted (c .before .before .before .before .before .before .before .before .before .before .before .before .before .before .take-readings .ensures) (c .before .before .before .before .before .before .before .before .before .before .enum-told .given .1) in
-    gains given _ words _ _ taken _ (c .before .before .before .before .before .before .before .settle .ensures) _ _ (c .before .before .before .before .before .before .before .before .before .before .before .before .before .before .before .before .count-facts .ensures) (c .before .before .count-facts2 .ensures) _ (c .clash-in .ensures)
+    gains given _ words _ _ taken _ (c .before .before .before .before .before .before .before .close-with-tops .ensures) _ _ (c .before .before .before .before .before .before .before .before .before .before .before .before .before .before .before .before .count-facts .ensures) (c .before .before .count-facts2 .ensures) _ (c .clash-in .ensures)
 
 same-length-2 : tie.Need-same-length-2
 same-length-2 c = search needs
@@ -91,8 +91,8 @@ add-opened-spec =
     count-facts-requires
     take-readings-requires
     enum-told
-    slice-aggregate-settle
-    settle-requires
+    slice-aggregate-close-with-tops
+    close-with-tops-requires
     count-facts-requires-2
     clash-in-requires
     sub-new

@@ -4,7 +4,7 @@ use mathlib.Core.Path.{refl}
 use lib.ListN.{length-take}
 use Rattle.spec_operations.specs.Operations.Asks.{not-opened}
 use Rattle.open_sheet.proofs.Buffers.{fresh}
-use Rattle.open_table.proofs.Tables.{when-hand, when-not}
+use Rattle.open_table.proofs.Tables.{when-opened, when-not-opened}
 use Rattle.spec_operations.proofs.Opened.{some-window, table-length}
 use Rattle.op_ask.proofs.Outcomes.{signal-past, tick-past, cell-in, answers}
 use borrow.Author.Needs.{needs}
@@ -27,20 +27,20 @@ enum-known-o : tie.Need-enum-known-o
 enum-known-o c = search needs
 
 returns : tie.Need-returns
-returns c = let h = when-hand (c .before .before .before .before .before .before .before .open-table .ensures) (c .before .before .o .given .1) in signal-past (h .1) _ refl _ _ (simp length-take (omega (arith, h .0)))
+returns c = let h = when-opened (c .before .before .before .before .before .before .before .open-table .ensures) (c .before .before .o .given .1) in signal-past (h .1) _ refl _ _ (simp length-take (omega (arith, h .0)))
 
 returns-2 : tie.Need-returns-2
-returns-2 c = let h = when-hand (c .before .before .before .before .before .before .before .before .open-table .ensures) (c .before .before .before .o .given .1) in tick-past (h .1) _ refl _ _ (c .if2 .taken)
+returns-2 c = let h = when-opened (c .before .before .before .before .before .before .before .before .open-table .ensures) (c .before .before .before .o .given .1) in tick-past (h .1) _ refl _ _ (c .if2 .taken)
 
 words-of-requires : tie.Need-words-of-requires
-words-of-requires c κs = let h = when-hand (c .before .before .before .before .before .before .before .before .open-table .ensures) (c .before .before .before .o .given .1) in omega (arith, some-window (h .1) _ refl .1)
+words-of-requires c κs = let h = when-opened (c .before .before .before .before .before .before .before .before .open-table .ensures) (c .before .before .before .o .given .1) in omega (arith, some-window (h .1) _ refl .1)
 
 clash-in-requires : tie.Need-clash-in-requires
-clash-in-requires c κs = let h = when-hand (c .before .before .before .before .before .before .before .before .before .open-table .ensures) (c .before .before .before .before .o .given .1) in table-length (h .1) _ (c .words-of .ensures)
+clash-in-requires c κs = let h = when-opened (c .before .before .before .before .before .before .before .before .before .open-table .ensures) (c .before .before .before .before .o .given .1) in table-length (h .1) _ (c .words-of .ensures)
 
 value-at-requires : tie.Need-value-at-requires
 value-at-requires c κs =
-    let h = when-hand (c .before .before .before .before .before .before .before .before .before .before .open-table .ensures) (c .before .before .before .before .before .o .given .1) in
+    let h = when-opened (c .before .before .before .before .before .before .before .before .before .before .open-table .ensures) (c .before .before .before .before .before .o .given .1) in
     let i = cell-in (h .1) _ (c .before .words-of .ensures) (c .before .before .before .before .before .before .before .before .before .before .before .before .before .before .before .before .args .signal) (c .before .before .before .before .before .before .before .before .before .before .before .before .before .before .before .before .args .tick) (simp length-take (omega (arith, h .0))) (omega arith) in
     (i .1, i .0, c .clash-in .ensures)
 
@@ -48,10 +48,10 @@ enum-known-o-2 : tie.Need-enum-known-o-2
 enum-known-o-2 c = search needs
 
 returns-3 : tie.Need-returns-3
-returns-3 c = let h = when-hand (c .before .before .before .before .before .before .before .before .before .before .before .open-table .ensures) (c .before .before .before .before .before .before .o .given .1) in answers (h .1) _ (c .before .before .words-of .ensures) _ _ (simp length-take (omega (arith, h .0))) (omega arith) (c .value-at .ensures)
+returns-3 c = let h = when-opened (c .before .before .before .before .before .before .before .before .before .before .before .open-table .ensures) (c .before .before .before .before .before .before .o .given .1) in answers (h .1) _ (c .before .before .words-of .ensures) _ _ (simp length-take (omega (arith, h .0))) (omega arith) (c .value-at .ensures)
 
 returns-4 : tie.Need-returns-4
-returns-4 c = not-opened (when-not (c .before .before .before .before .before .before .open-table .ensures) (c .before .o2 .given .1))
+returns-4 c = not-opened (when-not-opened (c .before .before .before .before .before .before .open-table .ensures) (c .before .o2 .given .1))
 
 pub ask-spec : {M : Type 1} → statement M
 ask-spec =

@@ -3,7 +3,7 @@ use mathlib.Core.Path.{refl, sym, ap, _∙_}
 use Rattle.open_sheet.specs.Results.{accepted}
 use Rattle.spec_operations.specs.Operations.{counted}
 use Rattle.open_sheet.proofs.Buffers.{fresh}
-use Rattle.open_table.proofs.Tables.{when-ready, when-refused}
+use Rattle.open_table.proofs.Tables.{when-sheet, when-refused}
 use borrow.Author.Needs.{needs}
 use Rattle.op_check.proofs.check.Statement.{statement}
 use Rattle.op_check.proofs.check.Tie as tie
@@ -27,7 +27,7 @@ enum-known-o-2 : tie.Need-enum-known-o-2
 enum-known-o-2 c = search needs
 
 returns : tie.Need-returns
-returns c = let k = when-ready (c .before .before .before .before .before .before .open-sheet .ensures) (c .before .o .given .1) .1 in ap accepted (k .rows) ∙ sym (ap counted (k .holds))
+returns c = let k = when-sheet (c .before .before .before .before .before .before .open-sheet .ensures) (c .before .o .given .1) .1 in ap accepted (k .rows) ∙ sym (ap counted (k .holds))
 
 returns-2 : tie.Need-returns-2
 returns-2 c = sym (ap counted (when-refused (c .before .before .before .before .before .before .open-sheet .ensures) (c .before .o2 .given .1)))

@@ -4,11 +4,11 @@ use mathlib.Core.Path.{sym, ap, subst}
 use lib.ListN.{length-take}
 use Rattle.read_bytes.proofs.Answers.{is-refusal}
 use Rattle.read_head.specs.SheetHead.{headSays}
-use Rattle.lower_rule.specs.Rules.{allLoweredSays}
+use Rattle.lower_rule.specs.RuleRows.{allLoweredSays}
 use Rattle.read_sheet.proofs.Answers.{when-headed, when-no-head}
 use Rattle.read_sheet.proofs.Wholes.{sheet-long, refused-head}
-use Rattle.open_sheet.specs.Ready.{SheetOpens}
-use Rattle.open_sheet.specs.Ready.SheetOpens.{refused-at}
+use Rattle.open_sheet.specs.OpenedSheet.{SheetOpens}
+use Rattle.open_sheet.specs.OpenedSheet.SheetOpens.{refused-at}
 use Rattle.open_sheet.proofs.Sheets.{in-refused, begun, legible, rule-refused, more-follow, not-fitting, fitting}
 use borrow.Author.Needs.{needs}
 use Rattle.open_sheet.proofs.open_sheet.Statement.{statement}

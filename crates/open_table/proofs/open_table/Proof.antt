@@ -3,8 +3,8 @@ use native.Mathlib.Omega.{arith}
 use mathlib.Core.Path.{sym, _∙_}
 use borrow.Author.Tests.{not-true, not-false}
 use Rattle.table_facts.proofs.Clashing.{never}
-use Rattle.open_table.specs.Ready.TableOpens.{ready, refused-at}
-use Rattle.open_table.proofs.Tables.{when-ready, window-range, row-range, row-words, table-most, wrong-length, outside, within, sheet-refused}
+use Rattle.open_table.specs.OpenedTable.TableOpens.{ready, refused-at}
+use Rattle.open_table.proofs.Tables.{when-sheet, window-range, row-range, row-words, table-most, wrong-length, outside, within, sheet-refused}
 use borrow.Author.Needs.{needs}
 use Rattle.open_table.proofs.open_table.Statement.{statement}
 use Rattle.open_table.proofs.open_table.Tie as tie
@@ -31,14 +31,14 @@ returns : tie.Need-returns
 returns c = sheet-refused _ (c .before .before .before .before .before .before .before .before .open-sheet .ensures) (c .enum-told .given .1)
 
 words-of-requires : tie.Need-words-of-requires
-words-of-requires c κs = let k = when-ready (c .before .before .before .before .before .before .before .before .before .open-sheet .ensures) (c .before .o .given .1) .1 in omega (arith, window-range k .1)
+words-of-requires c κs = let k = when-sheet (c .before .before .before .before .before .before .before .before .before .open-sheet .ensures) (c .before .o .given .1) .1 in omega (arith, window-range k .1)
 
 mul-if1 : tie.Need-mul-if1
-mul-if1 c = let k = when-ready (c .before .before .before .before .before .before .before .before .before .before .open-sheet .ensures) (c .before .before .o .given .1) .1 in omega (arith, row-range k)
+mul-if1 c = let k = when-sheet (c .before .before .before .before .before .before .before .before .before .before .open-sheet .ensures) (c .before .before .o .given .1) .1 in omega (arith, row-range k)
 
 mul-if1-2 : tie.Need-mul-if1-2
 mul-if1-2 c =
-    let k = when-ready (c .before .before .before .before .before .before .before .before .before .before .open-sheet .ensures) (c .before .before .o .given .1) .1 in
+    let k = when-sheet (c .before .before .before .before .before .before .before .before .before .before .open-sheet .ensures) (c .before .before .o .given .1) .1 in
     let n = row-words (window-range k .0) (window-range k .1) (c .words-of .ensures) in
     omega (arith, table-most (row-range k) (n .most))
 
@@ -52,11 +52,11 @@ same-length-6 : tie.Need-same-length-6
 same-length-6 c = search needs
 
 returns-2 : tie.Need-returns-2
-returns-2 c = let k = when-ready (c .before .before .before .before .before .before .before .before .before .before .before .open-sheet .ensures) (c .before .before .before .o .given .1) .1 in refused-at {n = 15} {p = 0} (wrong-length k _ _ (c .before .words-of .ensures) (c .if1 .taken))
+returns-2 c = let k = when-sheet (c .before .before .before .before .before .before .before .before .before .before .before .open-sheet .ensures) (c .before .before .before .o .given .1) .1 in refused-at {n = 15} {p = 0} (wrong-length k _ _ (c .before .words-of .ensures) (c .if1 .taken))
 
 inside-window-requires : tie.Need-inside-window-requires
 inside-window-requires c κs =
-    let k = when-ready (c .before .before .before .before .before .before .before .before .before .before .before .open-sheet .ensures) (c .before .before .before .o .given .1) .1 in
+    let k = when-sheet (c .before .before .before .before .before .before .before .before .before .before .before .open-sheet .ensures) (c .before .before .before .o .given .1) .1 in
     let n = row-words (window-range k .0) (window-range k .1) (c .before .words-of .ensures) in
     (c .if1 .left, window-range k .0, c .before .words-of .ensures, omega (arith, table-most (row-range k) (n .most)))
 
@@ -71,7 +71,7 @@ same-length-9 c = search needs
 
 returns-3 : tie.Need-returns-3
 returns-3 c =
-    let k = when-ready (c .before .before .before .before .before .before .before .before .before .before .before .before .before .open-sheet .ensures) (c .before .before .before .before .before .o .given .1) .1 in
+    let k = when-sheet (c .before .before .before .before .before .before .before .before .before .before .before .before .before .open-sheet .ensures) (c .before .before .before .before .before .o .given .1) .1 in
     refused-at {n = 16} {p = 0} (outside k _ _ (c .before .before .before .words-of .ensures) (c .before .before .if1 .left) (λ i. never (sym (c .before .inside-window .ensures .1 i) ∙ not-true _ (c .if2 .taken))))
 
 same-length-10 : tie.Need-same-length-10
@@ -85,7 +85,7 @@ same-length-12 c = search needs
 
 returns-4 : tie.Need-returns-4
 returns-4 c =
-    let h = when-ready (c .before .before .before .before .before .before .before .before .before .before .before .before .before .open-sheet .ensures) (c .before .before .before .before .before .o .given .1) in
+    let h = when-sheet (c .before .before .before .before .before .before .before .before .before .before .before .before .before .open-sheet .ensures) (c .before .before .before .before .before .o .given .1) in
     ready (h .0) (record { sheet = h .1; table = within (h .1) _ _ (c .before .before .before .words-of .ensures) (c .before .before .if1 .left) (c .before .inside-window .ensures .0 (not-false _ (c .if2 .left))) })
 
 pub open-table-spec : {M : Type 1} → statement M

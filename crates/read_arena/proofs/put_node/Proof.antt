@@ -4,7 +4,7 @@ use native.Mathlib.Omega.{arith}
 use native.Mathlib.Numerals.{towards-suc}
 use lib.ListN.{length-set}
 use Rattle.read_arena.specs.Nodes.{putNode}
-use Rattle.read_arena.specs.Readings.{twoBytes}
+use Rattle.read_arena.specs.NodeRules.{twoBytes}
 use Rattle.read_arena.proofs.Puts.{right-later}
 use borrow.Author.Needs.{needs}
 use Rattle.read_arena.proofs.put_node.Statement.{statement}

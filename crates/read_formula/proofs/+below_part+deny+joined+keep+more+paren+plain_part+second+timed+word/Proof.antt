@@ -3,15 +3,15 @@
 use Prim.Native.Nat.{ℕ, _+_, _-_, _*_, _<_}
 use Rattle.read_arena.proofs.Puts.{arena-put}
 use Rattle.read_arena.specs.Nodes.{opOf}
-use Rattle.read_arena.specs.Readings.{Arena}
+use Rattle.read_arena.specs.NodeRules.{Arena}
 use Rattle.read_arena.specs.declared.Node.the-variants.{Pair}
 use Rattle.read_parts.proofs.Levels.{was, by, from, far, left, hand-on, then, stop, join, wrap, shut, unshut, shut-keep, unshut-keep, hand-on-keep, held-next}
 use Rattle.read_parts.proofs.Rooms.{on, room-for, bare}
 use Rattle.read_parts.proofs.Steps.{Signed, signed, below-told, more-none, more-one, onward, onward-more, onward-stop, deny-full, deny-on, paren-full, paren-on, keep-full, keep-on, kept-none, second-none, second-some, class-told, byte-inside, plain-letter, plain-digit, plain-other, plain-deny, plain-sign, plain-paren, plain-bracket, since-inside, until-inside, word-since, word-until, word-name, remaining, rank, rank-most}
-use Rattle.read_parts.specs.Grammar.{timedPart, level, below, plain}
+use Rattle.read_parts.specs.FormulaText.{timedPart, level, below, plainPart}
 use Rattle.read_parts.specs.Parsed.Parses.{refuses}
 use Rattle.read_bytes.specs.Bytes.{byte}
-use Rattle.read_names.specs.Words.{namesAt}
+use Rattle.read_names.specs.Spellings.{namesAt}
 use borrow.Author.Needs.{needs}
 use borrow.Author.Tests.{not-true}
 use denote.Ref.{now}
@@ -560,7 +560,7 @@ module _ (t : ℕ) where
       let w = far (at-below-part .below-part .ensures) (at-r .r .given .1) in
       λ n x f l he hs. by (more-one _ _ _ n f _ (sign .stands) (omega arith) l)
       (join _ _ (args .sign) f (onward (opOf (args .sign)) _ _ (n - 1)) (asked .some) (omega arith) (asked .ready .arena) he hs (was (by (ap (below (opOf (args .sign)) _ _) (omega (arith, sign .long))) (at-below-part .below-part .ensures)) (at-r .r .given .1)) (room-for (asked .ready) _ 1 (omega arith) (search needs)) (at-put-node .put-node .ensures)
-      (λ z hz hs′ ar. by (onward-stop (opOf (args .sign)) (below (opOf (args .sign)) (plain (args .depth) (namesAt (now (args .s)) (now (args .names))) (now (args .s))) (now (args .s))) (now (args .s)) (n - 1) z _ (c .before .repeats .ensures) (c .if2 .left)) (stop (w .inside) ar hz hs′)))
+      (λ z hz hs′ ar. by (onward-stop (opOf (args .sign)) (below (opOf (args .sign)) (plainPart (args .depth) (namesAt (now (args .s)) (now (args .names))) (now (args .s))) (now (args .s))) (now (args .s)) (n - 1) z _ (c .before .repeats .ensures) (c .if2 .left)) (stop (w .inside) ar hz hs′)))
 
   paren-returns : paren-lts.Need-returns paren-calls paren-at paren.Post
   paren-returns c = refuses (paren-full _ _ _ _ (c .if1 .taken))

@@ -7,24 +7,24 @@ use Rattle.read_bytes.proofs.Runs.{end-reach}
 use Rattle.read_names.proofs.find_name.Statement.{statement}
 use Rattle.read_names.proofs.find_name.Tie as tie
 
-word-end-requires : tie.Need-word-end-requires
-word-end-requires c κs = search needs
+spelling-end-requires : tie.Need-spelling-end-requires
+spelling-end-requires c κs = search needs
 
 sub-n : tie.Need-sub-n
 sub-n c =
     let w = end-reach nameByte (now (c .before .before .before .before .args .r)) (c .before .before .before .before .args .at) (omega arith) in
-    omega (arith, w .ahead, c .word-end .ensures)
+    omega (arith, w .ahead, c .spelling-end .ensures)
 
 find-quick-requires : tie.Need-find-quick-requires
 find-quick-requires c κs =
     let w = end-reach nameByte (now (c .before .before .before .before .before .before .args .r)) (c .before .before .before .before .before .before .args .at) (omega arith) in
-    record { some = omega arith; ends = c .before .before .word-end .ensures; inside = omega (arith, w .inside, c .before .before .word-end .ensures); fits = omega arith }
+    record { some = omega arith; ends = c .before .before .spelling-end .ensures; inside = omega (arith, w .inside, c .before .before .spelling-end .ensures); fits = omega arith }
 
 returns : tie.Need-returns
 returns c = search needs
 
-find-plain-requires : tie.Need-find-plain-requires
-find-plain-requires c κs = search needs
+find-whole-requires : tie.Need-find-whole-requires
+find-whole-requires c κs = search needs
 
 returns-2 : tie.Need-returns-2
 returns-2 c = search needs
@@ -32,4 +32,4 @@ returns-2 c = search needs
 pub find-name-spec : {M : Type 1} → statement M
 find-name-spec =
     tie.close
-    (tie.spec word-end-requires sub-n find-quick-requires returns find-plain-requires returns-2)
+    (tie.spec spelling-end-requires sub-n find-quick-requires returns find-whole-requires returns-2)

@@ -7,17 +7,17 @@ use mathlib.Core.List.{List}
 use Prim.Native.Nat.{ℕ, _+_, _-_}
 use denote.Ref.{now}
 use lib.ListN.{length, take, drop, length-drop}
-use Rattle.read_names.specs.Words.{wordAt, namesAt, findName}
+use Rattle.read_names.specs.Spellings.{spellingAt, namesAt, findName}
 use Rattle.read_names.proofs.Names.{cut-long, cut-same, cut-other, search-end, search-here, search-on}
 use Rattle.read_names.proofs.find_quick.Statement.{statement}
 use Rattle.read_names.proofs.find_quick.Tie as tie
 
--- The word's bytes.
+-- The spelling's bytes.
 abbrev cut : List ℕ → ℕ → ℕ → List ℕ
 cut r at e = take (e - at) (drop at r)
 
 abbrev Inv-loop : tie.InvT-loop
-Inv-loop s names r at e w before last lasts i₀ i = findName (wordAt r at) (namesAt s names) ≡ i + findName (wordAt r at) (namesAt s (drop i names))
+Inv-loop s names r at e w before last lasts i₀ i = findName (spellingAt r at) (namesAt s names) ≡ i + findName (spellingAt r at) (namesAt s (drop i names))
 
 abbrev μ-loop : tie.MeasureT-loop
 μ-loop s names r at e w before last lasts i₀ i = length names - i
@@ -58,15 +58,15 @@ shared-slice-read-a c = search needs
 shared-slice-read-if2 : tie.Need-shared-slice-read-if2 Inv-loop μ-loop
 shared-slice-read-if2 c = search needs
 
-word-stands-requires : tie.Need-word-stands-requires Inv-loop μ-loop
-word-stands-requires c κs =
+spelled-inside-requires : tie.Need-spelled-inside-requires Inv-loop μ-loop
+spelled-inside-requires c κs =
     let a = c .before .before .before .before .before .before .before .before .before .before .before .before .args in
     let n = cut-long (now (a .r)) (a .at) (a .e) (c .before .before .before .before .before .before .before .before .before .before .before .before .pre .ends) in
     omega (arith, length-drop (length (cut (now (a .r)) (a .at) (a .e)) - 1) (now (a .s)))
 
 returns : tie.Need-returns Inv-loop μ-loop
 returns c =
-    sym (c .before .before .before .before .before .before .before .loop .inv ∙ search-here _ _ _ _ (omega arith) (sym (cut-same _ _ _ (c .before .before .before .before .before .before .before .before .before .before .before .before .before .before .pre .ends) _ _) ∙ sym (c .before .word-stands .ensures) ∙ c .if3 .taken))
+    sym (c .before .before .before .before .before .before .before .loop .inv ∙ search-here _ _ _ _ (omega arith) (sym (cut-same _ _ _ (c .before .before .before .before .before .before .before .before .before .before .before .before .before .before .pre .ends) _ _) ∙ sym (c .before .spelled-inside .ensures) ∙ c .if3 .taken))
 
 add-i : tie.Need-add-i Inv-loop μ-loop
 add-i c = search needs
@@ -110,7 +110,7 @@ find-quick-spec =
     mul-a
     shared-slice-read-a
     shared-slice-read-if2
-    word-stands-requires
+    spelled-inside-requires
     returns
     add-i
     loop-less

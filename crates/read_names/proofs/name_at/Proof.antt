@@ -13,36 +13,36 @@ use Rattle.read_names.proofs.name_at.Tie as tie
 byte-at-requires : tie.Need-byte-at-requires
 byte-at-requires c κs = search needs
 
-word-end-requires : tie.Need-word-end-requires
-word-end-requires c κs = search needs
+spelling-end-requires : tie.Need-spelling-end-requires
+spelling-end-requires c κs = search needs
 
 sub-if3 : tie.Need-sub-if3
 sub-if3 c =
     let a = c .before .before .before .before .before .args in
     let w = end-reach nameByte (now (a .s)) (a .at) (omega arith) in
-    omega (arith, w .ahead, c .word-end .ensures)
+    omega (arith, w .ahead, c .spelling-end .ensures)
 
 is-since-requires : tie.Need-is-since-requires
 is-since-requires c κs = search needs
 
 returns : tie.Need-returns
 returns c =
-    name-since _ _ _ (c .before .before .before .before .before .before .byte-at .ensures) _ (c .before .before .before .word-end .ensures) (omega arith) (omega arith) (c .before .before .if3 .taken) (sym (c .before .is-since .ensures) ∙ c .if4 .taken)
+    name-since _ _ _ (c .before .before .before .before .before .before .byte-at .ensures) _ (c .before .before .before .spelling-end .ensures) (omega arith) (omega arith) (c .before .before .if3 .taken) (sym (c .before .is-since .ensures) ∙ c .if4 .taken)
 
 is-until-requires : tie.Need-is-until-requires
 is-until-requires c κs = search needs
 
 returns-2 : tie.Need-returns-2
 returns-2 c =
-    name-until _ _ _ (c .before .before .before .before .before .before .before .before .byte-at .ensures) _ (c .before .before .before .before .before .word-end .ensures) (omega arith) (omega arith) (c .before .before .before .before .if3 .taken) (sym (c .before .before .before .is-since .ensures) ∙ c .before .before .if4 .left) (sym (c .before .is-until .ensures) ∙ c .if5 .taken)
+    name-until _ _ _ (c .before .before .before .before .before .before .before .before .byte-at .ensures) _ (c .before .before .before .before .before .spelling-end .ensures) (omega arith) (omega arith) (c .before .before .before .before .if3 .taken) (sym (c .before .before .before .is-since .ensures) ∙ c .before .before .if4 .left) (sym (c .before .is-until .ensures) ∙ c .if5 .taken)
 
 returns-3 : tie.Need-returns-3
 returns-3 c =
-    name-is _ _ _ (c .before .before .before .before .before .before .before .before .byte-at .ensures) _ (c .before .before .before .before .before .word-end .ensures) (omega arith) (omega arith) (c .before .before .before .before .if3 .taken) (sym (c .before .before .before .is-since .ensures) ∙ c .before .before .if4 .left) (sym (c .before .is-until .ensures) ∙ c .if5 .left)
+    name-is _ _ _ (c .before .before .before .before .before .before .before .before .byte-at .ensures) _ (c .before .before .before .before .before .spelling-end .ensures) (omega arith) (omega arith) (c .before .before .before .before .if3 .taken) (sym (c .before .before .before .is-since .ensures) ∙ c .before .before .if4 .left) (sym (c .before .is-until .ensures) ∙ c .if5 .left)
 
 returns-4 : tie.Need-returns-4
 returns-4 c =
-    name-long _ _ _ (c .before .before .before .before .byte-at .ensures) _ (c .before .word-end .ensures) (omega arith) (omega arith) (c .if3 .left)
+    name-long _ _ _ (c .before .before .before .before .byte-at .ensures) _ (c .before .spelling-end .ensures) (omega arith) (omega arith) (c .if3 .left)
 
 returns-5 : tie.Need-returns-5
 returns-5 c =
@@ -57,7 +57,7 @@ name-at-spec =
     tie.close
     (tie.spec
     byte-at-requires
-    word-end-requires
+    spelling-end-requires
     sub-if3
     is-since-requires
     returns

@@ -10,8 +10,8 @@ Inv-loop cases at end v₀ p₀ v p = at ≤ p
 abbrev μ-loop : tie.MeasureT-loop
 μ-loop cases at end v₀ p₀ v p = end - p
 
-word-end-requires : tie.Need-word-end-requires Inv-loop μ-loop
-word-end-requires c κs = search needs
+spelling-end-requires : tie.Need-spelling-end-requires Inv-loop μ-loop
+spelling-end-requires c κs = search needs
 
 loop-holds : tie.Need-loop-holds Inv-loop μ-loop
 loop-holds c = search needs
@@ -40,7 +40,7 @@ decimal-at-spec =
     (tie.spec
     Inv-loop
     μ-loop
-    word-end-requires
+    spelling-end-requires
     loop-holds
     byte-at-requires
     with-digit-requires

@@ -1,4 +1,4 @@
--- `write_word` meets its contract: the word is cut out of the text. Assumes nothing.
+-- `write_word` meets its contract: the spelling is cut out of the text. Assumes nothing.
 use borrow.Author.Needs.{needs}
 use native.Mathlib.Omega.{arith}
 use mathlib.Core.Path.{sym}
@@ -9,26 +9,26 @@ use Rattle.write_bytes.proofs.Writing.{nothing, like, counted-like}
 use Rattle.write_lines.proofs.write_word.Statement.{statement}
 use Rattle.write_lines.proofs.write_word.Tie as tie
 
-word-end-requires : tie.Need-word-end-requires
-word-end-requires c κs = search needs
+spelling-end-requires : tie.Need-spelling-end-requires
+spelling-end-requires c κs = search needs
 
 sub-push-text : tie.Need-sub-push-text
-sub-push-text c = let w = end-reach nameByte (now (c .before .before .before .before .args .s)) (c .before .before .before .before .args .at) (omega arith) in omega (arith, w .ahead, w .inside, c .word-end .ensures)
+sub-push-text c = let w = end-reach nameByte (now (c .before .before .before .before .args .s)) (c .before .before .before .before .args .at) (omega arith) in omega (arith, w .ahead, w .inside, c .spelling-end .ensures)
 
 part-push-text-start : tie.Need-part-push-text-start
-part-push-text-start c = let w = end-reach nameByte (now (c .before .before .before .before .args .s)) (c .before .before .before .before .args .at) (omega arith) in omega (arith, w .ahead, w .inside, c .word-end .ensures)
+part-push-text-start c = let w = end-reach nameByte (now (c .before .before .before .before .args .s)) (c .before .before .before .before .args .at) (omega arith) in omega (arith, w .ahead, w .inside, c .spelling-end .ensures)
 
 part-push-text-end : tie.Need-part-push-text-end
-part-push-text-end c = let w = end-reach nameByte (now (c .before .before .before .before .args .s)) (c .before .before .before .before .args .at) (omega arith) in omega (arith, w .ahead, w .inside, c .word-end .ensures)
+part-push-text-end c = let w = end-reach nameByte (now (c .before .before .before .before .args .s)) (c .before .before .before .before .args .at) (omega arith) in omega (arith, w .ahead, w .inside, c .spelling-end .ensures)
 
 push-text-requires : tie.Need-push-text-requires
-push-text-requires c κs = counted-like (c .before .before .before .before .before .before .pre) (sym (run-slice nameByte _ _ _ (c .before .before .word-end .ensures)))
+push-text-requires c κs = counted-like (c .before .before .before .before .before .before .pre) (sym (run-slice nameByte _ _ _ (c .before .before .spelling-end .ensures)))
 
 same-length : tie.Need-same-length
 same-length c = search needs
 
 returns : tie.Need-returns
-returns c = like (sym (run-slice nameByte _ _ _ (c .before .before .before .before .before .word-end .ensures))) (c .before .before .push-text .ensures)
+returns c = like (sym (run-slice nameByte _ _ _ (c .before .before .before .before .before .spelling-end .ensures))) (c .before .before .push-text .ensures)
 
 returns-2 : tie.Need-returns-2
 returns-2 c = like (run-past nameByte _ _ (c .if1 .left)) nothing
@@ -37,7 +37,7 @@ pub write-word-spec : {M : Type 1} → statement M
 write-word-spec =
     tie.close
     (tie.spec
-    word-end-requires
+    spelling-end-requires
     sub-push-text
     part-push-text-start
     part-push-text-end

@@ -6,7 +6,7 @@ use mathlib.Core.List.{List}
 use lib.ListN.{length}
 use Rattle.spec_limits.specs.Limits.{mostRuleBytes, arenaNumbers}
 use Rattle.read_bytes.proofs.Places.{Reach}
-use Rattle.read_sheet.specs.Reading.{Ready}
+use Rattle.read_sheet.specs.RuleAnswers.{LineReady}
 use Rattle.lower_lines.specs.InTurn.{Legible}
 use Rattle.read_head.proofs.Signals.{up-to}
 use Rattle.read_sheet.proofs.Ruled.{rule-past}
@@ -16,7 +16,7 @@ use Rattle.bench_operations.proofs.reading.read_lines.Statement.{statem
 use Rattle.bench_operations.proofs.reading.read_lines.Tie as tie
 
 -- The next line can be read.
-line-ready : {s places : List ℕ} {m first i p x : ℕ} (a : List ℕ) → Legible s places m first → Reach s first p → i < m → x ≤ length places + mostRuleBytes * i → length a ≡ arenaNumbers → Ready s a places p x
+line-ready : {s places : List ℕ} {m first i p x : ℕ} (a : List ℕ) → Legible s places m first → Reach s first p → i < m → x ≤ length places + mostRuleBytes * i → length a ≡ arenaNumbers → LineReady s a places p x
 line-ready {places = places} a g z l r e = record {
   within = z .inside;
   before = up-to (z .ahead) places (g .before);

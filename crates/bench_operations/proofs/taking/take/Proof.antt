@@ -3,7 +3,7 @@ use native.Mathlib.Omega.{arith}
 use mathlib.Core.Path.{refl}
 use lib.ListN.{length-take}
 use Rattle.open_sheet.proofs.Buffers.{fresh}
-use Rattle.open_table.proofs.Tables.{when-hand}
+use Rattle.open_table.proofs.Tables.{when-opened}
 use Rattle.spec_operations.proofs.Opened.{some-window, signals-few, signals-fit}
 use borrow.Author.Needs.{needs}
 use Rattle.bench_operations.proofs.taking.take.Statement.{statement}
@@ -25,14 +25,14 @@ enum-known-o : tie.Need-enum-known-o
 enum-known-o c = search needs
 
 array-share-prefix-places : tie.Need-array-share-prefix-places
-array-share-prefix-places c = let h = when-hand (c .before .before .before .before .before .before .open-table .ensures) (c .before .o .given .1) in omega (arith, h .0)
+array-share-prefix-places c = let h = when-opened (c .before .before .before .before .before .before .open-table .ensures) (c .before .o .given .1) in omega (arith, h .0)
 
 slice-aggregate-take-opened : tie.Need-slice-aggregate-take-opened
-slice-aggregate-take-opened c = let h = when-hand (c .before .before .before .before .before .before .before .open-table .ensures) (c .before .before .o .given .1) in simp length-take (omega (arith, h .0))
+slice-aggregate-take-opened c = let h = when-opened (c .before .before .before .before .before .before .before .open-table .ensures) (c .before .before .o .given .1) in simp length-take (omega (arith, h .0))
 
 take-opened-requires : tie.Need-take-opened-requires
 take-opened-requires c κs =
-    let h = when-hand (c .before .before .before .before .before .before .before .before .open-table .ensures) (c .before .before .before .o .given .1) .1 in
+    let h = when-opened (c .before .before .before .before .before .before .before .before .open-table .ensures) (c .before .before .before .o .given .1) .1 in
     (some-window h _ refl .0, some-window h _ refl .1, signals-few h _ refl .0, signals-fit h _ refl .0)
 
 enum-known-o-2 : tie.Need-enum-known-o-2

@@ -3,7 +3,7 @@ use borrow.Author.Needs.{needs}
 use native.Mathlib.Omega.{arith}
 use Rattle.spec_limits.specs.Limits.{mostRows}
 use Rattle.close_parents.proofs.Linking.{no-lists}
-use Rattle.close_list.proofs.Noting.{roomy-as}
+use Rattle.close_list.proofs.Queueing.{roomy-as}
 use Rattle.close_table.proofs.rounds.close.Statement.{statement}
 use Rattle.close_table.proofs.rounds.close.Tie as tie
 

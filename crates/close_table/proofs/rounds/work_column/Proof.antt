@@ -3,14 +3,14 @@ use native.Mathlib.Omega.{arith}
 use mathlib.Core.Path.{_≡_}
 use Prim.Native.Nat.{_-_, _≤_}
 use Rattle.close_list.specs.Items.{per}
-use Rattle.close_word.specs.Stretches.{Works}
+use Rattle.close_word.specs.VisitSeries.{WorksList}
 use Rattle.close_word.proofs.Working.{works-workable}
 use Rattle.close_table.proofs.Turning.{Turned, turned-none, turned-more, turned-all, turn-below}
 use Rattle.close_table.proofs.rounds.work_column.Statement.{statement}
 use Rattle.close_table.proofs.rounds.work_column.Tie as tie
 
 abbrev Inv-loop : tie.InvT-loop
-Inv-loop up rows count q n window heads nexts todo₀ marks₀ stride i₀ todo marks i = (i ≤ per count) × Works count rows window n (Turned count rows window n up q i) marks₀ marks todo₀ todo
+Inv-loop up rows count q n window heads nexts todo₀ marks₀ stride i₀ todo marks i = (i ≤ per count) × WorksList count rows window n (Turned count rows window n up q i) marks₀ marks todo₀ todo
 
 abbrev μ-loop : tie.MeasureT-loop
 μ-loop up rows count q n window heads nexts todo₀ marks₀ stride i₀ todo marks i = per count - i

@@ -4,7 +4,7 @@ use mathlib.Core.Path.{_≡_, refl, _∙_}
 use Prim.Native.Nat.{_+_}
 use lib.ListN.{length}
 use Rattle.spec_ticks.specs.Ticks.{Small}
-use Rattle.table_words.specs.Gains.{room}
+use Rattle.table_words.specs.WordTicks.{room}
 use Rattle.close_table.proofs.Finishing.{another, Toward, toward-start, toward-workable, toward-more, toward-less, toward-end}
 use Rattle.close_table.proofs.rounds.work_off.Statement.{statement}
 use Rattle.close_table.proofs.rounds.work_off.Tie as tie

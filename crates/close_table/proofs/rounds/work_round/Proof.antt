@@ -2,7 +2,7 @@
 use native.Mathlib.Omega.{arith}
 use mathlib.Core.Path.{_≡_}
 use Prim.Native.Nat.{_-_, _≤_}
-use Rattle.close_word.specs.Stretches.{Works}
+use Rattle.close_word.specs.VisitSeries.{WorksList}
 use Rattle.close_word.proofs.Working.{works-workable}
 use Rattle.close_table.specs.Rounds.{InColumns}
 use Rattle.close_table.proofs.Turning.{columns-none, columns-more}
@@ -10,7 +10,7 @@ use Rattle.close_table.proofs.rounds.work_round.Statement.{statement}
 use Rattle.close_table.proofs.rounds.work_round.Tie as tie
 
 abbrev Inv-loop : tie.InvT-loop
-Inv-loop up rows count n window heads nexts todo₀ marks₀ q₀ todo marks q = (q ≤ n) × Works count rows window n (InColumns count q) marks₀ marks todo₀ todo
+Inv-loop up rows count n window heads nexts todo₀ marks₀ q₀ todo marks q = (q ≤ n) × WorksList count rows window n (InColumns count q) marks₀ marks todo₀ todo
 
 abbrev μ-loop : tie.MeasureT-loop
 μ-loop up rows count n window heads nexts todo₀ marks₀ q₀ todo marks q = n - q

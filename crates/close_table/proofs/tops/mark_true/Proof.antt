@@ -2,15 +2,15 @@
 use native.Mathlib.Omega.{arith}
 use mathlib.Core.Path.{subst}
 use Prim.Native.Nat.{ℕ, _-_, _≤_}
-use Rattle.table_marks.specs.Puts.{Gains}
+use Rattle.table_marks.specs.Puts.{AddsMarks}
 use Rattle.close_rules.proofs.Decoding.{word-in-window}
-use Rattle.close_table.proofs.Crowning.{Until, until-none, until-more, until-all}
+use Rattle.close_table.proofs.MarkTops.{Until, until-none, until-more, until-all}
 use Rattle.close_table.proofs.tops.mark_true.Statement.{statement}
 use Rattle.close_table.proofs.tops.mark_true.Tie as tie
 
 abbrev Inv-loop : tie.InvT-loop
 Inv-loop marks₀ n row window q₀ marks q =
-    (q ≤ n) × Gains n (Until n window row q) marks₀ marks
+    (q ≤ n) × AddsMarks n (Until n window row q) marks₀ marks
 
 abbrev μ-loop : tie.MeasureT-loop
 μ-loop marks₀ n row window q₀ marks q = n - q
@@ -51,7 +51,7 @@ returns c =
     let o = c .before .before .before .pre in
     let l = c .before .loop in
     let a = c .before .before .before .args in
-    until-all _ _ _ _ _ (o .0) (subst (λ (k : ℕ). Gains (a .n) (Until (a .n) (a .window) (a .row) k) (a .marks .now) (l .marks)) (omega arith) (l .inv .1))
+    until-all _ _ _ _ _ (o .0) (subst (λ (k : ℕ). AddsMarks (a .n) (Until (a .n) (a .window) (a .row) k) (a .marks .now) (l .marks)) (omega arith) (l .inv .1))
 
 pub mark-true-spec : {M : Type 1} → statement M
 mark-true-spec =

@@ -4,7 +4,7 @@ use Prim.Native.Nat.{_-_, _≤_}
 use native.Mathlib.Omega.{arith}
 use lib.ListN.{length, length-set}
 use Rattle.spec_limits.specs.Limits.{mostOffset}
-use Rattle.lower_rows.specs.Writes.{CountsUp}
+use Rattle.lower_rows.specs.RowWrites.{CountsUp}
 use Rattle.lower_rows.proofs.Runs.{numbers-more}
 use Rattle.lower_rows.proofs.interval.offsets_from.Statement.{statement}
 use Rattle.lower_rows.proofs.interval.offsets_from.Tie as tie

@@ -6,14 +6,14 @@ use native.Mathlib.Omega.{arith}
 use lib.ListN.{length, length-set}
 use lib.Seq.{sets}
 use Rattle.spec_limits.specs.Limits.{mostRows}
-use Rattle.lower_rows.specs.Words.{word}
-use Rattle.lower_rows.specs.Writes.{gates, lastGate}
+use Rattle.lower_rows.specs.RowCodes.{rowCode}
+use Rattle.lower_rows.specs.RowWrites.{gates, lastGate}
 use Rattle.lower_rows.proofs.Runs.{run-step, run-none, run-done, run-full, gates-start, gates-next, last-next, gate-row}
 use Rattle.lower_rows.proofs.interval.write_gates.Statement.{statement}
 use Rattle.lower_rows.proofs.interval.write_gates.Tie as tie
 
 abbrev Inv-loop : tie.InvT-loop
-Inv-loop gate first n out₀ used last₀ i₀ out last i = (i ≤ n) × (length out ≡ length out₀) × (last ≤ mostRows) × (last ≡ lastGate first used i) × (out ≡ sets out₀ used (map word (gates gate first used i)))
+Inv-loop gate first n out₀ used last₀ i₀ out last i = (i ≤ n) × (length out ≡ length out₀) × (last ≤ mostRows) × (last ≡ lastGate first used i) × (out ≡ sets out₀ used (map rowCode (gates gate first used i)))
 
 abbrev μ-loop : tie.MeasureT-loop
 μ-loop gate first n out₀ used last₀ i₀ out last i = n - i
@@ -40,8 +40,8 @@ add-right-2 c = omega arith
 cast-right : tie.Need-cast-right Inv-loop μ-loop
 cast-right c = omega arith
 
-gate-word-requires : tie.Need-gate-word-requires Inv-loop μ-loop
-gate-word-requires c κs = omega arith
+gate-code-requires : tie.Need-gate-code-requires Inv-loop μ-loop
+gate-code-requires c κs = omega arith
 
 add-out : tie.Need-add-out Inv-loop μ-loop
 add-out c = omega arith
@@ -69,7 +69,7 @@ loop-again c =
       simp length-set (l .inv .1),
       omega arith,
       last-next (a .first) (a .used) (l .i),
-      rw (c .gate-word .ensures, l .inv .3, gate-row (a .gate) (lastGate (a .first) (a .used) (l .i)) (a .first) (l .i), l .inv .4)
+      rw (c .gate-code .ensures, l .inv .3, gate-row (a .gate) (lastGate (a .first) (a .used) (l .i)) (a .first) (l .i), l .inv .4)
           (run-step (gates _ _ _) _ (gates-start _ _ _) (gates-next _ _ _) _ _ _),
     )
 
@@ -102,7 +102,7 @@ write-gates-spec =
     add-right
     add-right-2
     cast-right
-    gate-word-requires
+    gate-code-requires
     add-out
     mul-out
     slice-write-out

@@ -5,14 +5,14 @@ use Prim.Native.Nat.{_-_, _≤_}
 use native.Mathlib.Omega.{arith}
 use lib.ListN.{length, getD, length-set}
 use lib.Seq.{sets}
-use Rattle.lower_rows.specs.Words.{word}
-use Rattle.lower_rows.specs.Writes.{looks}
+use Rattle.lower_rows.specs.RowCodes.{rowCode}
+use Rattle.lower_rows.specs.RowWrites.{looks}
 use Rattle.lower_rows.proofs.Runs.{run-step, run-none, run-done, run-full, looks-start, looks-next}
 use Rattle.lower_rows.proofs.interval.write_looks.Statement.{statement}
 use Rattle.lower_rows.proofs.interval.write_looks.Tie as tie
 
 abbrev Inv-loop : tie.InvT-loop
-Inv-loop child offsets n out₀ used i₀ out i = (i ≤ n) × (length out ≡ length out₀) × (out ≡ sets out₀ used (map word (looks child (getD offsets 0 0) i)))
+Inv-loop child offsets n out₀ used i₀ out i = (i ≤ n) × (length out ≡ length out₀) × (out ≡ sets out₀ used (map rowCode (looks child (getD offsets 0 0) i)))
 
 abbrev μ-loop : tie.MeasureT-loop
 μ-loop child offsets n out₀ used i₀ out i = n - i
@@ -26,14 +26,14 @@ returns c = run-full (looks _ _) _ (looks-start _ _) (looks-next _ _) _ (c .befo
 loop-holds : tie.Need-loop-holds Inv-loop μ-loop
 loop-holds c = (omega arith, refl, run-none (looks _ _) _ (looks-start _ _) (looks-next _ _) _ _)
 
-mul-look-word : tie.Need-mul-look-word Inv-loop μ-loop
-mul-look-word c = omega arith
+mul-look-code : tie.Need-mul-look-code Inv-loop μ-loop
+mul-look-code c = omega arith
 
-element-copy-out-look-word : tie.Need-element-copy-out-look-word Inv-loop μ-loop
-element-copy-out-look-word c = omega arith
+element-copy-out-look-code : tie.Need-element-copy-out-look-code Inv-loop μ-loop
+element-copy-out-look-code c = omega arith
 
-look-word-requires : tie.Need-look-word-requires Inv-loop μ-loop
-look-word-requires c κs = omega arith
+look-code-requires : tie.Need-look-code-requires Inv-loop μ-loop
+look-code-requires c κs = omega arith
 
 add-out : tie.Need-add-out Inv-loop μ-loop
 add-out c = omega arith
@@ -53,7 +53,7 @@ loop-less c = omega arith
 loop-again : tie.Need-loop-again Inv-loop μ-loop
 loop-again c =
     let l = c .before .before .before .loop in
-    (omega arith, simp length-set (l .inv .1), rw (c .look-word .ensures, l .inv .2, c .before .before .before .before .before .before .pre .1 .1 (l .i) (c .before .before .loop-test .taken)) (run-step (looks _ _) _ (looks-start _ _) (looks-next _ _) _ _ _))
+    (omega arith, simp length-set (l .inv .1), rw (c .look-code .ensures, l .inv .2, c .before .before .before .before .before .before .pre .1 .1 (l .i) (c .before .before .loop-test .taken)) (run-step (looks _ _) _ (looks-start _ _) (looks-next _ _) _ _ _))
 
 cast-row : tie.Need-cast-row Inv-loop μ-loop
 cast-row c = omega arith
@@ -79,9 +79,9 @@ write-looks-spec =
     sub-if1
     returns
     loop-holds
-    mul-look-word
-    element-copy-out-look-word
-    look-word-requires
+    mul-look-code
+    element-copy-out-look-code
+    look-code-requires
     add-out
     mul-out
     slice-write-out

@@ -1,7 +1,7 @@
 -- `name_row` meets its contract. Assumes nothing.
 use native.Mathlib.Nat.{add-zero}
-use Rattle.lower_rows.specs.Words.{packed, word}
-use Rattle.lower_rows.specs.Writes.{Lowers}
+use Rattle.lower_rows.specs.RowCodes.{packed, rowCode}
+use Rattle.lower_rows.specs.RowWrites.{Lowers}
 use Rattle.lower_rows.proofs.Runs.{nothing}
 use borrow.Author.Needs.{needs}
 use Rattle.lower_rows.proofs.words.name_row.Statement.{statement}
@@ -24,7 +24,7 @@ same-length : tie.Need-same-length
 same-length c = search needs
 
 returns-2 : tie.Need-returns-2
-unfolding Lowers word packed
+unfolding Lowers rowCode packed
 returns-2 c = rw (c .before .before .before .before .if1 .left, add-zero) (c .before .before .push-row .ensures)
 
 pub name-row-spec : {M : Type 1} → statement M

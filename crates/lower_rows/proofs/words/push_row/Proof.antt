@@ -9,7 +9,7 @@ sub-if1 : tie.Need-sub-if1
 sub-if1 c = search needs
 
 returns : tie.Need-returns
-returns c = not-stored (c .before .args .word) (c .before .args .used) (c .before .args .out .now) (omega arith)
+returns c = not-stored (c .before .args .code) (c .before .args .used) (c .before .args .out .now) (omega arith)
 
 mul-out : tie.Need-mul-out
 mul-out c = search needs
@@ -27,7 +27,7 @@ same-length : tie.Need-same-length
 same-length c = search needs
 
 returns-2 : tie.Need-returns-2
-returns-2 c = stored (c .before .args .word) (c .before .args .used) (c .before .args .out .now) (omega arith)
+returns-2 c = stored (c .before .args .code) (c .before .args .used) (c .before .args .out .now) (omega arith)
 
 pub push-row-spec : {M : Type 1} → statement M
 push-row-spec =

@@ -3,7 +3,7 @@
 use Prim.Native.Nat.{ℕ, _+_, _*_, _<_, max}
 use Rattle.read_arena.proofs.Puts.{arena-fewer}
 use Rattle.read_arena.proofs.Read.{definings-step, right-step}
-use Rattle.read_arena.specs.Readings.{definingsAt}
+use Rattle.read_arena.specs.NodeRules.{definingsAt}
 use Rattle.lower_rows.proofs.Runs.{buffer-on}
 use Rattle.lower_rule.proofs.InTurn.{went-all, all-none, all-full, all-then, rules-full, rules-then, rules-tops}
 use borrow.Author.Needs.{needs}

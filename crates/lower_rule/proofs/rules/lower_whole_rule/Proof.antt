@@ -2,9 +2,9 @@
 use mathlib.Core.Path.{sym, subst, _∙_}
 use mathlib.Core.List.{[], _∷_}
 use native.Mathlib.Omega.{arith}
-use Rattle.read_arena.specs.Readings.{formAt, definingsAt}
+use Rattle.read_arena.specs.NodeRules.{formAt, definingsAt}
 use Rattle.lower_rows.proofs.Runs.{buffer-on}
-use Rattle.lower_rule.specs.Rules.{LowersAll}
+use Rattle.lower_rule.specs.RuleRows.{LowersAll}
 use Rattle.lower_rule.proofs.InTurn.{went-all, all-full, all-then, one-alone}
 use borrow.Author.Needs.{needs}
 use Rattle.lower_rule.proofs.rules.lower_whole_rule.Statement.{statement}

@@ -3,7 +3,7 @@ use native.Mathlib.Omega.{arith}
 use mathlib.Core.Path.{_≡_, refl}
 use Prim.Native.Nat.{_-_}
 use lib.ListN.{length, length-set}
-use Rattle.lower_rows.specs.Words.{packed, word}
+use Rattle.lower_rows.specs.RowCodes.{packed, rowCode}
 use Rattle.lower_sheet.proofs.Blanking.{BlankTo, blank-one, blank-all}
 use borrow.Author.Needs.{needs}
 use Rattle.lower_sheet.proofs.whole.blank_rows.Statement.{statement}
@@ -31,7 +31,7 @@ loop-less : tie.Need-loop-less Inv-loop μ-loop
 loop-less c = search needs
 
 loop-again : tie.Need-loop-again Inv-loop μ-loop
-unfolding word packed
+unfolding rowCode packed
 loop-again c = (simp length-set (c .before .loop .inv .0), blank-one _ (c .before .loop .out) (omega (arith, c .loop-test .taken)) (c .before .loop .inv .1))
 
 same-length : tie.Need-same-length Inv-loop μ-loop

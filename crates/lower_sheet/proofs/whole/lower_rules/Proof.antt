@@ -3,8 +3,8 @@ use native.Mathlib.Omega.{arith}
 use mathlib.Core.Path.{subst, _∙_}
 use mathlib.Core.Logic.{inl}
 use Rattle.lower_lines.specs.InTurn.{RulesRead}
-use Rattle.lower_sheet.specs.Rules.Sized.{over}
-use Rattle.lower_sheet.specs.Rules.RulesStand.{stand}
+use Rattle.lower_sheet.specs.SheetRows.FitOrOver.{over}
+use Rattle.lower_sheet.specs.SheetRows.RulesStand.{stand}
 use Rattle.lower_sheet.proofs.Standing.{same-hidden, when-read, when-not-read, stands}
 use borrow.Author.Needs.{needs}
 use Rattle.lower_sheet.proofs.whole.lower_rules.Statement.{statement}

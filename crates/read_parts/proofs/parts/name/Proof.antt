@@ -20,8 +20,8 @@ put-node-requires c κs =
     let w = letter-ahead (now (start .args .s)) (start .args .at) (start .pre .letter) in
     (record { fits = omega (arith, w .ahead, w .inside); few = omega (arith, w .ahead, w .inside) }, tt)
 
-word-end-requires : tie.Need-word-end-requires
-word-end-requires c κs = search needs
+spelling-end-requires : tie.Need-spelling-end-requires
+spelling-end-requires c κs = search needs
 
 add-count : tie.Need-add-count
 add-count c = search needs
@@ -36,7 +36,7 @@ returns c =
     let at-find-name = at-if1 .before in
     let start = at-find-name .before .before .before .before in
     let w = letter-ahead (now (start .args .s)) (start .args .at) (start .pre .letter) in
-    leaf _ _ _ _ (name-found _ _ _ _ (at-find-name .find-name .ensures) (at-if1 .if1 .taken) (c .word-end .ensures)) (omega (arith, w .ahead, c .word-end .ensures)) (omega (arith, w .inside, c .word-end .ensures)) (start .pre .ready .arena) (record { fits = omega (arith, w .ahead, w .inside); few = omega (arith, w .ahead, w .inside) }) (at-put-node .put-node .ensures)
+    leaf _ _ _ _ (name-found _ _ _ _ (at-find-name .find-name .ensures) (at-if1 .if1 .taken) (c .spelling-end .ensures)) (omega (arith, w .ahead, c .spelling-end .ensures)) (omega (arith, w .inside, c .spelling-end .ensures)) (start .pre .ready .arena) (record { fits = omega (arith, w .ahead, w .inside); few = omega (arith, w .ahead, w .inside) }) (at-put-node .put-node .ensures)
 
 returns-2 : tie.Need-returns-2
 returns-2 c = refuses (name-unknown _ _ _ _ (c .before .find-name .ensures) (c .if1 .left))
@@ -48,7 +48,7 @@ name-spec =
     find-name-requires
     cast-t16
     put-node-requires
-    word-end-requires
+    spelling-end-requires
     add-count
     same-length
     returns

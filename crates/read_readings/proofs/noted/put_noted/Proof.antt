@@ -5,7 +5,7 @@ use native.Mathlib.Omega.{arith}
 use Prim.Native.Nat.{_-_, _≤_}
 use Rattle.table_marks.specs.Puts.{Puts}
 use Rattle.table_marks.proofs.Marks.{puts-none, puts-same, puts-more}
-use Rattle.read_readings.specs.Noted.{marksIn, Room}
+use Rattle.read_readings.specs.MarkNumbers.{marksIn, MarkRoom}
 use Rattle.read_readings.proofs.Numbers.{marks-next, marks-all}
 use Rattle.read_readings.proofs.noted.put_noted.Statement.{statement}
 use Rattle.read_readings.proofs.noted.put_noted.Tie as tie
@@ -34,7 +34,7 @@ cast-w c = omega (arith, c .shared-slice-known2 .given (c .before .before .loop 
 
 put-mark-requires : tie.Need-put-mark-requires Inv-loop μ-loop
 put-mark-requires c κs =
-    let m = marks-all (Room _ _) _ _ _ (c .before .before .loop-test .taken) (c .before .before .before .before .before .before .pre .0) (c .before .before .before .before .before .before .pre .1) in
+    let m = marks-all (MarkRoom _ _) _ _ _ (c .before .before .loop-test .taken) (c .before .before .before .before .before .before .pre .0) (c .before .before .before .before .before .before .pre .1) in
     (m .0, omega (arith, m .1, c .before .before .before .loop .inv .1 .size))
 
 add-i : tie.Need-add-i Inv-loop μ-loop

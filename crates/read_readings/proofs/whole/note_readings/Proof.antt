@@ -5,12 +5,12 @@ use native.Mathlib.Omega.{arith}
 use mathlib.Core.Path.{_≡_, refl, sym, ap, subst, _∙_}
 use Prim.Native.Nat.{_*_, _-_, _<_, _≤_}
 use lib.ListN.{length, length-set}
-use Rattle.read_names.specs.Words.{namesAt}
+use Rattle.read_names.specs.Spellings.{namesAt}
 use Rattle.read_names.proofs.Names.{names-many}
 use Rattle.read_bytes.proofs.Answers.{answered, is-refusal}
 use Rattle.read_reading.specs.OneReading.{reading, readingOf}
-use Rattle.read_readings.specs.Noted.{marksIn, Notes}
-use Rattle.read_readings.specs.Noted.Notes.{all-noted, refused-at}
+use Rattle.read_readings.specs.MarkNumbers.{marksIn, ReadingsNoted}
+use Rattle.read_readings.specs.MarkNumbers.ReadingsNoted.{all-noted, refused-at}
 use Rattle.read_reading.proofs.Lines.{reading-past, reading-long}
 use Rattle.read_readings.proofs.Turns.{Passed, passed-none, passed-one, passed-off, passed-all, readings-long, readings-short}
 use Rattle.read_readings.proofs.Numbers.{marks-more}
@@ -63,7 +63,7 @@ returns-2 c =
     let at-if1 = at-loop .before in
     let a = answered readingOf (at-reading-at .reading-at .ensures) (c .before .enum-told .given .1) in
     let e = passed-off _ _ (at-loop .loop .inv .2) (at-loop-test .loop-test .taken) a in
-    subst (Notes _ _) (sym (c .refused-reading .ensures _ _ (ap readingOf (c .before .enum-told .given .1))))
+    subst (ReadingsNoted _ _) (sym (c .refused-reading .ensures _ _ (ap readingOf (c .before .enum-told .given .1))))
     (refused-at _ _ (readings-short _ _ _ (at-if1 .if1 .left) ∙ e))
 
 number-of-requires : tie.Need-number-of-requires Inv-loop μ-loop

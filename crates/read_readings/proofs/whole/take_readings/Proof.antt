@@ -1,6 +1,6 @@
 -- `take_readings` meets its contract. Assumes nothing.
 use borrow.Author.Needs.{needs}
-use Rattle.read_readings.specs.Taking.Took.{taken}
+use Rattle.read_readings.specs.TakeReadings.ReadingsTaken.{taken}
 use Rattle.read_readings.proofs.Outcomes.{not-taken, when-noted}
 use Rattle.read_readings.proofs.Bounds.{readings-room}
 use Rattle.read_readings.proofs.whole.take_readings.Statement.{statement}

@@ -4,8 +4,8 @@ use native.Mathlib.Omega.{arith}
 use mathlib.Core.Path.{subst, sym}
 use lib.ListN.{length-take}
 use Rattle.read_parts.specs.Parsed.{Parses}
-use Rattle.read_sheet.specs.Reading.{RuleRead}
-use Rattle.read_sheet.specs.Reading.RuleRead.{refused-at}
+use Rattle.read_sheet.specs.RuleAnswers.{RuleRead}
+use Rattle.read_sheet.specs.RuleAnswers.RuleRead.{refused-at}
 use Rattle.read_sheet.proofs.Ruled.{rule-short, rule-long, rule-ready, rule-read, rule-refused}
 use Rattle.read_sheet.proofs.rules.rule_to.Statement.{statement}
 use Rattle.read_sheet.proofs.rules.rule_to.Tie as tie

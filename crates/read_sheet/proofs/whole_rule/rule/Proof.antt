@@ -1,6 +1,6 @@
 -- `rule` meets its contract. Assumes nothing.
 use borrow.Author.Needs.{needs}
-use Rattle.read_parts.specs.Grammar.{rule}
+use Rattle.read_parts.specs.FormulaText.{rule}
 use Rattle.read_parts.proofs.Levels.{was, hand-on, whole, not-whole}
 use Rattle.read_sheet.proofs.whole_rule.rule.Statement.{statement}
 use Rattle.read_sheet.proofs.whole_rule.rule.Tie as tie

@@ -1,0 +1,59 @@
+-- Spellings, and names among them (01, "The sheet").
+-- Assumes nothing.
+use mathlib.Core.Path.{_≡_}
+use Prim.Native.Nat.{ℕ, suc, _+_, _-_, _<_, _≤_}
+use mathlib.Core.List.{List, [], _∷_}
+use mathlib.Core.Bool.{Bool, true, false, not, _&&_}
+use lib.ListN.{length}
+use lib.Dec.{leb, eqb}
+use Rattle.spec_limits.specs.Limits.{mostNameBytes}
+use Rattle.read_names.specs.declared.NameRead.{NameRead}
+use Rattle.read_names.specs.declared.NameRead.the-variants.{Name, Other}
+use Rattle.read_bytes.specs.Bytes.{bytes, peek, pick, letter, nameByte, starts, run, runAt, runEnd}
+
+-- The spelling that a text starts with: its letters and digits up to the first byte that is neither.
+abbrev pub spelling : List ℕ → List ℕ
+spelling = run nameByte
+
+-- The spelling at p.
+abbrev pub spellingAt : List ℕ → ℕ → List ℕ
+spellingAt = runAt nameByte
+
+-- The place after the spelling at p.
+abbrev pub spellingEnd : List ℕ → ℕ → ℕ
+spellingEnd = runEnd nameByte
+
+-- The names at these places of a text.
+unfoldable pub namesAt : List ℕ → List ℕ → List (List ℕ)
+namesAt s [] = []
+namesAt s (p ∷ ps) = spellingAt s p ∷ namesAt s ps
+
+-- Are two texts the same?
+unfoldable pub sameText : List ℕ → List ℕ → Bool
+sameText [] [] = true
+sameText [] (y ∷ b) = false
+sameText (x ∷ a) [] = false
+sameText (x ∷ a) (y ∷ b) = eqb x y && sameText a b
+
+-- The number, from 0, of the first name that is w; or how many names there are.
+unfoldable pub findName : List ℕ → List (List ℕ) → ℕ
+findName w [] = 0
+findName w (n ∷ ns) = pick (not (sameText n w)) (λ _. suc (findName w ns)) 0
+
+-- Is the spelling at p the spelling w?
+unfoldable pub isSpelled : List ℕ → ℕ → List ℕ → Bool
+isSpelled s p w = starts s p w && not (nameByte (peek s (p + length w)))
+
+-- A name from p on: a letter, then letters or digits, 1 to 16 in all, and neither since nor until. Or no name.
+unfoldable pub nameAt : List ℕ → ℕ → NameRead
+nameAt s p =
+    pick
+    (letter (peek s p) && leb (length (spellingAt s p)) mostNameBytes && not (isSpelled s p (bytes "since")) && not (isSpelled s p (bytes "until")))
+    (λ _. Name (spellingEnd s p)) Other
+
+-- The spelling at p of r ends at e: it is not empty, and the text s has as many bytes.
+pub record Searched (s r : List ℕ) (p e : ℕ) : Type 0 where
+  pub some : p < e
+  pub ends : e ≡ spellingEnd r p
+  pub inside : e ≤ length r
+  pub fits : e - p ≤ length s
