@@ -9,7 +9,9 @@ lay-requires : tie.Need-lay-requires
 lay-requires c κs = search needs
 
 close-with-tops-requires : tie.Need-close-with-tops-requires
-close-with-tops-requires c κs = let p = c .before .before .before .before .before .before .before .before .before .before .before .before .before .before .pre in close-asks (p .0) _ _ (record { table = omega (arith, p .1 .table); list = p .1 .list })
+close-with-tops-requires c κs =
+    let start = c .before .before .before .before .before .before .before .before .before .before .before .before .before .before in
+    let p = start .pre in close-asks (p .0) _ _ (record { table = omega (arith, p .1 .table); list = p .1 .list })
 
 same-length : tie.Need-same-length
 same-length c = search needs

@@ -25,10 +25,14 @@ array-borrow-prefix-table : tie.Need-array-borrow-prefix-table
 array-borrow-prefix-table c = search needs
 
 slice-aggregate-run-lent-2 : tie.Need-slice-aggregate-run-lent-2
-slice-aggregate-run-lent-2 c = sym (length-take-le _ _ (omega (arith, c .before .before .before .before .before .before .before .before .before .before .pre .most)))
+slice-aggregate-run-lent-2 c =
+    let start = c .before .before .before .before .before .before .before .before .before .before in
+    sym (length-take-le _ _ (omega (arith, start .pre .most)))
 
 run-lent-requires : tie.Need-run-lent-requires
-run-lent-requires c κs = (c .before .before .before .before .before .before .before .before .before .before .pre, record { table = length-take-le _ _ (omega (arith, c .before .before .before .before .before .before .before .before .before .before .pre .most)); list = refl })
+run-lent-requires c κs =
+    let start = c .before .before .before .before .before .before .before .before .before .before in
+    (start .pre, record { table = length-take-le _ _ (omega (arith, start .pre .most)); list = refl })
 
 returns : tie.Need-returns
 returns c = search needs

@@ -25,10 +25,14 @@ enum-known-o : tie.Need-enum-known-o
 enum-known-o c = search needs
 
 array-share-prefix-places : tie.Need-array-share-prefix-places
-array-share-prefix-places c = omega (arith, when-sheet (c .before .before .before .before .before .before .open-sheet .ensures) (c .before .o .given .1) .0)
+array-share-prefix-places c =
+    let at-open-sheet = c .before .before .before .before .before .before in
+    omega (arith, when-sheet (at-open-sheet .open-sheet .ensures) (c .before .o .given .1) .0)
 
 slice-aggregate-run-sheet : tie.Need-slice-aggregate-run-sheet
-slice-aggregate-run-sheet c = let h = when-sheet (c .before .before .before .before .before .before .before .open-sheet .ensures) (c .before .before .o .given .1) in simp length-take (omega (arith, h .0))
+slice-aggregate-run-sheet c =
+    let at-open-sheet = c .before .before .before .before .before .before .before in
+    let h = when-sheet (at-open-sheet .open-sheet .ensures) (c .before .before .o .given .1) in simp length-take (omega (arith, h .0))
 
 slice-aggregate-run-sheet-2 : tie.Need-slice-aggregate-run-sheet-2
 slice-aggregate-run-sheet-2 c = search needs
@@ -37,7 +41,10 @@ slice-aggregate-run-sheet-3 : tie.Need-slice-aggregate-run-sheet-3
 slice-aggregate-run-sheet-3 c = search needs
 
 run-sheet-requires : tie.Need-run-sheet-requires
-run-sheet-requires c κs = prepared (when-sheet (c .before .before .before .before .before .before .before .before .before .open-sheet .ensures) (c .before .before .before .before .o .given .1) .1)
+run-sheet-requires c κs =
+    let at-o = c .before .before .before .before in
+    let at-open-sheet = at-o .before .before .before .before .before in
+    prepared (when-sheet (at-open-sheet .open-sheet .ensures) (at-o .o .given .1) .1)
 
 enum-known-o-2 : tie.Need-enum-known-o-2
 enum-known-o-2 c = search needs

@@ -17,7 +17,9 @@ loop-holds : tie.Need-loop-holds Inv-loop μ-loop
 loop-holds c = search needs
 
 run-once-requires : tie.Need-run-once-requires Inv-loop μ-loop
-run-once-requires c κs = let p = c .before .before .before .before .before .before .before .before .before .before .before .pre in let z = c .before .before .before .loop .inv in (p .0, record { table = omega (arith, z .1, p .1 .table); list = omega (arith, z .0, p .1 .list) })
+run-once-requires c κs =
+    let start = c .before .before .before .before .before .before .before .before .before .before .before in
+    let p = start .pre in let z = c .before .before .before .loop .inv in (p .0, record { table = omega (arith, z .1, p .1 .table); list = omega (arith, z .0, p .1 .list) })
 
 add-i : tie.Need-add-i Inv-loop μ-loop
 add-i c = search needs

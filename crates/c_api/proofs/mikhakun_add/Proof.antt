@@ -27,13 +27,18 @@ same-length : tie.Need-same-length
 same-length c = search needs
 
 returns : tie.Need-returns
-returns c = (accepted (gain _ _), subst (Adds _ _ _ _) (ap addingSays (c .before .a .given .1)) (c .before .before .before .before .before .add .ensures), ap (left 0 (now (c .before .before .before .before .before .before .before .before .before .before .args .place))) (gain-written (c .before .a .given .0 .0) (c .before .a .given .0 .1 .0)))
+returns c =
+    let at-add = c .before .before .before .before .before in
+    let start = at-add .before .before .before .before .before in
+    (accepted (gain _ _), subst (Adds _ _ _ _) (ap addingSays (c .before .a .given .1)) (at-add .add .ensures), ap (left 0 (now (start .args .place))) (gain-written (c .before .a .given .0 .0) (c .before .a .given .0 .1 .0)))
 
 same-length-2 : tie.Need-same-length-2
 same-length-2 c = search needs
 
 returns-2 : tie.Need-returns-2
-returns-2 c = (refused _ _, subst (Adds _ _ _ _) (ap addingSays (c .before .a2 .given .1)) (c .before .before .before .before .before .add .ensures), refl)
+returns-2 c =
+    let at-add = c .before .before .before .before .before in
+    (refused _ _, subst (Adds _ _ _ _) (ap addingSays (c .before .a2 .given .1)) (at-add .add .ensures), refl)
 
 pub mikhakun-add-spec : {M : Type 1} → statement M
 mikhakun-add-spec =

@@ -23,7 +23,10 @@ enum-known-a-2 : tie.Need-enum-known-a-2
 enum-known-a-2 c = search needs
 
 returns : tie.Need-returns
-returns c = (accepted (valueSays (c .before .before .a .given .0 .0)), subst (Asks _ _ _ _) (ap askingSays (c .before .before .a .given .1)) (c .before .before .before .before .ask .ensures), ap (left 0 (now (c .before .before .before .before .before .before .before .args .place))) (c .number-of .ensures))
+returns c =
+    let at-ask = c .before .before .before .before in
+    let start = at-ask .before .before .before in
+    (accepted (valueSays (c .before .before .a .given .0 .0)), subst (Asks _ _ _ _) (ap askingSays (c .before .before .a .given .1)) (at-ask .ask .ensures), ap (left 0 (now (start .args .place))) (c .number-of .ensures))
 
 returns-2 : tie.Need-returns-2
 returns-2 c = (refused _ _, subst (Asks _ _ _ _) (ap askingSays (c .before .a2 .given .1)) (c .before .before .before .ask .ensures), refl)

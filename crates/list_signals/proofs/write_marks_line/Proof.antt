@@ -10,11 +10,14 @@ slice-aggregate-push-text : tie.Need-slice-aggregate-push-text
 slice-aggregate-push-text c = search needs
 
 push-text-requires : tie.Need-push-text-requires
-push-text-requires c κs = key-counted _ (c .before .before .before .before .pre .1 (λ t. Unsettled))
+push-text-requires c κs =
+    let start = c .before .before .before .before in
+    key-counted _ (start .pre .1 (λ t. Unsettled))
 
 write-signs-requires : tie.Need-write-signs-requires
 write-signs-requires c κs =
-    let given = c .before .before .before .before .before .before .before .before .pre in
+    let start = c .before .before .before .before .before .before .before .before in
+    let given = start .pre in
     (given .0, λ f. value-counted (given .1 f) (c .before .before .before .push-text .ensures))
 
 push-requires : tie.Need-push-requires
@@ -27,7 +30,10 @@ same-length : tie.Need-same-length
 same-length c = search needs
 
 returns : tie.Need-returns
-returns c = λ f a. line-written (c .before .before .before .before .before .before .before .before .before .before .push-text .ensures) (c .before .before .before .before .before .before .write-signs .ensures f a) (c .before .before .push .ensures)
+returns c =
+    let at-write-signs = c .before .before .before .before .before .before in
+    let at-push-text = at-write-signs .before .before .before .before in
+    λ f a. line-written (at-push-text .push-text .ensures) (at-write-signs .write-signs .ensures f a) (c .before .before .push .ensures)
 
 pub write-marks-line-spec : {M : Type 1} → statement M
 write-marks-line-spec =

@@ -23,7 +23,9 @@ abbrev μ-loop : tie.MeasureT-loop
 μ-loop s places window n table clash out₀ used at₀ x₀ out at x = length places - x
 
 loop-holds : tie.Need-loop-holds Inv-loop μ-loop
-loop-holds c = (refl, λ f a. left-all refl, λ f. c .before .before .before .before .pre .1 f)
+loop-holds c =
+    let start = c .before .before .before .before in
+    (refl, λ f a. left-all refl, λ f. start .pre .1 f)
 
 mul-name : tie.Need-mul-name Inv-loop μ-loop
 mul-name c = search needs
@@ -32,7 +34,9 @@ shared-slice-read-name : tie.Need-shared-slice-read-name Inv-loop μ-loop
 shared-slice-read-name c = search needs
 
 write-signal-requires : tie.Need-write-signal-requires Inv-loop μ-loop
-write-signal-requires c κs = (fewer _ _ (omega arith) (omega arith) (c .before .before .before .before .before .before .before .before .pre .0), λ f. counted-first _ (counted-like (c .before .before .before .loop .inv .2 (λ x. f)) (signals-next _ _ _ (λ x. f) _ (omega arith))))
+write-signal-requires c κs =
+    let start = c .before .before .before .before .before .before .before .before in
+    (fewer _ _ (omega arith) (omega arith) (start .pre .0), λ f. counted-first _ (counted-like (c .before .before .before .loop .inv .2 (λ x. f)) (signals-next _ _ _ (λ x. f) _ (omega arith))))
 
 add-x : tie.Need-add-x Inv-loop μ-loop
 add-x c = search needs
@@ -42,10 +46,12 @@ loop-less c = search needs
 
 loop-again : tie.Need-loop-again Inv-loop μ-loop
 loop-again c =
-    let g = answers-there (c .before .before .before .before .before .before .before .before .before .before .before .pre .0) (c .before .before .before .before .before .before .loop .x) in (
+    let at-loop = c .before .before .before .before .before .before in
+    let start = at-loop .before .before .before .before .before in
+    let g = answers-there (start .pre .0) (at-loop .loop .x) in (
       search needs,
-      λ f a. left-rest _ (c .before .before .before .before .before .before .loop .inv .1 f a) (c .before .before .write-signal .ensures (f (c .before .before .before .before .before .before .loop .x)) (a (c .before .before .before .before .before .before .loop .x) (omega arith))) (signals-next _ _ _ f _ (omega arith)),
-      λ f. signals-counted _ _ _ f _ (omega arith) (c .before .before .before .before .before .before .loop .inv .2 f) (g .0) (c .before .before .write-signal .ensures (g .0) (g .1)),
+      λ f a. left-rest _ (at-loop .loop .inv .1 f a) (c .before .before .write-signal .ensures (f (at-loop .loop .x)) (a (at-loop .loop .x) (omega arith))) (signals-next _ _ _ f _ (omega arith)),
+      λ f. signals-counted _ _ _ f _ (omega arith) (at-loop .loop .inv .2 f) (g .0) (c .before .before .write-signal .ensures (g .0) (g .1)),
     )
 
 same-length : tie.Need-same-length Inv-loop μ-loop

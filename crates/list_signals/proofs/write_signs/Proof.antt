@@ -25,7 +25,9 @@ loop-holds : tie.Need-loop-holds Inv-loop μ-loop
 loop-holds c = (refl, λ f a. left-all (signs-start f _), λ f. counted-like (c .before .before .pre .1 f) (sym (signs-start f _)))
 
 sign-at-requires : tie.Need-sign-at-requires Inv-loop μ-loop
-sign-at-requires c κs = fewer _ _ (omega arith) (omega arith) (c .before .before .before .before .pre .0)
+sign-at-requires c κs =
+    let start = c .before .before .before .before in
+    fewer _ _ (omega arith) (omega arith) (start .pre .0)
 
 push-requires : tie.Need-push-requires Inv-loop μ-loop
 push-requires c κs = sign-counted (λ t. Unsettled) _ _ (omega arith) (c .before .before .before .loop .inv .2 (λ t. Unsettled))
@@ -37,11 +39,13 @@ loop-less : tie.Need-loop-less Inv-loop μ-loop
 loop-less c = search needs
 
 loop-again : tie.Need-loop-again Inv-loop μ-loop
-loop-again c = (
-  search needs,
-  λ f a. left-rest _ (c .before .before .before .before .before .before .loop .inv .1 f a) (signed (c .before .before .before .before .sign-at .ensures (f (c .before .before .before .before .before .before .loop .t)) (a (c .before .before .before .before .before .before .loop .t) (omega arith))) (c .before .before .push .ensures)) (signs-next f _ _ (omega arith)),
-  λ f. signs-counted f _ _ (omega arith) (c .before .before .before .before .before .before .loop .inv .2 f) (c .before .before .push .ensures),
-)
+loop-again c =
+    let at-sign-at = c .before .before .before .before in
+    let at-loop = at-sign-at .before .before in (
+      search needs,
+      λ f a. left-rest _ (at-loop .loop .inv .1 f a) (signed (at-sign-at .sign-at .ensures (f (at-loop .loop .t)) (a (at-loop .loop .t) (omega arith))) (c .before .before .push .ensures)) (signs-next f _ _ (omega arith)),
+      λ f. signs-counted f _ _ (omega arith) (at-loop .loop .inv .2 f) (c .before .before .push .ensures),
+    )
 
 same-length : tie.Need-same-length Inv-loop μ-loop
 same-length c = search needs

@@ -112,11 +112,14 @@ module _ (t : ℕ) where
   join-same-length c = search needs
 
   join-returns : join-lts.Need-returns join-calls join-at join.Post
-  join-returns c = join-full _ _ _ _ _ (c .before .before .before .before .lower .ensures) _ _ (c .enum-told .given .1)
+  join-returns c =
+      let at-lower = c .before .before .before .before in
+      join-full _ _ _ _ _ (at-lower .lower .ensures) _ _ (c .enum-told .given .1)
 
   join-lower-requires-2 : join-lts.Need-lower-requires-2 join-calls join-at join.Post
   join-lower-requires-2 c κs =
-      let R = went _ _ _ _ _ (c .before .before .before .before .before .before .lower .ensures) _ _ (c .before .before .a .given .1) in
+      let at-lower = c .before .before .before .before .before .before in
+      let R = went _ _ _ _ _ (at-lower .lower .ensures) _ _ (c .before .before .a .given .1) in
       let here = c .before .before .before .before .before .before .before .before .before .before in
       (omega (arith, weight-some (formAt (here .args .arena .now) (here .args .left))), (here .pre .1 .0 .right, buffer-on (here .pre .1 .1) (R .room) (R .long)))
 
@@ -131,9 +134,12 @@ module _ (t : ℕ) where
 
   join-returns-2 : join-lts.Need-returns-2 join-calls join-at join.Post
   join-returns-2 c =
-      let first = c .before .before .before .before .before .before .before .before .before .before .before .lower .ensures in
-      let a-is = c .before .before .before .before .before .before .before .a .given .1 in
-      let second = c .before .before .before .before .lower2 .ensures in
+      let at-lower2 = c .before .before .before .before in
+      let at-a = at-lower2 .before .before .before in
+      let at-lower = at-a .before .before .before .before in
+      let first = at-lower .lower .ensures in
+      let a-is = at-a .a .given .1 in
+      let second = at-lower2 .lower2 .ensures in
       join-full-2 _ _ _ _ _ first _ _ _ _ a-is _ _ second (c .enum-told2 .given .1)
 
   join-gate-code-requires : join-lts.Need-gate-code-requires join-calls join-at join.Post
@@ -141,8 +147,11 @@ module _ (t : ℕ) where
 
   join-push-row-requires : join-lts.Need-push-row-requires join-calls join-at join.Post
   join-push-row-requires c κs =
-      let R = went _ _ _ _ _ (c .before .before .before .before .before .before .before .before .before .before .before .before .before .before .lower .ensures) _ _ (c .before .before .before .before .before .before .before .before .before .before .a .given .1) in
-      let S = went _ _ _ _ _ (c .before .before .before .before .before .before .before .lower2 .ensures) _ _ (c .before .before .before .b .given .1) in
+      let at-lower2 = c .before .before .before .before .before .before .before in
+      let at-a = at-lower2 .before .before .before in
+      let at-lower = at-a .before .before .before .before in
+      let R = went _ _ _ _ _ (at-lower .lower .ensures) _ _ (at-a .a .given .1) in
+      let S = went _ _ _ _ _ (at-lower2 .lower2 .ensures) _ _ (c .before .before .before .b .given .1) in
       record { few = omega arith; used-in = omega arith }
 
   join-same-length-3 : join-lts.Need-same-length-3 join-calls join-at join.Post
@@ -150,12 +159,17 @@ module _ (t : ℕ) where
 
   join-returns-3 : join-lts.Need-returns-3 join-calls join-at join.Post
   join-returns-3 c =
-      let first = c .before .before .before .before .before .before .before .before .before .before .before .before .before .before .before .before .before .lower .ensures in
-      let a-is = c .before .before .before .before .before .before .before .before .before .before .before .before .before .a .given .1 in
-      let second = c .before .before .before .before .before .before .before .before .before .before .lower2 .ensures in
-      let b-is = c .before .before .before .before .before .before .b .given .1 in
+      let at-gate-code = c .before .before .before .before in
+      let at-b = at-gate-code .before .before in
+      let at-lower2 = at-b .before .before .before .before in
+      let at-a = at-lower2 .before .before .before in
+      let at-lower = at-a .before .before .before .before in
+      let first = at-lower .lower .ensures in
+      let a-is = at-a .a .given .1 in
+      let second = at-lower2 .lower2 .ensures in
+      let b-is = at-b .b .given .1 in
       join-then _ _ _ _ _ first _ _ _ _ a-is _ _ second _ _ _ _ b-is
-      (rw (c .before .before .before .before .gate-code .ensures) at (c .before .before .push-row .ensures))
+      (rw (at-gate-code .gate-code .ensures) at (c .before .before .push-row .ensures))
 
   lower-node-at-requires : lower-lts.Need-node-at-requires lower-calls lower-at lower.Post
   lower-node-at-requires c κs = search needs
@@ -172,9 +186,11 @@ module _ (t : ℕ) where
   lower-lower-requires : lower-lts.Need-lower-requires lower-calls lower-at lower.Post
   unfolding weight
   lower-lower-requires c κs =
-      let given = c .before .before .before .before .before .before .before .pre .1 in
+      let at-node-at = c .before .before .before .before in
+      let start = at-node-at .before .before .before in
+      let given = start .pre .1 in
       let A = given .0 in
-      let e = sym (c .before .before .before .before .node-at .ensures) ∙ c .before .before .x .given .1 in
+      let e = sym (at-node-at .node-at .ensures) ∙ c .before .before .x .given .1 in
       let R = right-step _ _ A (omega arith) e in
       let z = ap weight (form-step _ _ A (omega arith) e) in
       (omega arith, (arena-fewer _ (omega arith) A, given .1))
@@ -185,9 +201,11 @@ module _ (t : ℕ) where
   lower-pair-requires : lower-lts.Need-pair-requires lower-calls lower-at lower.Post
   unfolding weight
   lower-pair-requires c κs =
-      let given = c .before .before .before .before .before .before .before .pre .1 in
+      let at-node-at = c .before .before .before .before in
+      let start = at-node-at .before .before .before in
+      let given = start .pre .1 in
       let A = given .0 in
-      let e = sym (c .before .before .before .before .node-at .ensures) ∙ c .before .before .sign .given .1 in
+      let e = sym (at-node-at .node-at .ensures) ∙ c .before .before .sign .given .1 in
       let R = right-step _ _ A (omega arith) e in
       let z = ap weight (form-step _ _ A (omega arith) e) in
       (omega arith, (record { left = arena-fewer _ (omega arith) A; right = arena-fewer _ (omega arith) A }, given .1))
@@ -201,9 +219,11 @@ module _ (t : ℕ) where
   lower-timed-requires : lower-lts.Need-timed-requires lower-calls lower-at lower.Post
   unfolding weight
   lower-timed-requires c κs =
-      let given = c .before .before .before .before .before .before .before .before .pre .1 in
+      let at-node-at = c .before .before .before .before .before in
+      let start = at-node-at .before .before .before in
+      let given = start .pre .1 in
       let A = given .0 in
-      let e = sym (c .before .before .before .before .before .node-at .ensures) ∙ c .before .before .before .always .given .1 in
+      let e = sym (at-node-at .node-at .ensures) ∙ c .before .before .before .always .given .1 in
       let R = right-step _ _ A (omega arith) e in
       let z = ap weight (form-step _ _ A (omega arith) e) in
       (omega arith, (arena-fewer _ (omega arith) A, (record { low = R .1; high = R .2 }, given .1)))
@@ -219,88 +239,120 @@ module _ (t : ℕ) where
 
   lower-returns : lower-lts.Need-returns lower-calls lower-at lower.Post
   lower-returns c =
-      let e = sym (c .before .before .before .before .before .before .before .node-at .ensures) ∙ c .before .before .before .before .before .row .given .1 in
-      rw (form-step _ _ (c .before .before .before .before .before .before .before .before .before .before .pre .1 .0) (omega arith) e) (c .before .before .name-row .ensures)
+      let at-row = c .before .before .before .before .before in
+      let at-node-at = at-row .before .before in
+      let start = at-node-at .before .before .before in
+      let e = sym (at-node-at .node-at .ensures) ∙ at-row .row .given .1 in
+      rw (form-step _ _ (start .pre .1 .0) (omega arith) e) (c .before .before .name-row .ensures)
 
   lower-same-length-2 : lower-lts.Need-same-length-2 lower-calls lower-at lower.Post
   lower-same-length-2 c = search needs
 
   lower-returns-2 : lower-lts.Need-returns-2 lower-calls lower-at lower.Post
   lower-returns-2 c =
-      let e = sym (c .before .before .before .before .before .before .before .node-at .ensures) ∙ c .before .before .before .before .before .x .given .1 in
-      rw (form-step _ _ (c .before .before .before .before .before .before .before .before .before .before .pre .1 .0) (omega arith) e) (c .before .before .lower .ensures)
+      let at-x = c .before .before .before .before .before in
+      let at-node-at = at-x .before .before in
+      let start = at-node-at .before .before .before in
+      let e = sym (at-node-at .node-at .ensures) ∙ at-x .x .given .1 in
+      rw (form-step _ _ (start .pre .1 .0) (omega arith) e) (c .before .before .lower .ensures)
 
   lower-same-length-3 : lower-lts.Need-same-length-3 lower-calls lower-at lower.Post
   lower-same-length-3 c = search needs
 
   lower-returns-3 : lower-lts.Need-returns-3 lower-calls lower-at lower.Post
   lower-returns-3 c =
-      let e = sym (c .before .before .before .before .before .before .before .node-at .ensures) ∙ c .before .before .before .before .before .sign .given .1 in
-      rw (form-step _ _ (c .before .before .before .before .before .before .before .before .before .before .pre .1 .0) (omega arith) e) (c .before .before .pair .ensures)
+      let at-sign = c .before .before .before .before .before in
+      let at-node-at = at-sign .before .before in
+      let start = at-node-at .before .before .before in
+      let e = sym (at-node-at .node-at .ensures) ∙ at-sign .sign .given .1 in
+      rw (form-step _ _ (start .pre .1 .0) (omega arith) e) (c .before .before .pair .ensures)
 
   lower-same-length-4 : lower-lts.Need-same-length-4 lower-calls lower-at lower.Post
   lower-same-length-4 c = search needs
 
   lower-returns-4 : lower-lts.Need-returns-4 lower-calls lower-at lower.Post
   lower-returns-4 c =
-      let e = sym (c .before .before .before .before .before .before .before .before .node-at .ensures) ∙ c .before .before .before .before .before .before .always .given .1 in
-      rw (form-step _ _ (c .before .before .before .before .before .before .before .before .before .before .before .pre .1 .0) (omega arith) e) (rw (c .before .before .before .before .turned .ensures) at (c .before .before .timed .ensures))
+      let at-turned = c .before .before .before .before in
+      let at-always = at-turned .before .before in
+      let at-node-at = at-always .before .before in
+      let start = at-node-at .before .before .before in
+      let e = sym (at-node-at .node-at .ensures) ∙ at-always .always .given .1 in
+      rw (form-step _ _ (start .pre .1 .0) (omega arith) e) (rw (at-turned .turned .ensures) at (c .before .before .timed .ensures))
 
   lower-same-length-5 : lower-lts.Need-same-length-5 lower-calls lower-at lower.Post
   lower-same-length-5 c = search needs
 
   lower-returns-5 : lower-lts.Need-returns-5 lower-calls lower-at lower.Post
   lower-returns-5 c =
-      let e = sym (c .before .before .before .before .before .before .before .node-at .ensures) ∙ c .before .before .before .before .before .row2 .given .1 in
-      rw (form-step _ _ (c .before .before .before .before .before .before .before .before .before .before .pre .1 .0) (omega arith) e) (c .before .before .name-row2 .ensures)
+      let at-row2 = c .before .before .before .before .before in
+      let at-node-at = at-row2 .before .before in
+      let start = at-node-at .before .before .before in
+      let e = sym (at-node-at .node-at .ensures) ∙ at-row2 .row2 .given .1 in
+      rw (form-step _ _ (start .pre .1 .0) (omega arith) e) (c .before .before .name-row2 .ensures)
 
   pair-enum-told : pair-lts.Need-enum-told pair-calls pair-at pair.Post
   pair-enum-told c = search needs
 
   pair-join-requires : pair-lts.Need-join-requires pair-calls pair-at pair.Post
-  pair-join-requires c κs = (omega arith, c .before .before .before .before .before .pre .1)
+  pair-join-requires c κs =
+      let start = c .before .before .before .before .before in
+      (omega arith, start .pre .1)
 
   pair-enum-told-2 : pair-lts.Need-enum-told-2 pair-calls pair-at pair.Post
   pair-enum-told-2 c = search needs
 
   pair-join-requires-2 : pair-lts.Need-join-requires-2 pair-calls pair-at pair.Post
-  pair-join-requires-2 c κs = (omega arith, c .before .before .before .before .before .pre .1)
+  pair-join-requires-2 c κs =
+      let start = c .before .before .before .before .before in
+      (omega arith, start .pre .1)
 
   pair-enum-told-3 : pair-lts.Need-enum-told-3 pair-calls pair-at pair.Post
   pair-enum-told-3 c = search needs
 
   pair-join-requires-3 : pair-lts.Need-join-requires-3 pair-calls pair-at pair.Post
-  pair-join-requires-3 c κs = (omega arith, c .before .before .before .before .before .pre .1)
+  pair-join-requires-3 c κs =
+      let start = c .before .before .before .before .before in
+      (omega arith, start .pre .1)
 
   pair-enum-told-4 : pair-lts.Need-enum-told-4 pair-calls pair-at pair.Post
   pair-enum-told-4 c = search needs
 
   pair-same-requires : pair-lts.Need-same-requires pair-calls pair-at pair.Post
-  pair-same-requires c κs = (omega arith, c .before .before .before .before .before .pre .1)
+  pair-same-requires c κs =
+      let start = c .before .before .before .before .before in
+      (omega arith, start .pre .1)
 
   pair-same-length : pair-lts.Need-same-length pair-calls pair-at pair.Post
   pair-same-length c = search needs
 
   pair-returns : pair-lts.Need-returns pair-calls pair-at pair.Post
-  pair-returns c = rw (c .before .before .before .before .enum-told .given .1) (c .before .before .join .ensures)
+  pair-returns c =
+      let at-enum-told = c .before .before .before .before in
+      rw (at-enum-told .enum-told .given .1) (c .before .before .join .ensures)
 
   pair-same-length-2 : pair-lts.Need-same-length-2 pair-calls pair-at pair.Post
   pair-same-length-2 c = search needs
 
   pair-returns-2 : pair-lts.Need-returns-2 pair-calls pair-at pair.Post
-  pair-returns-2 c = rw (c .before .before .before .before .enum-told2 .given .1) (c .before .before .join2 .ensures)
+  pair-returns-2 c =
+      let at-enum-told2 = c .before .before .before .before in
+      rw (at-enum-told2 .enum-told2 .given .1) (c .before .before .join2 .ensures)
 
   pair-same-length-3 : pair-lts.Need-same-length-3 pair-calls pair-at pair.Post
   pair-same-length-3 c = search needs
 
   pair-returns-3 : pair-lts.Need-returns-3 pair-calls pair-at pair.Post
-  pair-returns-3 c = rw (c .before .before .before .before .enum-told3 .given .1) (c .before .before .join3 .ensures)
+  pair-returns-3 c =
+      let at-enum-told3 = c .before .before .before .before in
+      rw (at-enum-told3 .enum-told3 .given .1) (c .before .before .join3 .ensures)
 
   pair-same-length-4 : pair-lts.Need-same-length-4 pair-calls pair-at pair.Post
   pair-same-length-4 c = search needs
 
   pair-returns-4 : pair-lts.Need-returns-4 pair-calls pair-at pair.Post
-  pair-returns-4 c = rw (c .before .before .before .before .enum-told4 .given .1) (c .before .before .same .ensures)
+  pair-returns-4 c =
+      let at-enum-told4 = c .before .before .before .before in
+      rw (at-enum-told4 .enum-told4 .given .1) (c .before .before .same .ensures)
 
   same-join-requires : same-lts.Need-join-requires same-calls same-at same.Post
   same-join-requires c κs = (omega arith, c .before .before .before .pre .1)
@@ -315,12 +367,16 @@ module _ (t : ℕ) where
   same-same-length c = search needs
 
   same-returns : same-lts.Need-returns same-calls same-at same.Post
-  same-returns c = join-full _ _ _ _ _ (c .before .before .before .before .join .ensures) _ _ (c .enum-told .given .1)
+  same-returns c =
+      let at-join = c .before .before .before .before in
+      join-full _ _ _ _ _ (at-join .join .ensures) _ _ (c .enum-told .given .1)
 
   same-join-requires-2 : same-lts.Need-join-requires-2 same-calls same-at same.Post
   same-join-requires-2 c κs =
-      let R = went _ _ _ _ _ (c .before .before .before .before .before .before .join .ensures) _ _ (c .before .before .a .given .1) in
-      let given = c .before .before .before .before .before .before .before .before .before .before .pre .1 in
+      let at-join = c .before .before .before .before .before .before in
+      let start = at-join .before .before .before .before in
+      let R = went _ _ _ _ _ (at-join .join .ensures) _ _ (c .before .before .a .given .1) in
+      let given = start .pre .1 in
       (omega arith, (record { left = given .0 .right; right = given .0 .left }, buffer-on (given .1) (R .room) (R .long)))
 
   same-enum-known-b : same-lts.Need-enum-known-b same-calls same-at same.Post
@@ -334,9 +390,12 @@ module _ (t : ℕ) where
 
   same-returns-2 : same-lts.Need-returns-2 same-calls same-at same.Post
   same-returns-2 c =
-      let first = c .before .before .before .before .before .before .before .before .before .before .before .join .ensures in
-      let a-is = c .before .before .before .before .before .before .before .a .given .1 in
-      let second = c .before .before .before .before .join2 .ensures in
+      let at-join2 = c .before .before .before .before in
+      let at-a = at-join2 .before .before .before in
+      let at-join = at-a .before .before .before .before in
+      let first = at-join .join .ensures in
+      let a-is = at-a .a .given .1 in
+      let second = at-join2 .join2 .ensures in
       join-full-2 _ _ _ _ _ first _ _ _ _ a-is _ _ second (c .enum-told2 .given .1)
 
   same-gate-code-requires : same-lts.Need-gate-code-requires same-calls same-at same.Post
@@ -344,8 +403,11 @@ module _ (t : ℕ) where
 
   same-push-row-requires : same-lts.Need-push-row-requires same-calls same-at same.Post
   same-push-row-requires c κs =
-      let R = went _ _ _ _ _ (c .before .before .before .before .before .before .before .before .before .before .before .before .before .before .join .ensures) _ _ (c .before .before .before .before .before .before .before .before .before .before .a .given .1) in
-      let S = went _ _ _ _ _ (c .before .before .before .before .before .before .before .join2 .ensures) _ _ (c .before .before .before .b .given .1) in
+      let at-join2 = c .before .before .before .before .before .before .before in
+      let at-a = at-join2 .before .before .before in
+      let at-join = at-a .before .before .before .before in
+      let R = went _ _ _ _ _ (at-join .join .ensures) _ _ (at-a .a .given .1) in
+      let S = went _ _ _ _ _ (at-join2 .join2 .ensures) _ _ (c .before .before .before .b .given .1) in
       record { few = omega arith; used-in = omega arith }
 
   same-same-length-3 : same-lts.Need-same-length-3 same-calls same-at same.Post
@@ -353,12 +415,17 @@ module _ (t : ℕ) where
 
   same-returns-3 : same-lts.Need-returns-3 same-calls same-at same.Post
   same-returns-3 c =
-      let first = c .before .before .before .before .before .before .before .before .before .before .before .before .before .before .before .before .before .join .ensures in
-      let a-is = c .before .before .before .before .before .before .before .before .before .before .before .before .before .a .given .1 in
-      let second = c .before .before .before .before .before .before .before .before .before .before .join2 .ensures in
-      let b-is = c .before .before .before .before .before .before .b .given .1 in
+      let at-gate-code = c .before .before .before .before in
+      let at-b = at-gate-code .before .before in
+      let at-join2 = at-b .before .before .before .before in
+      let at-a = at-join2 .before .before .before in
+      let at-join = at-a .before .before .before .before in
+      let first = at-join .join .ensures in
+      let a-is = at-a .a .given .1 in
+      let second = at-join2 .join2 .ensures in
+      let b-is = at-b .b .given .1 in
       join-then _ _ _ _ _ first _ _ _ _ a-is _ _ second _ _ _ _ b-is
-      (rw (c .before .before .before .before .gate-code .ensures) at (c .before .before .push-row .ensures))
+      (rw (at-gate-code .gate-code .ensures) at (c .before .before .push-row .ensures))
 
   timed-lower-requires : timed-lts.Need-lower-requires timed-calls timed-at timed.Post
   timed-lower-requires c κs = let given = c .before .before .before .pre .1 in (omega arith, (given .0, given .1 .1))
@@ -373,12 +440,16 @@ module _ (t : ℕ) where
   timed-same-length c = search needs
 
   timed-returns : timed-lts.Need-returns timed-calls timed-at timed.Post
-  timed-returns c = timed-full _ _ _ _ _ (c .before .before .before .before .lower .ensures) _ _ _ (c .enum-told .given .1)
+  timed-returns c =
+      let at-lower = c .before .before .before .before in
+      timed-full _ _ _ _ _ (at-lower .lower .ensures) _ _ _ (c .enum-told .given .1)
 
   timed-spread-requires : timed-lts.Need-spread-requires timed-calls timed-at timed.Post
   timed-spread-requires c κs =
-      let R = went _ _ _ _ _ (c .before .before .before .before .before .before .lower .ensures) _ _ (c .before .before .top .given .1) in
-      let given = c .before .before .before .before .before .before .before .before .before .before .pre .1 .1 in
+      let at-lower = c .before .before .before .before .before .before in
+      let start = at-lower .before .before .before .before in
+      let R = went _ _ _ _ _ (at-lower .lower .ensures) _ _ (c .before .before .top .given .1) in
+      let given = start .pre .1 .1 in
       (given .0, buffer-on (given .1) (R .room) (R .long))
 
   timed-same-length-2 : timed-lts.Need-same-length-2 timed-calls timed-at timed.Post
@@ -386,8 +457,10 @@ module _ (t : ℕ) where
 
   timed-returns-2 : timed-lts.Need-returns-2 timed-calls timed-at timed.Post
   timed-returns-2 c =
-      let first = c .before .before .before .before .before .before .before .before .before .lower .ensures in
-      let top-is = c .before .before .before .before .before .top .given .1 in
+      let at-top = c .before .before .before .before .before in
+      let at-lower = at-top .before .before .before .before in
+      let first = at-lower .lower .ensures in
+      let top-is = at-top .top .given .1 in
       timed-then _ _ _ _ _ first _ _ _ _ _ _ _ top-is (c .before .before .spread .ensures)
 
 pub +join+lower+pair+same+timed-spec : {M : Type 1} → statement M

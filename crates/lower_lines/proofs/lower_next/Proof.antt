@@ -20,7 +20,9 @@ returns : tie.Need-returns
 returns c = let here = c .before .before .before .before .before in follows-full (wholeAt (here .args .arena .now) (here .args .node)) _ _ _ (c .enum-told .given .1)
 
 sub-if1 : tie.Need-sub-if1
-sub-if1 c = let h = room-next _ _ (c .before .lowered .given .1) (c .before .before .before .before .before .before .pre .1) in omega (arith, h .tops-in)
+sub-if1 c =
+    let start = c .before .before .before .before .before .before in
+    let h = room-next _ _ (c .before .lowered .given .1) (start .pre .1) in omega (arith, h .tops-in)
 
 returns-2 : tie.Need-returns-2
 returns-2 c =
@@ -31,8 +33,10 @@ returns-2 c =
 
 lower-whole-rule-requires : tie.Need-lower-whole-rule-requires
 lower-whole-rule-requires c κs =
-    let given = c .before .before .before .before .before .before .before .before .before .pre in
-    let h = room-next _ _ (c .before .before .before .before .lowered .given .1) (given .1) in
+    let at-lowered = c .before .before .before .before in
+    let start = at-lowered .before .before .before .before .before in
+    let given = start .pre in
+    let h = room-next _ _ (at-lowered .lowered .given .1) (given .1) in
     (given .0, (omega (arith, h .tops-in, c .before .before .if1 .left), h .buffer))
 
 same-length : tie.Need-same-length
@@ -43,11 +47,14 @@ same-length-2 c = search needs
 
 returns-3 : tie.Need-returns-3
 returns-3 c =
+    let at-lower-whole-rule = c .before .before .before .before in
+    let at-if1 = at-lower-whole-rule .before .before .before in
+    let at-lowered = at-if1 .before .before in
     let here = c .before .before .before .before .before .before .before .before .before .before .before .before .before .before in
-    let next = c .before .before .before .before .before .before .before .before .before .lowered .given .1 in
+    let next = at-lowered .lowered .given .1 in
     follows-more (wholeAt (here .args .arena .now) (here .args .node)) _ _ _ next
-    (omega (arith, room-next _ _ next (here .pre .1) .tops-in, c .before .before .before .before .before .before .before .if1 .left, length-map (definingsAt (here .args .arena .now) (here .args .node)) (lowered true), here .pre .0 .hidden))
-    _ (c .before .before .before .before .lower-whole-rule .ensures)
+    (omega (arith, room-next _ _ next (here .pre .1) .tops-in, at-if1 .if1 .left, length-map (definingsAt (here .args .arena .now) (here .args .node)) (lowered true), here .pre .0 .hidden))
+    _ (at-lower-whole-rule .lower-whole-rule .ensures)
 
 pub lower-next-spec : {M : Type 1} → statement M
 lower-next-spec =

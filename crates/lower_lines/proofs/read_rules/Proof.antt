@@ -23,33 +23,46 @@ abbrev μ-loop : tie.MeasureT-loop
 μ-loop s places m first hidden tops₀ out₀ arena₀ signals used lowered₀ i₀ place₀ row₀ tops out arena lowered i place row = m - i
 
 add-used : tie.Need-add-used Inv-loop μ-loop
-add-used c = omega (arith, c .before .before .before .before .pre .0 .0 .few)
+add-used c =
+    let start = c .before .before .before .before in
+    omega (arith, start .pre .0 .0 .few)
 
 loop-holds : tie.Need-loop-holds Inv-loop μ-loop
-loop-holds c = ([], underway-none _ (c .before .before .before .before .pre .0 .0 .within) (omega (arith, c .before .before .before .before .pre .0 .0 .few)), refl)
+loop-holds c =
+    let start = c .before .before .before .before in
+    ([], underway-none _ (start .pre .0 .0 .within) (omega (arith, start .pre .0 .0 .few)), refl)
 
 slice-aggregate-rule-line : tie.Need-slice-aggregate-rule-line Inv-loop μ-loop
 slice-aggregate-rule-line c = search needs
 
 rule-line-requires : tie.Need-rule-line-requires Inv-loop μ-loop
-rule-line-requires c κs = line-ready _ (c .before .before .loop .inv .1) (c .before .before .before .before .before .before .before .pre .0 .0) _ (c .before .before .loop .inv .2)
+rule-line-requires c κs =
+    let start = c .before .before .before .before .before .before .before in
+    line-ready _ (c .before .before .loop .inv .1) (start .pre .0 .0) _ (c .before .before .loop .inv .2)
 
 enum-known-r : tie.Need-enum-known-r Inv-loop μ-loop
 enum-known-r c = search needs
 
 sub-node : tie.Need-sub-node Inv-loop μ-loop
-sub-node c = omega (arith, (when-rule (c .before .before .before .before .rule-line .ensures) (c .before .r .given .1)) .some)
+sub-node c =
+    let at-rule-line = c .before .before .before .before in
+    omega (arith, (when-rule (at-rule-line .rule-line .ensures) (c .before .r .given .1)) .some)
 
 sub-own : tie.Need-sub-own Inv-loop μ-loop
-sub-own c = omega (arith, (when-rule (c .before .before .before .before .rule-line .ensures) (c .before .r .given .1)) .next)
+sub-own c =
+    let at-rule-line = c .before .before .before .before in
+    omega (arith, (when-rule (at-rule-line .rule-line .ensures) (c .before .r .given .1)) .next)
 
 slice-aggregate-lower-next : tie.Need-slice-aggregate-lower-next Inv-loop μ-loop
 slice-aggregate-lower-next c = search needs
 
 lower-next-requires : tie.Need-lower-next-requires Inv-loop μ-loop
 lower-next-requires c κs =
-    let k = c .before .before .before .before .before .before .before .before .before .before .loop .inv .1 in
-    (rule-in (when-rule (c .before .before .before .before .before .before .before .rule-line .ensures) (c .before .before .before .before .r .given .1)), tried-room (omega (arith, k .long)) (k .tried))
+    let at-r = c .before .before .before .before in
+    let at-rule-line = at-r .before .before .before in
+    let at-loop = at-rule-line .before .before .before in
+    let k = at-loop .loop .inv .1 in
+    (rule-in (when-rule (at-rule-line .rule-line .ensures) (at-r .r .given .1)), tried-room (omega (arith, k .long)) (k .tried))
 
 add-i : tie.Need-add-i Inv-loop μ-loop
 add-i c = search needs
@@ -59,23 +72,34 @@ loop-less c = search needs
 
 loop-again : tie.Need-loop-again Inv-loop μ-loop
 loop-again c =
+    let at-lower-next = c .before .before .before .before in
+    let at-r = at-lower-next .before .before .before .before .before in
+    let at-rule-line = at-r .before .before .before in
+    let at-loop-test = at-rule-line .before .before in
     let looped = c .before .before .before .before .before .before .before .before .before .before .before .before .before .before .before in
-    let w = when-rule (c .before .before .before .before .before .before .before .before .before .before .before .before .rule-line .ensures) (c .before .before .before .before .before .before .before .before .before .r .given .1) in
-    (_, underway-one _ (looped .loop .inv .1) (c .before .before .before .before .before .before .before .before .before .before .before .before .before .before .loop-test .taken) w _ _ (omega arith) (omega arith) (c .before .before .before .before .lower-next .ensures), omega arith)
+    let w = when-rule (at-rule-line .rule-line .ensures) (at-r .r .given .1) in
+    (_, underway-one _ (looped .loop .inv .1) (at-loop-test .loop-test .taken) w _ _ (omega arith) (omega arith) (at-lower-next .lower-next .ensures), omega arith)
 
 enum-known-r-2 : tie.Need-enum-known-r-2 Inv-loop μ-loop
 enum-known-r-2 c = search needs
 
 same-length : tie.Need-same-length Inv-loop μ-loop
-same-length c = (c .before .before .before .before .before .before .before .loop .inv .1) .wide
+same-length c =
+    let at-loop = c .before .before .before .before .before .before .before in
+    (at-loop .loop .inv .1) .wide
 
 same-length-2 : tie.Need-same-length-2 Inv-loop μ-loop
-same-length-2 c = (c .before .before .before .before .before .before .before .loop .inv .1) .long
+same-length-2 c =
+    let at-loop = c .before .before .before .before .before .before .before in
+    (at-loop .loop .inv .1) .long
 
 returns : tie.Need-returns Inv-loop μ-loop
 returns c =
-    let k = c .before .before .before .before .before .before .before .loop .inv .1 in
-    refused-at (passed-off _ _ _ _ (k .passed) (c .before .before .before .before .before .before .loop-test .taken) (when-no-rule (c .before .before .before .before .rule-line .ensures) (c .before .r2 .given .1)))
+    let at-rule-line = c .before .before .before .before in
+    let at-loop-test = at-rule-line .before .before in
+    let at-loop = at-loop-test .before in
+    let k = at-loop .loop .inv .1 in
+    refused-at (passed-off _ _ _ _ (k .passed) (at-loop-test .loop-test .taken) (when-no-rule (at-rule-line .rule-line .ensures) (c .before .r2 .given .1)))
 
 sub-found : tie.Need-sub-found Inv-loop μ-loop
 sub-found c = omega (arith, (c .before .loop .inv .1) .row)

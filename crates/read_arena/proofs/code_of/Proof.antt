@@ -34,7 +34,9 @@ pick-number-requires : tie.Need-pick-number-requires
 pick-number-requires c κs = search needs
 
 cast-t21 : tie.Need-cast-t21
-cast-t21 c = let p = rw (c .before .before .node4 .given .1) at (c .before .before .before .before .pre) in omega (arith, p .0)
+cast-t21 c =
+    let start = c .before .before .before .before in
+    let p = rw (c .before .before .node4 .given .1) at (start .pre) in omega (arith, p .0)
 
 enum-known-node-5 : tie.Need-enum-known-node-5
 enum-known-node-5 c = search needs
@@ -43,10 +45,14 @@ pick-number-requires-2 : tie.Need-pick-number-requires-2
 pick-number-requires-2 c κs = search needs
 
 cast-t23 : tie.Need-cast-t23
-cast-t23 c = let p = rw (c .before .before .node5 .given .1) at (c .before .before .before .before .pre) in omega (arith, p .0)
+cast-t23 c =
+    let start = c .before .before .before .before in
+    let p = rw (c .before .before .node5 .given .1) at (start .pre) in omega (arith, p .0)
 
 cast-t24 : tie.Need-cast-t24
-cast-t24 c = let p = rw (c .before .before .node5 .given .1) at (c .before .before .before .before .pre) in omega (arith, p .1)
+cast-t24 c =
+    let start = c .before .before .before .before in
+    let p = rw (c .before .before .node5 .given .1) at (start .pre) in omega (arith, p .1)
 
 returns : tie.Need-returns
 unfolding codeOf

@@ -62,7 +62,8 @@ returns-2 c =
 
 signals-at-requires : tie.Need-signals-at-requires
 signals-at-requires c κs =
-    let b = answered says (c .before .before .before .before .ranged-line2 .ensures) (c .before .before .b .given .1) in
+    let at-ranged-line2 = c .before .before .before .before in
+    let b = answered says (at-ranged-line2 .ranged-line2 .ensures) (c .before .before .b .given .1) in
     let w = ranged-past _ _ _ _ _ _ _ b in
     (omega (arith, w .2), w .0 .inside)
 

@@ -34,12 +34,14 @@ find-name-requires c κs =
 
 returns-2 : tie.Need-returns-2
 returns-2 c =
-    let a = answered says (c .before .before .before .before .before .name-line .ensures) (c .before .before .before .l .given .1) in
+    let at-name-line = c .before .before .before .before .before in
+    let a = answered says (at-name-line .name-line .ensures) (c .before .before .before .l .given .1) in
     signal-new _ _ _ a _ (c .before .find-name .ensures) (c .if1 .taken)
 
 returns-3 : tie.Need-returns-3
 returns-3 c =
-    let a = answered says (c .before .before .before .before .before .name-line .ensures) (c .before .before .before .l .given .1) in
+    let at-name-line = c .before .before .before .before .before in
+    let a = answered says (at-name-line .name-line .ensures) (c .before .before .before .l .given .1) in
     signal-twice _ _ _ a _ (c .before .find-name .ensures) (c .if1 .left)
 
 pub signal-line-spec : {M : Type 1} → statement M

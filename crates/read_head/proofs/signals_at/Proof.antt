@@ -42,8 +42,9 @@ same-length c = search needs
 
 returns : tie.Need-returns Inv-loop μ-loop
 returns c =
+    let at-loop = c .before .before .before .before .before in
     let e = c .enum-told .given .1 in
-    ap (placesOf _ _) e ∙ sym (c .before .before .before .before .before .loop .inv .0 ∙ turn-off _ _ _ _ (omega arith) (answered says (c .before .before .signal-line .ensures) e))
+    ap (placesOf _ _) e ∙ sym (at-loop .loop .inv .0 ∙ turn-off _ _ _ _ (omega arith) (answered says (c .before .before .signal-line .ensures) e))
 
 mul-places : tie.Need-mul-places Inv-loop μ-loop
 mul-places c = search needs
@@ -59,9 +60,10 @@ loop-less c = search needs
 
 loop-again : tie.Need-loop-again Inv-loop μ-loop
 loop-again c =
+    let at-loop = c .before .before .before .before .before .before in
     let e = answered says (c .before .before .before .signal-line .ensures) (c .before .r .given .1) in
     let w = signal-line _ _ _ e in
-    (c .before .before .before .before .before .before .loop .inv .0 ∙ turn-store _ _ _ _ _ (omega arith) (omega arith) e, omega arith, w .past .inside, simp length-set (omega arith))
+    (at-loop .loop .inv .0 ∙ turn-store _ _ _ _ _ (omega arith) (omega arith) e, omega arith, w .past .inside, simp length-set (omega arith))
 
 same-length-2 : tie.Need-same-length-2 Inv-loop μ-loop
 same-length-2 c = search needs

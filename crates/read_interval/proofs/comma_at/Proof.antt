@@ -30,14 +30,18 @@ enum-told c = search needs
 
 returns-2 : tie.Need-returns-2
 returns-2 c =
-    after-cut _ _ _ _ (eq-eqb _ _ (c .before .before .before .if1 .left)) (c .before .before .end-at .ensures) (c .enum-told .given .1) ∙ comma-by _ _ _ _ _ _ (c .before .before .before .before .byte-at .ensures)
+    let at-byte-at = c .before .before .before .before in
+    after-cut _ _ _ _ (eq-eqb _ _ (c .before .before .before .if1 .left)) (c .before .before .end-at .ensures) (c .enum-told .given .1) ∙ comma-by _ _ _ _ _ _ (at-byte-at .byte-at .ensures)
 
 close-at-requires : tie.Need-close-at-requires
 close-at-requires c κs = end-reach _ _ (sym (c .before .before .before .end-at .ensures) ∙ c .before .d .given .1) .inside
 
 returns-3 : tie.Need-returns-3
 returns-3 c =
-    c .close-at .ensures ∙ after-end _ _ _ _ (eq-eqb _ _ (c .before .before .before .before .before .if1 .left)) (c .before .before .before .before .end-at .ensures) (c .before .before .d .given .1) ∙ comma-by _ _ _ _ _ _ (c .before .before .before .before .before .before .byte-at .ensures)
+    let at-end-at = c .before .before .before .before in
+    let at-if1 = at-end-at .before in
+    let at-byte-at = at-if1 .before in
+    c .close-at .ensures ∙ after-end _ _ _ _ (eq-eqb _ _ (at-if1 .if1 .left)) (at-end-at .end-at .ensures) (c .before .before .d .given .1) ∙ comma-by _ _ _ _ _ _ (at-byte-at .byte-at .ensures)
 
 pub comma-at-spec : {M : Type 1} → statement M
 comma-at-spec =

@@ -26,14 +26,18 @@ enum-told c = search needs
 
 returns : tie.Need-returns
 returns c =
-    after-cut _ _ _ _ (one-of _ _ _ (c .before .before .before .match .keys1)) (c .before .before .end-at .ensures) (c .enum-told .given .1) ∙ interval-by _ _ _ (c .before .before .before .before .byte-at .ensures)
+    let at-byte-at = c .before .before .before .before in
+    after-cut _ _ _ _ (one-of _ _ _ (c .before .before .before .match .keys1)) (c .before .before .end-at .ensures) (c .enum-told .given .1) ∙ interval-by _ _ _ (at-byte-at .byte-at .ensures)
 
 comma-at-requires : tie.Need-comma-at-requires
 comma-at-requires c κs = end-reach _ _ (sym (c .before .before .before .end-at .ensures) ∙ c .before .d .given .1) .inside
 
 returns-2 : tie.Need-returns-2
 returns-2 c =
-    c .comma-at .ensures ∙ after-end _ _ _ _ (one-of _ _ _ (c .before .before .before .before .before .match .keys1)) (c .before .before .before .before .end-at .ensures) (c .before .before .d .given .1) ∙ interval-by _ _ _ (c .before .before .before .before .before .before .byte-at .ensures)
+    let at-end-at = c .before .before .before .before in
+    let at-match = at-end-at .before in
+    let at-byte-at = at-match .before in
+    c .comma-at .ensures ∙ after-end _ _ _ _ (one-of _ _ _ (at-match .match .keys1)) (at-end-at .end-at .ensures) (c .before .before .d .given .1) ∙ interval-by _ _ _ (at-byte-at .byte-at .ensures)
 
 returns-3 : tie.Need-returns-3
 returns-3 c =

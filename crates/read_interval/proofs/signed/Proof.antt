@@ -19,19 +19,27 @@ returns c = signed-none _ (c .before .before .digits .ensures) (c .enum-told .gi
 
 add-t9 : tie.Need-add-t9
 add-t9 c =
-    let m = four-most _ _ (c .before .before .before .before .before .before .pre) (c .before .before .before .before .digits .ensures) (c .before .before .d .given .1) in
+    let at-digits = c .before .before .before .before in
+    let start = at-digits .before .before in
+    let m = four-most _ _ (start .pre) (at-digits .digits .ensures) (c .before .before .d .given .1) in
     omega arith
 
 sub-t10 : tie.Need-sub-t10
 sub-t10 c =
-    let m = four-most _ _ (c .before .before .before .before .before .before .pre) (c .before .before .before .before .digits .ensures) (c .before .before .d .given .1) in
+    let at-digits = c .before .before .before .before in
+    let start = at-digits .before .before in
+    let m = four-most _ _ (start .pre) (at-digits .digits .ensures) (c .before .before .d .given .1) in
     omega arith
 
 returns-2 : tie.Need-returns-2
-returns-2 c = signed-some _ (c .before .before .before .before .digits .ensures) (c .before .before .d .given .1) (rw (c .if1 .taken))
+returns-2 c =
+    let at-digits = c .before .before .before .before in
+    signed-some _ (at-digits .digits .ensures) (c .before .before .d .given .1) (rw (c .if1 .taken))
 
 returns-3 : tie.Need-returns-3
-returns-3 c = signed-some _ (c .before .before .before .before .digits .ensures) (c .before .before .d .given .1) (rw (c .if1 .left))
+returns-3 c =
+    let at-digits = c .before .before .before .before in
+    signed-some _ (at-digits .digits .ensures) (c .before .before .d .given .1) (rw (c .if1 .left))
 
 pub signed-spec : {M : Type 1} → statement M
 signed-spec =

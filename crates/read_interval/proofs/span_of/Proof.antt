@@ -18,22 +18,39 @@ left-out-requires : tie.Need-left-out-requires
 left-out-requires c κs = search needs
 
 add-lo : tie.Need-add-lo
-add-lo c = omega (arith, c .left-out .ensures, left-out-most (c .before .before .before .before .before .args .o) 40, between-is leastEnd greatestEnd (c .before .before .before .before .before .args .v) (sym (c .before .before .before .before .near .ensures) ∙ c .before .before .before .if1 .taken) .1)
+add-lo c =
+    let at-near = c .before .before .before .before in
+    let start = at-near .before in
+    omega (arith, c .left-out .ensures, left-out-most (start .args .o) 40, between-is leastEnd greatestEnd (start .args .v) (sym (at-near .near .ensures) ∙ c .before .before .before .if1 .taken) .1)
 
 left-out-requires-2 : tie.Need-left-out-requires-2
 left-out-requires-2 c κs = search needs
 
 sub-hi : tie.Need-sub-hi
-sub-hi c = omega (arith, c .left-out2 .ensures, left-out-most (c .before .before .before .before .before .before .args .c) 41, between-is leastEnd greatestEnd (c .before .before .before .before .before .before .args .w) (sym (c .before .before .before .near2 .ensures) ∙ c .before .before .if2 .taken) .0)
+sub-hi c =
+    let start = c .before .before .before .before .before .before in
+    omega (arith, c .left-out2 .ensures, left-out-most (start .args .c) 41, between-is leastEnd greatestEnd (start .args .w) (sym (c .before .before .before .near2 .ensures) ∙ c .before .before .if2 .taken) .0)
 
 sub-t13 : tie.Need-sub-t13
-sub-t13 c = omega (arith, between-is leastEnd greatestEnd (c .before .before .before .before .before .before .before .args .v) (sym (c .before .before .before .before .before .before .near .ensures) ∙ c .before .before .before .before .before .if1 .taken) .0)
+sub-t13 c =
+    let at-if1 = c .before .before .before .before .before in
+    let at-near = at-if1 .before in
+    let start = at-near .before in
+    omega (arith, between-is leastEnd greatestEnd (start .args .v) (sym (at-near .near .ensures) ∙ at-if1 .if1 .taken) .0)
 
 returns : tie.Need-returns
-returns c = span-in _ _ _ _ _ _ (c .before .before .left-out .ensures) (c .before .left-out2 .ensures) (sym (c .before .before .before .before .before .before .near .ensures) ∙ c .before .before .before .before .before .if1 .taken) (sym (c .before .before .before .before .near2 .ensures) ∙ c .before .before .before .if2 .taken) (c .if3 .taken)
+returns c =
+    let at-near2 = c .before .before .before .before in
+    let at-if1 = at-near2 .before in
+    let at-near = at-if1 .before in
+    span-in _ _ _ _ _ _ (c .before .before .left-out .ensures) (c .before .left-out2 .ensures) (sym (at-near .near .ensures) ∙ at-if1 .if1 .taken) (sym (at-near2 .near2 .ensures) ∙ c .before .before .before .if2 .taken) (c .if3 .taken)
 
 returns-2 : tie.Need-returns-2
-returns-2 c = span-empty _ _ _ _ _ _ (c .before .before .left-out .ensures) (c .before .left-out2 .ensures) (sym (c .before .before .before .before .before .before .near .ensures) ∙ c .before .before .before .before .before .if1 .taken) (sym (c .before .before .before .before .near2 .ensures) ∙ c .before .before .before .if2 .taken) (c .if3 .left)
+returns-2 c =
+    let at-near2 = c .before .before .before .before in
+    let at-if1 = at-near2 .before in
+    let at-near = at-if1 .before in
+    span-empty _ _ _ _ _ _ (c .before .before .left-out .ensures) (c .before .left-out2 .ensures) (sym (at-near .near .ensures) ∙ at-if1 .if1 .taken) (sym (at-near2 .near2 .ensures) ∙ c .before .before .before .if2 .taken) (c .if3 .left)
 
 returns-3 : tie.Need-returns-3
 returns-3 c = span-far _ _ _ _ _ _ (rw (sym (c .before .before .before .near .ensures) ∙ c .before .before .if1 .taken, sym (c .before .near2 .ensures) ∙ c .if2 .left))

@@ -41,11 +41,16 @@ add-next : tie.Need-add-next
 add-next c = omega (arith, lf-inside _ _ (sym (c .before .lf-at .ensures) ∙ c .if2 .taken))
 
 no-name-requires-2 : tie.Need-no-name-requires-2
-no-name-requires-2 c κs = (search needs, open-no-name _ _ (sym (c .before .before .before .before .before .name-at .ensures) ∙ c .before .before .before .w .given .1) (sym (c .before .lf-at .ensures) ∙ c .if2 .left))
+no-name-requires-2 c κs =
+    let at-name-at = c .before .before .before .before .before in
+    (search needs, open-no-name _ _ (sym (at-name-at .name-at .ensures) ∙ c .before .before .before .w .given .1) (sym (c .before .lf-at .ensures) ∙ c .if2 .left))
 
 returns-3 : tie.Need-returns-3
 returns-3 c =
-    name-first _ _ _ _ (sym (c .before .before .before .before .before .before .before .keyed .ensures) ∙ not-false (c .before .before .before .before .before .before .before .keyed .result) (c .before .before .before .before .before .before .if1 .left)) (sym (c .before .lf-at .ensures) ∙ c .if2 .taken) _ (sym (c .before .before .before .before .before .name-at .ensures) ∙ c .before .before .before .w .given .1)
+    let at-name-at = c .before .before .before .before .before in
+    let at-if1 = at-name-at .before in
+    let at-keyed = at-if1 .before in
+    name-first _ _ _ _ (sym (at-keyed .keyed .ensures) ∙ not-false (at-keyed .keyed .result) (at-if1 .if1 .left)) (sym (c .before .lf-at .ensures) ∙ c .if2 .taken) _ (sym (at-name-at .name-at .ensures) ∙ c .before .before .before .w .given .1)
 
 returns-4 : tie.Need-returns-4
 returns-4 c = search needs

@@ -21,7 +21,9 @@ unfolding nameLine
 returns c = ap says (c .enum-told .given .1) ∙ hand-on _ (answered says (c .before .before .line-at .ensures) (c .enum-told .given .1))
 
 returns-2 : tie.Need-returns-2
-returns-2 c = name-not-whole _ _ _ _ _ (answered says (c .before .before .before .line-at .ensures) (c .before .l .given .1)) (c .before .before .before .before .before .before .pre .1)
+returns-2 c =
+    let start = c .before .before .before .before .before .before in
+    name-not-whole _ _ _ _ _ (answered says (c .before .before .before .line-at .ensures) (c .before .l .given .1)) (start .pre .1)
 
 pub no-name-spec : {M : Type 1} → statement M
 no-name-spec = tie.close (tie.spec line-at-requires enum-known-l enum-told returns returns-2)

@@ -39,10 +39,15 @@ add-next c = omega (arith, lf-inside _ _ (sym (c .before .lf-at .ensures) ∙ c 
 
 returns-3 : tie.Need-returns-3
 returns-3 c =
-    number-first _ _ _ _ (sym (c .before .before .before .before .before .before .before .keyed .ensures) ∙ not-false (c .before .before .before .before .before .before .before .keyed .result) (c .before .before .before .before .before .before .if1 .left)) (sym (c .before .lf-at .ensures) ∙ c .if2 .taken) (sym (c .before .before .before .before .before .number-at .ensures) ∙ c .before .before .before .d .given .1)
+    let at-number-at = c .before .before .before .before .before in
+    let at-if1 = at-number-at .before in
+    let at-keyed = at-if1 .before in
+    number-first _ _ _ _ (sym (at-keyed .keyed .ensures) ∙ not-false (at-keyed .keyed .result) (at-if1 .if1 .left)) (sym (c .before .lf-at .ensures) ∙ c .if2 .taken) (sym (at-number-at .number-at .ensures) ∙ c .before .before .before .d .given .1)
 
 returns-4 : tie.Need-returns-4
-returns-4 c = number-open _ _ _ _ (sym (c .before .before .before .before .before .number-at .ensures) ∙ c .before .before .before .d .given .1) (sym (c .before .lf-at .ensures) ∙ c .if2 .left)
+returns-4 c =
+    let at-number-at = c .before .before .before .before .before in
+    number-open _ _ _ _ (sym (at-number-at .number-at .ensures) ∙ c .before .before .before .d .given .1) (sym (c .before .lf-at .ensures) ∙ c .if2 .left)
 
 pub number-line-spec : {M : Type 1} → statement M
 number-line-spec =

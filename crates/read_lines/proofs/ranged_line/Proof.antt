@@ -27,15 +27,18 @@ add-v c = search needs
 
 returns-2 : tie.Need-returns-2
 returns-2 c =
-    ranged-out _ _ _ _ _ _ _ (answered says (c .before .before .before .before .number-line .ensures) (c .before .before .l .given .1)) (between-low _ _ _ (c .if1 .taken))
+    let at-number-line = c .before .before .before .before in
+    ranged-out _ _ _ _ _ _ _ (answered says (at-number-line .number-line .ensures) (c .before .before .l .given .1)) (between-low _ _ _ (c .if1 .taken))
 
 returns-3 : tie.Need-returns-3
 returns-3 c =
-    ranged-out _ _ _ _ _ _ _ (answered says (c .before .before .before .before .before .number-line .ensures) (c .before .before .before .l .given .1)) (between-high _ _ _ (c .if2 .taken))
+    let at-number-line = c .before .before .before .before .before in
+    ranged-out _ _ _ _ _ _ _ (answered says (at-number-line .number-line .ensures) (c .before .before .before .l .given .1)) (between-high _ _ _ (c .if2 .taken))
 
 returns-4 : tie.Need-returns-4
 returns-4 c =
-    ranged-in _ _ _ _ _ _ _ (answered says (c .before .before .before .before .before .number-line .ensures) (c .before .before .before .l .given .1)) (omega arith) (omega arith)
+    let at-number-line = c .before .before .before .before .before in
+    ranged-in _ _ _ _ _ _ _ (answered says (at-number-line .number-line .ensures) (c .before .before .before .l .given .1)) (omega arith) (omega arith)
 
 pub ranged-line-spec : {M : Type 1} → statement M
 ranged-line-spec =

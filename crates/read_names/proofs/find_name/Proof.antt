@@ -12,12 +12,14 @@ spelling-end-requires c κs = search needs
 
 sub-n : tie.Need-sub-n
 sub-n c =
-    let w = end-reach nameByte (now (c .before .before .before .before .args .r)) (c .before .before .before .before .args .at) (omega arith) in
+    let start = c .before .before .before .before in
+    let w = end-reach nameByte (now (start .args .r)) (start .args .at) (omega arith) in
     omega (arith, w .ahead, c .spelling-end .ensures)
 
 find-quick-requires : tie.Need-find-quick-requires
 find-quick-requires c κs =
-    let w = end-reach nameByte (now (c .before .before .before .before .before .before .args .r)) (c .before .before .before .before .before .before .args .at) (omega arith) in
+    let start = c .before .before .before .before .before .before in
+    let w = end-reach nameByte (now (start .args .r)) (start .args .at) (omega arith) in
     record { some = omega arith; ends = c .before .before .spelling-end .ensures; inside = omega (arith, w .inside, c .before .before .spelling-end .ensures); fits = omega arith }
 
 returns : tie.Need-returns

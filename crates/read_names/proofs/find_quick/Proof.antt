@@ -60,13 +60,16 @@ shared-slice-read-if2 c = search needs
 
 spelled-inside-requires : tie.Need-spelled-inside-requires Inv-loop μ-loop
 spelled-inside-requires c κs =
-    let a = c .before .before .before .before .before .before .before .before .before .before .before .before .args in
-    let n = cut-long (now (a .r)) (a .at) (a .e) (c .before .before .before .before .before .before .before .before .before .before .before .before .pre .ends) in
+    let start = c .before .before .before .before .before .before .before .before .before .before .before .before in
+    let a = start .args in
+    let n = cut-long (now (a .r)) (a .at) (a .e) (start .pre .ends) in
     omega (arith, length-drop (length (cut (now (a .r)) (a .at) (a .e)) - 1) (now (a .s)))
 
 returns : tie.Need-returns Inv-loop μ-loop
 returns c =
-    sym (c .before .before .before .before .before .before .before .loop .inv ∙ search-here _ _ _ _ (omega arith) (sym (cut-same _ _ _ (c .before .before .before .before .before .before .before .before .before .before .before .before .before .before .pre .ends) _ _) ∙ sym (c .before .spelled-inside .ensures) ∙ c .if3 .taken))
+    let at-loop = c .before .before .before .before .before .before .before in
+    let start = at-loop .before .before .before .before .before .before .before in
+    sym (at-loop .loop .inv ∙ search-here _ _ _ _ (omega arith) (sym (cut-same _ _ _ (start .pre .ends) _ _) ∙ sym (c .before .spelled-inside .ensures) ∙ c .if3 .taken))
 
 add-i : tie.Need-add-i Inv-loop μ-loop
 add-i c = search needs
@@ -76,8 +79,9 @@ loop-less c = search needs
 
 loop-again : tie.Need-loop-again Inv-loop μ-loop
 loop-again c =
-    let a = c .before .before .before .before .before .before .before .before .before .before .args in
-    let ends = c .before .before .before .before .before .before .before .before .before .before .pre .ends in
+    let start = c .before .before .before .before .before .before .before .before .before .before in
+    let a = start .args in
+    let ends = start .pre .ends in
     let k = length (cut (now (a .r)) (a .at) (a .e)) - 1 in
     let n = cut-long (now (a .r)) (a .at) (a .e) ends in
     c .before .before .before .loop .inv

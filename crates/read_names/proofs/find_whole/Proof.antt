@@ -29,7 +29,8 @@ same-spelling-requires c κs = search needs
 
 returns : tie.Need-returns Inv-loop μ-loop
 returns c =
-    sym (c .before .before .before .before .loop .inv ∙ search-here _ _ _ _ (omega arith) (sym (c .before .same-spelling .ensures) ∙ c .if1 .taken))
+    let at-loop = c .before .before .before .before in
+    sym (at-loop .loop .inv ∙ search-here _ _ _ _ (omega arith) (sym (c .before .same-spelling .ensures) ∙ c .if1 .taken))
 
 add-i : tie.Need-add-i Inv-loop μ-loop
 add-i c = search needs
@@ -39,7 +40,8 @@ loop-less c = search needs
 
 loop-again : tie.Need-loop-again Inv-loop μ-loop
 loop-again c =
-    c .before .before .before .before .loop .inv ∙ search-on _ _ _ _ (omega arith) (sym (c .before .same-spelling .ensures) ∙ c .if1 .left)
+    let at-loop = c .before .before .before .before in
+    at-loop .loop .inv ∙ search-on _ _ _ _ (omega arith) (sym (c .before .same-spelling .ensures) ∙ c .if1 .left)
 
 returns-2 : tie.Need-returns-2 Inv-loop μ-loop
 returns-2 c =

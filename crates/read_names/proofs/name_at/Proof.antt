@@ -18,7 +18,8 @@ spelling-end-requires c κs = search needs
 
 sub-if3 : tie.Need-sub-if3
 sub-if3 c =
-    let a = c .before .before .before .before .before .args in
+    let start = c .before .before .before .before .before in
+    let a = start .args in
     let w = end-reach nameByte (now (a .s)) (a .at) (omega arith) in
     omega (arith, w .ahead, c .spelling-end .ensures)
 
@@ -27,22 +28,30 @@ is-since-requires c κs = search needs
 
 returns : tie.Need-returns
 returns c =
-    name-since _ _ _ (c .before .before .before .before .before .before .byte-at .ensures) _ (c .before .before .before .spelling-end .ensures) (omega arith) (omega arith) (c .before .before .if3 .taken) (sym (c .before .is-since .ensures) ∙ c .if4 .taken)
+    let at-byte-at = c .before .before .before .before .before .before in
+    name-since _ _ _ (at-byte-at .byte-at .ensures) _ (c .before .before .before .spelling-end .ensures) (omega arith) (omega arith) (c .before .before .if3 .taken) (sym (c .before .is-since .ensures) ∙ c .if4 .taken)
 
 is-until-requires : tie.Need-is-until-requires
 is-until-requires c κs = search needs
 
 returns-2 : tie.Need-returns-2
 returns-2 c =
-    name-until _ _ _ (c .before .before .before .before .before .before .before .before .byte-at .ensures) _ (c .before .before .before .before .before .spelling-end .ensures) (omega arith) (omega arith) (c .before .before .before .before .if3 .taken) (sym (c .before .before .before .is-since .ensures) ∙ c .before .before .if4 .left) (sym (c .before .is-until .ensures) ∙ c .if5 .taken)
+    let at-if3 = c .before .before .before .before in
+    let at-spelling-end = at-if3 .before in
+    let at-byte-at = at-spelling-end .before .before .before in
+    name-until _ _ _ (at-byte-at .byte-at .ensures) _ (at-spelling-end .spelling-end .ensures) (omega arith) (omega arith) (at-if3 .if3 .taken) (sym (c .before .before .before .is-since .ensures) ∙ c .before .before .if4 .left) (sym (c .before .is-until .ensures) ∙ c .if5 .taken)
 
 returns-3 : tie.Need-returns-3
 returns-3 c =
-    name-is _ _ _ (c .before .before .before .before .before .before .before .before .byte-at .ensures) _ (c .before .before .before .before .before .spelling-end .ensures) (omega arith) (omega arith) (c .before .before .before .before .if3 .taken) (sym (c .before .before .before .is-since .ensures) ∙ c .before .before .if4 .left) (sym (c .before .is-until .ensures) ∙ c .if5 .left)
+    let at-if3 = c .before .before .before .before in
+    let at-spelling-end = at-if3 .before in
+    let at-byte-at = at-spelling-end .before .before .before in
+    name-is _ _ _ (at-byte-at .byte-at .ensures) _ (at-spelling-end .spelling-end .ensures) (omega arith) (omega arith) (at-if3 .if3 .taken) (sym (c .before .before .before .is-since .ensures) ∙ c .before .before .if4 .left) (sym (c .before .is-until .ensures) ∙ c .if5 .left)
 
 returns-4 : tie.Need-returns-4
 returns-4 c =
-    name-long _ _ _ (c .before .before .before .before .byte-at .ensures) _ (c .before .spelling-end .ensures) (omega arith) (omega arith) (c .if3 .left)
+    let at-byte-at = c .before .before .before .before in
+    name-long _ _ _ (at-byte-at .byte-at .ensures) _ (c .before .spelling-end .ensures) (omega arith) (omega arith) (c .if3 .left)
 
 returns-5 : tie.Need-returns-5
 returns-5 c =

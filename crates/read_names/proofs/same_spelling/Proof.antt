@@ -14,19 +14,22 @@ spelling-end-requires c κs = search needs
 
 sub-is-spelled : tie.Need-sub-is-spelled
 sub-is-spelled c =
-    let a = c .before .before .before .before .args in
+    let start = c .before .before .before .before in
+    let a = start .args in
     let w = end-reach nameByte (now (a .s)) (a .a) (omega arith) in
     omega (arith, w .ahead, w .inside, c .spelling-end .ensures)
 
 part-is-spelled-start : tie.Need-part-is-spelled-start
 part-is-spelled-start c =
-    let a = c .before .before .before .before .args in
+    let start = c .before .before .before .before in
+    let a = start .args in
     let w = end-reach nameByte (now (a .s)) (a .a) (omega arith) in
     omega (arith, w .ahead, w .inside, c .spelling-end .ensures)
 
 part-is-spelled-end : tie.Need-part-is-spelled-end
 part-is-spelled-end c =
-    let a = c .before .before .before .before .args in
+    let start = c .before .before .before .before in
+    let a = start .args in
     let w = end-reach nameByte (now (a .s)) (a .a) (omega arith) in
     omega (arith, w .ahead, w .inside, c .spelling-end .ensures)
 

@@ -28,18 +28,24 @@ shared-slice-read-b c = search needs
 
 returns : tie.Need-returns Inv-loop μ-loop
 returns c =
-    let b = getD (now (c .before .before .before .before .before .args .s)) (c .before .before .before .before .loop .i) 0 in
-    sym (c .before .before .before .before .loop .inv ∙ end-here _ _ _ (omega arith) (name-neither b (between-low (byte "a") (byte "z") b (omega arith)) (between-low (byte "0") (byte "9") b (omega arith))))
+    let at-loop = c .before .before .before .before in
+    let start = at-loop .before in
+    let b = getD (now (start .args .s)) (at-loop .loop .i) 0 in
+    sym (at-loop .loop .inv ∙ end-here _ _ _ (omega arith) (name-neither b (between-low (byte "a") (byte "z") b (omega arith)) (between-low (byte "0") (byte "9") b (omega arith))))
 
 returns-2 : tie.Need-returns-2 Inv-loop μ-loop
 returns-2 c =
-    let b = getD (now (c .before .before .before .before .before .before .args .s)) (c .before .before .before .before .before .loop .i) 0 in
-    sym (c .before .before .before .before .before .loop .inv ∙ end-here _ _ _ (omega arith) (name-neither b (between-low (byte "a") (byte "z") b (omega arith)) (between-high (byte "0") (byte "9") b (omega arith))))
+    let at-loop = c .before .before .before .before .before in
+    let start = at-loop .before in
+    let b = getD (now (start .args .s)) (at-loop .loop .i) 0 in
+    sym (at-loop .loop .inv ∙ end-here _ _ _ (omega arith) (name-neither b (between-low (byte "a") (byte "z") b (omega arith)) (between-high (byte "0") (byte "9") b (omega arith))))
 
 returns-3 : tie.Need-returns-3 Inv-loop μ-loop
 returns-3 c =
-    let b = getD (now (c .before .before .before .before .before .args .s)) (c .before .before .before .before .loop .i) 0 in
-    sym (c .before .before .before .before .loop .inv ∙ end-here _ _ _ (omega arith) (name-neither b (between-high (byte "a") (byte "z") b (omega arith)) (between-high (byte "0") (byte "9") b (omega arith))))
+    let at-loop = c .before .before .before .before in
+    let start = at-loop .before in
+    let b = getD (now (start .args .s)) (at-loop .loop .i) 0 in
+    sym (at-loop .loop .inv ∙ end-here _ _ _ (omega arith) (name-neither b (between-high (byte "a") (byte "z") b (omega arith)) (between-high (byte "0") (byte "9") b (omega arith))))
 
 add-i : tie.Need-add-i Inv-loop μ-loop
 add-i c = search needs
@@ -49,7 +55,8 @@ loop-less c = search needs
 
 loop-again : tie.Need-loop-again Inv-loop μ-loop
 loop-again c =
-    let b = getD (now (c .before .before .before .before .args .s)) (c .before .before .before .loop .i) 0 in
+    let start = c .before .before .before .before in
+    let b = getD (now (start .args .s)) (c .before .before .before .loop .i) 0 in
     c .before .before .before .loop .inv
     ∙ end-more _ _ _ (omega arith)
     (⊎-elim

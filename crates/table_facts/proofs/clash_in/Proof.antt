@@ -33,8 +33,9 @@ loop-less c = omega arith
 
 loop-again : tie.Need-loop-again Inv-loop μ-loop
 loop-again c =
+    let start = c .before .before .before .before .before in
     let l = c .before .before .before .loop in
-    let a = c .before .before .before .before .before .args in
+    let a = start .args in
     (omega arith, below-more (λ (p : ℕ). ClashIn (a .n) (a .marks .now) p → ⊥) (l .q) (l .inv .1) (λ h. never (sym (c .before .column-clashes .ensures .1 h) ∙ c .if1 .left)))
 
 returns-2 : tie.Need-returns-2 Inv-loop μ-loop

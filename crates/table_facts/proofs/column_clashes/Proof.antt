@@ -25,15 +25,17 @@ word-at-requires c κs =
 
 word-at-requires-2 : tie.Need-word-at-requires-2 Inv-loop μ-loop
 word-at-requires-2 c κs =
-    let o = c .before .before .before .before .pre in
-    (o .0, row-of _ (c .before .before .before .before .args .marks .now) _ _ (o .1) (omega arith))
+    let start = c .before .before .before .before in
+    let o = start .pre in
+    (o .0, row-of _ (start .args .marks .now) _ _ (o .1) (omega arith))
 
 returns : tie.Need-returns Inv-loop μ-loop
 returns c =
+    let start = c .before .before .before .before .before .before in
     let word-at = c .before .before .word-at in
     let e = ap₂ bitAnd (word-at .ensures) (c .before .word-at2 .ensures) in
     let small = subst (λ (x : ℕ). x < 2 ^ 64) (word-at .ensures) (omega arith) in
-    (λ z. clash-found _ _ _ _ (c .before .before .before .before .before .before .pre .0) small (λ n. c .if1 .taken (e ∙ n)), λ h. refl)
+    (λ z. clash-found _ _ _ _ (start .pre .0) small (λ n. c .if1 .taken (e ∙ n)), λ h. refl)
 
 add-row : tie.Need-add-row Inv-loop μ-loop
 add-row c = omega arith
@@ -43,8 +45,10 @@ loop-less c = omega arith
 
 loop-again : tie.Need-loop-again Inv-loop μ-loop
 loop-again c =
-    let l = c .before .before .before .before .loop in
-    let a = c .before .before .before .before .before .before .args in
+    let at-loop = c .before .before .before .before in
+    let start = at-loop .before .before in
+    let l = at-loop .loop in
+    let a = start .args in
     let e = ap₂ bitAnd (c .before .before .word-at .ensures) (c .before .word-at2 .ensures) in
     (omega arith, below-more (λ (r : ℕ). meeting (a .n) (a .marks .now) (a .q) r ≡ 0) (l .row) (l .inv .1) (sym e ∙ c .if1 .left))
 

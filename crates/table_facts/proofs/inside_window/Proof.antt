@@ -69,9 +69,10 @@ mul-if2-2 c =
 
 shared-slice-read-if2 : tie.Need-shared-slice-read-if2 Inv-loop μ-loop
 shared-slice-read-if2 c =
+    let start = c .before .before .before .before in
     let l = c .before .before .loop in
-    let o = c .before .before .before .before .pre in
-    let a = c .before .before .before .before .args in
+    let o = start .pre in
+    let a = start .args in
     last-in (a .n) (a .n - 1) (l .k) (a .count) (length (a .marks .now)) (l .inv .2) (o .0) (omega arith)
 
 shr-if2 : tie.Need-shr-if2 Inv-loop μ-loop
@@ -79,14 +80,16 @@ shr-if2 c = c .before .before .loop .inv .4
 
 returns-2 : tie.Need-returns-2 Inv-loop μ-loop
 returns-2 c =
+    let start = c .before .before .before .before .before in
     let l = c .before .before .before .loop in
-    let a = c .before .before .before .before .before .args in
-    (λ e. absurd (never (sym e)), λ h. absurd (past-outside (a .n) (a .window) (a .marks .now) (a .n - 1) (a .window - 64 * (a .n - 1)) (l .inv .2) (l .inv .3) (a .count) (c .before .before .before .before .before .pre .0) (l .k) (omega (arith, c .before .shared-slice-known .given (l .k * a .n + (a .n - 1)))) (c .if2 .taken) h))
+    let a = start .args in
+    (λ e. absurd (never (sym e)), λ h. absurd (past-outside (a .n) (a .window) (a .marks .now) (a .n - 1) (a .window - 64 * (a .n - 1)) (l .inv .2) (l .inv .3) (a .count) (start .pre .0) (l .k) (omega (arith, c .before .shared-slice-known .given (l .k * a .n + (a .n - 1)))) (c .if2 .taken) h))
 
 add-k : tie.Need-add-k Inv-loop μ-loop
 add-k c =
-    let o = c .before .before .before .before .before .pre in
-    let a = c .before .before .before .before .before .args in
+    let start = c .before .before .before .before .before in
+    let o = start .pre in
+    let a = start .args in
     omega (arith, mul-le-mul-left (2 * a .count) (last-ticks (a .n) (a .window) (o .2) (o .1) .0), o .3)
 
 loop-less : tie.Need-loop-less Inv-loop μ-loop
@@ -94,8 +97,9 @@ loop-less c = omega arith
 
 loop-again : tie.Need-loop-again Inv-loop μ-loop
 loop-again c =
+    let start = c .before .before .before .before .before in
     let l = c .before .before .before .loop in
-    let a = c .before .before .before .before .before .args in
+    let a = start .args in
     (omega arith, l .inv .1, l .inv .2, l .inv .3, l .inv .4, below-more (λ (j : ℕ). getD (a .marks .now) (j * a .n + (a .n - 1)) 0 / 2 ^ (a .window - 64 * (a .n - 1)) ≡ 0) (l .k) (l .inv .5) (c .if2 .left))
 
 returns-3 : tie.Need-returns-3 Inv-loop μ-loop

@@ -16,9 +16,10 @@ slice-read-old c = search needs
 
 returns : tie.Need-returns
 returns c =
-    let a = c .before .before .before .before .args in
+    let start = c .before .before .before .before in
+    let a = start .args in
     let place-of = c .before .before .place-of in
-    let o = c .before .before .before .before .pre in
+    let o = start .pre in
     joins-none _ _ _ (a .value) _ _ (o .0) _ (place-of .ensures .0) (omega (arith, o .1, place-of .ensures .1)) (c .if1 .taken)
 
 mul-marks : tie.Need-mul-marks
@@ -32,10 +33,11 @@ same-length c = search needs
 
 returns-2 : tie.Need-returns-2
 returns-2 c =
-    let a = c .before .before .before .before .args in
+    let start = c .before .before .before .before in
+    let a = start .args in
     let slice-known = c .before .before .before .slice-known in
     let place-of = c .before .before .place-of in
-    let o = c .before .before .before .before .pre in
+    let o = start .pre in
     joins-some _ _ _ (a .value) _ _ (o .0) _ (place-of .ensures .0) (omega (arith, o .1, place-of .ensures .1))
     (omega (arith, slice-known .given (place-of .result))) (omega arith) (c .if1 .left)
 

@@ -45,13 +45,17 @@ module _ (t : ℕ) where
   decimal-decimal-requires c κs = (omega arith, counted-first _ (counted-like (c .before .before .before .pre .1) (decimal-more _ (omega arith) (omega arith))))
 
   decimal-push-requires-2 : decimal-lts.Need-push-requires-2 decimal-calls decimal-at decimal.Post
-  decimal-push-requires-2 c κs = record { below = omega (arith, decimal-longer (c .before .before .before .before .before .before .before .args .n) (omega arith) (omega arith), c .before .before .before .before .before .before .before .pre .1 .below, c .before .before .before .decimal .ensures .next) }
+  decimal-push-requires-2 c κs =
+      let start = c .before .before .before .before .before .before .before in
+      record { below = omega (arith, decimal-longer (start .args .n) (omega arith) (omega arith), start .pre .1 .below, c .before .before .before .decimal .ensures .next) }
 
   decimal-same-length-2 : decimal-lts.Need-same-length-2 decimal-calls decimal-at decimal.Post
   decimal-same-length-2 c = search needs
 
   decimal-returns-2 : decimal-lts.Need-returns-2 decimal-calls decimal-at decimal.Post
-  decimal-returns-2 c = like (decimal-more _ (omega arith) (omega arith)) (and-then (c .before .before .before .before .before .before .decimal .ensures) (c .before .before .push2 .ensures))
+  decimal-returns-2 c =
+      let at-decimal = c .before .before .before .before .before .before in
+      like (decimal-more _ (omega arith) (omega arith)) (and-then (at-decimal .decimal .ensures) (c .before .before .push2 .ensures))
 
 pub +decimal-spec : {M : Type 1} → statement M
 +decimal-spec =

@@ -24,7 +24,9 @@ shared-slice-read-push : tie.Need-shared-slice-read-push Inv-loop μ-loop
 shared-slice-read-push c = search needs
 
 push-requires : tie.Need-push-requires Inv-loop μ-loop
-push-requires c κs = counted-first _ (counted-like (counted-left (c .before .before .before .before .before .before .pre) (c .before .before .before .loop .inv .1)) (drop-in (now (c .before .before .before .before .before .before .args .text)) (c .before .before .before .loop .i) 0 (omega arith)))
+push-requires c κs =
+    let start = c .before .before .before .before .before .before in
+    counted-first _ (counted-like (counted-left (start .pre) (c .before .before .before .loop .inv .1)) (drop-in (now (start .args .text)) (c .before .before .before .loop .i) 0 (omega arith)))
 
 add-i : tie.Need-add-i Inv-loop μ-loop
 add-i c = search needs
@@ -33,13 +35,18 @@ loop-less : tie.Need-loop-less Inv-loop μ-loop
 loop-less c = search needs
 
 loop-again : tie.Need-loop-again Inv-loop μ-loop
-loop-again c = (search needs, left-rest _ (c .before .before .before .before .before .before .loop .inv .1) (c .before .before .push .ensures) (drop-in (now (c .before .before .before .before .before .before .before .before .before .args .text)) (c .before .before .before .before .before .before .loop .i) 0 (omega arith)))
+loop-again c =
+    let at-loop = c .before .before .before .before .before .before in
+    let start = at-loop .before .before .before in
+    (search needs, left-rest _ (at-loop .loop .inv .1) (c .before .before .push .ensures) (drop-in (now (start .args .text)) (at-loop .loop .i) 0 (omega arith)))
 
 same-length : tie.Need-same-length Inv-loop μ-loop
 same-length c = search needs
 
 returns : tie.Need-returns Inv-loop μ-loop
-returns c = left-none (c .before .loop .inv .1) (drop-of-length-le (now (c .before .before .before .before .args .text)) {i = c .before .loop .i} (omega arith))
+returns c =
+    let start = c .before .before .before .before in
+    left-none (c .before .loop .inv .1) (drop-of-length-le (now (start .args .text)) {i = c .before .loop .i} (omega arith))
 
 pub push-text-spec : {M : Type 1} → statement M
 push-text-spec =

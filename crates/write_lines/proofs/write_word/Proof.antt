@@ -13,22 +13,32 @@ spelling-end-requires : tie.Need-spelling-end-requires
 spelling-end-requires c κs = search needs
 
 sub-push-text : tie.Need-sub-push-text
-sub-push-text c = let w = end-reach nameByte (now (c .before .before .before .before .args .s)) (c .before .before .before .before .args .at) (omega arith) in omega (arith, w .ahead, w .inside, c .spelling-end .ensures)
+sub-push-text c =
+    let start = c .before .before .before .before in
+    let w = end-reach nameByte (now (start .args .s)) (start .args .at) (omega arith) in omega (arith, w .ahead, w .inside, c .spelling-end .ensures)
 
 part-push-text-start : tie.Need-part-push-text-start
-part-push-text-start c = let w = end-reach nameByte (now (c .before .before .before .before .args .s)) (c .before .before .before .before .args .at) (omega arith) in omega (arith, w .ahead, w .inside, c .spelling-end .ensures)
+part-push-text-start c =
+    let start = c .before .before .before .before in
+    let w = end-reach nameByte (now (start .args .s)) (start .args .at) (omega arith) in omega (arith, w .ahead, w .inside, c .spelling-end .ensures)
 
 part-push-text-end : tie.Need-part-push-text-end
-part-push-text-end c = let w = end-reach nameByte (now (c .before .before .before .before .args .s)) (c .before .before .before .before .args .at) (omega arith) in omega (arith, w .ahead, w .inside, c .spelling-end .ensures)
+part-push-text-end c =
+    let start = c .before .before .before .before in
+    let w = end-reach nameByte (now (start .args .s)) (start .args .at) (omega arith) in omega (arith, w .ahead, w .inside, c .spelling-end .ensures)
 
 push-text-requires : tie.Need-push-text-requires
-push-text-requires c κs = counted-like (c .before .before .before .before .before .before .pre) (sym (run-slice nameByte _ _ _ (c .before .before .spelling-end .ensures)))
+push-text-requires c κs =
+    let start = c .before .before .before .before .before .before in
+    counted-like (start .pre) (sym (run-slice nameByte _ _ _ (c .before .before .spelling-end .ensures)))
 
 same-length : tie.Need-same-length
 same-length c = search needs
 
 returns : tie.Need-returns
-returns c = like (sym (run-slice nameByte _ _ _ (c .before .before .before .before .before .spelling-end .ensures))) (c .before .before .push-text .ensures)
+returns c =
+    let at-spelling-end = c .before .before .before .before .before in
+    like (sym (run-slice nameByte _ _ _ (at-spelling-end .spelling-end .ensures))) (c .before .before .push-text .ensures)
 
 returns-2 : tie.Need-returns-2
 returns-2 c = like (run-past nameByte _ _ (c .if1 .left)) nothing

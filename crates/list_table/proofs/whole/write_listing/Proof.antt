@@ -10,14 +10,18 @@ write-head-requires c κs = search needs
 
 write-signals-requires : tie.Need-write-signals-requires
 unfolding listingText
-write-signals-requires c κs = (c .before .before .before .before .before .before .before .before .before .pre .0, λ f. counted-rest (c .before .before .before .before .before .before .before .before .before .pre .1 f) (c .before .before .before .write-head .ensures))
+write-signals-requires c κs =
+    let start = c .before .before .before .before .before .before .before .before .before in
+    (start .pre .0, λ f. counted-rest (start .pre .1 f) (c .before .before .before .write-head .ensures))
 
 same-length : tie.Need-same-length
 same-length c = search needs
 
 returns : tie.Need-returns
 unfolding listingText
-returns c = λ f a. and-then (c .before .before .before .before .before .before .write-head .ensures) (c .before .before .write-signals .ensures f a)
+returns c =
+    let at-write-head = c .before .before .before .before .before .before in
+    λ f a. and-then (at-write-head .write-head .ensures) (c .before .before .write-signals .ensures f a)
 
 pub write-listing-spec : {M : Type 1} → statement M
 write-listing-spec =

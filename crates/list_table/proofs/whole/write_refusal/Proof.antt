@@ -17,14 +17,18 @@ slice-aggregate-write-number-line-2 : tie.Need-slice-aggregate-write-number-line
 slice-aggregate-write-number-line-2 c = search needs
 
 write-number-line-requires-2 : tie.Need-write-number-line-requires-2
-write-number-line-requires-2 c κs = number-counted _ _ (omega (arith, number-ends _ _ (c .before .before .before .before .write-number-line .ensures)))
+write-number-line-requires-2 c κs =
+    let at-write-number-line = c .before .before .before .before in
+    number-counted _ _ (omega (arith, number-ends _ _ (at-write-number-line .write-number-line .ensures)))
 
 same-length : tie.Need-same-length
 same-length c = search needs
 
 returns : tie.Need-returns
 unfolding refusalText
-returns c = and-then (c .before .before .before .before .before .before .before .write-number-line .ensures) (c .before .before .write-number-line2 .ensures)
+returns c =
+    let at-write-number-line = c .before .before .before .before .before .before .before in
+    and-then (at-write-number-line .write-number-line .ensures) (c .before .before .write-number-line2 .ensures)
 
 pub write-refusal-spec : {M : Type 1} → statement M
 write-refusal-spec =

@@ -63,7 +63,8 @@ loop-less c = omega arith
 
 loop-again : tie.Need-loop-again Inv-loop μ-loop
 loop-again c =
-    let a = c .before .before .before .before .before .args in
+    let start = c .before .before .before .before .before in
+    let a = start .args in
     let l = c .before .before .loop in (
       omega arith,
       simp length-set (l .inv .1),
@@ -84,10 +85,11 @@ same-length c = omega arith
 
 returns-2 : tie.Need-returns-2 Inv-loop μ-loop
 returns-2 c =
+    let start = c .before .before .before .before in
     let l = c .before .loop in
     let e : l .i ≡ c .before .before .before .before .args .n = omega arith in
     rw (l .inv .3, e)
-    (run-done (gates _ _ _) _ (gates-start _ _ _) (gates-next _ _ _) _ (c .before .before .before .before .args .n) (c .before .before .before .before .args .used) (c .before .before .before .before .args .out .now) _ (omega arith) (rw e at (l .inv .4)))
+    (run-done (gates _ _ _) _ (gates-start _ _ _) (gates-next _ _ _) _ (start .args .n) (start .args .used) (start .args .out .now) _ (omega arith) (rw e at (l .inv .4)))
 
 pub write-gates-spec : {M : Type 1} → statement M
 write-gates-spec =

@@ -52,8 +52,9 @@ loop-less c = omega arith
 
 loop-again : tie.Need-loop-again Inv-loop μ-loop
 loop-again c =
+    let start = c .before .before .before .before .before .before in
     let l = c .before .before .before .loop in
-    (omega arith, simp length-set (l .inv .1), rw (c .look-code .ensures, l .inv .2, c .before .before .before .before .before .before .pre .1 .1 (l .i) (c .before .before .loop-test .taken)) (run-step (looks _ _) _ (looks-start _ _) (looks-next _ _) _ _ _))
+    (omega arith, simp length-set (l .inv .1), rw (c .look-code .ensures, l .inv .2, start .pre .1 .1 (l .i) (c .before .before .loop-test .taken)) (run-step (looks _ _) _ (looks-start _ _) (looks-next _ _) _ _ _))
 
 cast-row : tie.Need-cast-row Inv-loop μ-loop
 cast-row c = omega arith
@@ -66,9 +67,10 @@ same-length c = omega arith
 
 returns-2 : tie.Need-returns-2 Inv-loop μ-loop
 returns-2 c =
+    let start = c .before .before .before .before in
     let l = c .before .loop in
     let e : l .i ≡ c .before .before .before .before .args .n = omega arith in
-    run-done (looks _ _) _ (looks-start _ _) (looks-next _ _) _ (c .before .before .before .before .args .n) (c .before .before .before .before .args .used) (c .before .before .before .before .args .out .now) _ (omega arith) (rw e at (l .inv .2))
+    run-done (looks _ _) _ (looks-start _ _) (looks-next _ _) _ (start .args .n) (start .args .used) (start .args .out .now) _ (omega arith) (rw e at (l .inv .2))
 
 pub write-looks-spec : {M : Type 1} → statement M
 write-looks-spec =

@@ -25,7 +25,9 @@ same-length c = search needs
 
 returns-2 : tie.Need-returns-2
 unfolding Lowers rowCode packed
-returns-2 c = rw (c .before .before .before .before .if1 .left, add-zero) (c .before .before .push-row .ensures)
+returns-2 c =
+    let at-if1 = c .before .before .before .before in
+    rw (at-if1 .if1 .left, add-zero) (c .before .before .push-row .ensures)
 
 pub name-row-spec : {M : Type 1} → statement M
 name-row-spec =

@@ -51,7 +51,8 @@ module _ (t : ℕ) where
 
   both-definings-lower-definings-requires : both-definings-lts.Need-lower-definings-requires both-definings-calls both-definings-at both-definings.Post
   both-definings-lower-definings-requires c κs =
-      let s = c .before .before .before .before .before .args in
+      let start = c .before .before .before .before .before in
+      let s = start .args in
       let n = length-append (definingsAt (s .arena .now) (s .left)) (definingsAt (s .arena .now) (s .right)) in
       (omega arith, (search needs, (omega arith, search needs)))
 
@@ -69,14 +70,18 @@ module _ (t : ℕ) where
 
   both-definings-returns : both-definings-lts.Need-returns both-definings-calls both-definings-at both-definings.Post
   both-definings-returns c =
-      let s = c .before .before .before .before .before .before .before .before .before .before .before .before .args in
-      rules-full (definingsAt (s .arena .now) (s .left)) (definingsAt (s .arena .now) (s .right)) _ _ _ _ _ (c .before .before .before .before .before .before .lower-definings .ensures) _ (c .enum-told .given .1)
+      let at-lower-definings = c .before .before .before .before .before .before in
+      let start = at-lower-definings .before .before .before .before .before .before in
+      let s = start .args in
+      rules-full (definingsAt (s .arena .now) (s .left)) (definingsAt (s .arena .now) (s .right)) _ _ _ _ _ (at-lower-definings .lower-definings .ensures) _ (c .enum-told .given .1)
 
   both-definings-lower-definings-requires-2 : both-definings-lts.Need-lower-definings-requires-2 both-definings-calls both-definings-at both-definings.Post
   both-definings-lower-definings-requires-2 c κs =
-      let s = c .before .before .before .before .before .before .before .before .before .before .before .before .before .before .before .args in
-      let given = c .before .before .before .before .before .before .before .before .before .before .before .before .before .before .before .pre .1 in
-      let w = c .before .before .before .before .before .before .before .before .before .lower-definings .ensures in
+      let at-lower-definings = c .before .before .before .before .before .before .before .before .before in
+      let start = at-lower-definings .before .before .before .before .before .before in
+      let s = start .args in
+      let given = start .pre .1 in
+      let w = at-lower-definings .lower-definings .ensures in
       let W = went-all _ _ _ _ _ _ w _ _ (c .before .before .before .free .given .1) in
       let n = rules-tops (definingsAt (s .arena .now) (s .left)) (definingsAt (s .arena .now) (s .right)) _ _ _ _ _ w _ _ (c .before .before .before .free .given .1) _ (given .1 .0) in
       (omega arith, (given .0 .right, (omega arith, buffer-on (given .1 .1) (W .room) (W .long))))
@@ -89,10 +94,14 @@ module _ (t : ℕ) where
 
   both-definings-returns-2 : both-definings-lts.Need-returns-2 both-definings-calls both-definings-at both-definings.Post
   both-definings-returns-2 c =
-      let s = c .before .before .before .before .before .before .before .before .before .before .before .before .before .before .before .before .before .before .before .before .args in
-      let lefts = c .before .before .before .before .before .before .before .before .before .before .before .before .before .before .lower-definings .ensures in
-      let free-is = c .before .before .before .before .before .before .before .before .free .given .1 in
-      let rights = c .before .before .before .before .lower-definings2 .ensures in
+      let at-lower-definings2 = c .before .before .before .before in
+      let at-free = at-lower-definings2 .before .before .before .before in
+      let at-lower-definings = at-free .before .before .before .before .before .before in
+      let start = at-lower-definings .before .before .before .before .before .before in
+      let s = start .args in
+      let lefts = at-lower-definings .lower-definings .ensures in
+      let free-is = at-free .free .given .1 in
+      let rights = at-lower-definings2 .lower-definings2 .ensures in
       rules-then (definingsAt (s .arena .now) (s .left)) (definingsAt (s .arena .now) (s .right)) _ _ _ _ _ lefts _ _ free-is _ _ rights
 
   lower-definings-node-at-requires : lower-definings-lts.Need-node-at-requires lower-definings-calls lower-definings-at lower-definings.Post
@@ -106,9 +115,11 @@ module _ (t : ℕ) where
 
   lower-definings-lower-definings-requires : lower-definings-lts.Need-lower-definings-requires lower-definings-calls lower-definings-at lower-definings.Post
   lower-definings-lower-definings-requires c κs =
-      let given = c .before .before .before .before .before .before .before .before .before .pre .1 in
+      let at-node-at = c .before .before .before .before .before in
+      let start = at-node-at .before .before .before .before in
+      let given = start .pre .1 in
       let A = given .0 in
-      let e = sym (c .before .before .before .before .before .node-at .ensures) ∙ c .before .before .before .x .given .1 in
+      let e = sym (at-node-at .node-at .ensures) ∙ c .before .before .before .x .given .1 in
       let R = right-step _ _ A (omega arith) e in
       let z = ap length (definings-step _ _ A (omega arith) e) in
       (omega arith, (arena-fewer _ (omega arith) A, (omega arith, given .1 .1)))
@@ -118,9 +129,11 @@ module _ (t : ℕ) where
 
   lower-definings-both-definings-requires : lower-definings-lts.Need-both-definings-requires lower-definings-calls lower-definings-at lower-definings.Post
   lower-definings-both-definings-requires c κs =
-      let given = c .before .before .before .before .before .before .before .before .before .pre .1 in
+      let at-node-at = c .before .before .before .before .before in
+      let start = at-node-at .before .before .before .before in
+      let given = start .pre .1 in
       let A = given .0 in
-      let e = sym (c .before .before .before .before .before .node-at .ensures) ∙ c .before .before .before .x2 .given .1 in
+      let e = sym (at-node-at .node-at .ensures) ∙ c .before .before .before .x2 .given .1 in
       let R = right-step _ _ A (omega arith) e in
       let z = ap length (definings-step _ _ A (omega arith) e) in
       (omega arith, (record { left = arena-fewer _ (omega arith) A; right = arena-fewer _ (omega arith) A }, (omega arith, given .1 .1)))
@@ -130,9 +143,11 @@ module _ (t : ℕ) where
 
   lower-definings-lower-definings-requires-2 : lower-definings-lts.Need-lower-definings-requires-2 lower-definings-calls lower-definings-at lower-definings.Post
   lower-definings-lower-definings-requires-2 c κs =
-      let given = c .before .before .before .before .before .before .before .before .before .pre .1 in
+      let at-node-at = c .before .before .before .before .before in
+      let start = at-node-at .before .before .before .before in
+      let given = start .pre .1 in
       let A = given .0 in
-      let e = sym (c .before .before .before .before .before .node-at .ensures) ∙ c .before .before .before .x3 .given .1 in
+      let e = sym (at-node-at .node-at .ensures) ∙ c .before .before .before .x3 .given .1 in
       let R = right-step _ _ A (omega arith) e in
       let z = ap length (definings-step _ _ A (omega arith) e) in
       (omega arith, (arena-fewer _ (omega arith) A, (omega arith, given .1 .1)))
@@ -142,7 +157,8 @@ module _ (t : ℕ) where
 
   lower-definings-sub-own : lower-definings-lts.Need-sub-own lower-definings-calls lower-definings-at lower-definings.Post
   lower-definings-sub-own c =
-      let A = c .before .before .before .before .before .before .before .pre .1 .0 in
+      let start = c .before .before .before .before .before .before .before in
+      let A = start .pre .1 .0 in
       let e = sym (c .before .before .before .node-at .ensures) ∙ c .before .x4 .given .1 in
       let R = right-step _ _ A (omega arith) e in
       let z = ap length (definings-step _ _ A (omega arith) e) in
@@ -150,9 +166,11 @@ module _ (t : ℕ) where
 
   lower-definings-lower-rule-requires : lower-definings-lts.Need-lower-rule-requires lower-definings-calls lower-definings-at lower-definings.Post
   lower-definings-lower-rule-requires c κs =
-      let given = c .before .before .before .before .before .before .before .before .before .pre .1 in
+      let at-node-at = c .before .before .before .before .before in
+      let start = at-node-at .before .before .before .before in
+      let given = start .pre .1 in
       let A = given .0 in
-      let e = sym (c .before .before .before .before .before .node-at .ensures) ∙ c .before .before .before .x4 .given .1 in
+      let e = sym (at-node-at .node-at .ensures) ∙ c .before .before .before .x4 .given .1 in
       let R = right-step _ _ A (omega arith) e in
       let z = ap length (definings-step _ _ A (omega arith) e) in
       (arena-fewer _ (omega arith) A, (omega arith, given .1 .1))
@@ -171,24 +189,33 @@ module _ (t : ℕ) where
 
   lower-definings-returns : lower-definings-lts.Need-returns lower-definings-calls lower-definings-at lower-definings.Post
   lower-definings-returns c =
-      let e = sym (c .before .before .before .before .before .before .before .before .before .before .before .before .node-at .ensures) ∙ c .before .before .before .before .before .before .before .before .before .before .x4 .given .1 in
-      let own = c .before .before .before .before .before .before .lower-rule .ensures in
-      rw (definings-step _ _ (c .before .before .before .before .before .before .before .before .before .before .before .before .before .before .before .before .pre .1 .0) (omega arith) e) (all-full (_ ∷ []) _ _ _ _ _ _ own _ (c .enum-told2 .given .1))
+      let at-lower-rule = c .before .before .before .before .before .before in
+      let at-x4 = at-lower-rule .before .before .before .before in
+      let at-node-at = at-x4 .before .before in
+      let start = at-node-at .before .before .before .before in
+      let e = sym (at-node-at .node-at .ensures) ∙ at-x4 .x4 .given .1 in
+      let own = at-lower-rule .lower-rule .ensures in
+      rw (definings-step _ _ (start .pre .1 .0) (omega arith) e) (all-full (_ ∷ []) _ _ _ _ _ _ own _ (c .enum-told2 .given .1))
 
   lower-definings-both-definings-requires-2 : lower-definings-lts.Need-both-definings-requires-2 lower-definings-calls lower-definings-at lower-definings.Post
   lower-definings-both-definings-requires-2 c κs =
-      let given = c .before .before .before .before .before .before .before .before .before .before .before .before .before .before .before .before .before .before .before .pre .1 in
+      let at-lower-rule = c .before .before .before .before .before .before .before .before .before in
+      let at-x4 = at-lower-rule .before .before .before .before in
+      let at-node-at = at-x4 .before .before in
+      let start = at-node-at .before .before .before .before in
+      let given = start .pre .1 in
       let A = given .0 in
-      let e = sym (c .before .before .before .before .before .before .before .before .before .before .before .before .before .before .before .node-at .ensures) ∙ c .before .before .before .before .before .before .before .before .before .before .before .before .before .x4 .given .1 in
+      let e = sym (at-node-at .node-at .ensures) ∙ at-x4 .x4 .given .1 in
       let R = right-step _ _ A (omega arith) e in
       let z = ap length (definings-step _ _ A (omega arith) e) in
-      let W = went-all _ _ _ _ _ _ (c .before .before .before .before .before .before .before .before .before .lower-rule .ensures) _ _ (c .before .before .before .free .given .1) in
+      let W = went-all _ _ _ _ _ _ (at-lower-rule .lower-rule .ensures) _ _ (c .before .before .before .free .given .1) in
       (omega arith, (record { left = arena-fewer _ (omega arith) A; right = arena-fewer _ (omega arith) A }, (omega arith, buffer-on (given .1 .1) (W .room) (W .long))))
 
   lower-definings-returns-2 : lower-definings-lts.Need-returns-2 lower-definings-calls lower-definings-at lower-definings.Post
   lower-definings-returns-2 c =
+      let start = c .before .before .before .before .before .before in
       let e = sym (c .before .before .node-at .ensures) ∙ c .enum-told .given .1 in
-      rw (definings-step _ _ (c .before .before .before .before .before .before .pre .1 .0) (omega arith) e) (all-none _ _ _ (c .before .before .before .before .before .before .pre .1 .1 .1 .used-in))
+      rw (definings-step _ _ (start .pre .1 .0) (omega arith) e) (all-none _ _ _ (start .pre .1 .1 .1 .used-in))
 
   lower-definings-same-length-3 : lower-definings-lts.Need-same-length-3 lower-definings-calls lower-definings-at lower-definings.Post
   lower-definings-same-length-3 c = search needs
@@ -198,8 +225,12 @@ module _ (t : ℕ) where
 
   lower-definings-returns-3 : lower-definings-lts.Need-returns-3 lower-definings-calls lower-definings-at lower-definings.Post
   lower-definings-returns-3 c =
-      let e = sym (c .before .before .before .before .before .before .before .before .before .before .node-at .ensures) ∙ c .before .before .before .before .before .before .before .before .x .given .1 in
-      rw (definings-step _ _ (c .before .before .before .before .before .before .before .before .before .before .before .before .before .before .pre .1 .0) (omega arith) e) (c .before .before .before .before .lower-definings .ensures)
+      let at-lower-definings = c .before .before .before .before in
+      let at-x = at-lower-definings .before .before .before .before in
+      let at-node-at = at-x .before .before in
+      let start = at-node-at .before .before .before .before in
+      let e = sym (at-node-at .node-at .ensures) ∙ at-x .x .given .1 in
+      rw (definings-step _ _ (start .pre .1 .0) (omega arith) e) (at-lower-definings .lower-definings .ensures)
 
   lower-definings-same-length-5 : lower-definings-lts.Need-same-length-5 lower-definings-calls lower-definings-at lower-definings.Post
   lower-definings-same-length-5 c = search needs
@@ -209,8 +240,12 @@ module _ (t : ℕ) where
 
   lower-definings-returns-4 : lower-definings-lts.Need-returns-4 lower-definings-calls lower-definings-at lower-definings.Post
   lower-definings-returns-4 c =
-      let e = sym (c .before .before .before .before .before .before .before .before .before .before .node-at .ensures) ∙ c .before .before .before .before .before .before .before .before .x2 .given .1 in
-      rw (definings-step _ _ (c .before .before .before .before .before .before .before .before .before .before .before .before .before .before .pre .1 .0) (omega arith) e) (c .before .before .before .before .both-definings .ensures)
+      let at-both-definings = c .before .before .before .before in
+      let at-x2 = at-both-definings .before .before .before .before in
+      let at-node-at = at-x2 .before .before in
+      let start = at-node-at .before .before .before .before in
+      let e = sym (at-node-at .node-at .ensures) ∙ at-x2 .x2 .given .1 in
+      rw (definings-step _ _ (start .pre .1 .0) (omega arith) e) (at-both-definings .both-definings .ensures)
 
   lower-definings-same-length-7 : lower-definings-lts.Need-same-length-7 lower-definings-calls lower-definings-at lower-definings.Post
   lower-definings-same-length-7 c = search needs
@@ -220,8 +255,12 @@ module _ (t : ℕ) where
 
   lower-definings-returns-5 : lower-definings-lts.Need-returns-5 lower-definings-calls lower-definings-at lower-definings.Post
   lower-definings-returns-5 c =
-      let e = sym (c .before .before .before .before .before .before .before .before .before .before .node-at .ensures) ∙ c .before .before .before .before .before .before .before .before .x3 .given .1 in
-      rw (definings-step _ _ (c .before .before .before .before .before .before .before .before .before .before .before .before .before .before .pre .1 .0) (omega arith) e) (c .before .before .before .before .lower-definings2 .ensures)
+      let at-lower-definings2 = c .before .before .before .before in
+      let at-x3 = at-lower-definings2 .before .before .before .before in
+      let at-node-at = at-x3 .before .before in
+      let start = at-node-at .before .before .before .before in
+      let e = sym (at-node-at .node-at .ensures) ∙ at-x3 .x3 .given .1 in
+      rw (definings-step _ _ (start .pre .1 .0) (omega arith) e) (at-lower-definings2 .lower-definings2 .ensures)
 
   lower-definings-same-length-9 : lower-definings-lts.Need-same-length-9 lower-definings-calls lower-definings-at lower-definings.Post
   lower-definings-same-length-9 c = search needs
@@ -231,11 +270,17 @@ module _ (t : ℕ) where
 
   lower-definings-returns-6 : lower-definings-lts.Need-returns-6 lower-definings-calls lower-definings-at lower-definings.Post
   lower-definings-returns-6 c =
-      let e = sym (c .before .before .before .before .before .before .before .before .before .before .before .before .before .before .before .before .before .before .before .before .node-at .ensures) ∙ c .before .before .before .before .before .before .before .before .before .before .before .before .before .before .before .before .before .before .x4 .given .1 in
-      let own = c .before .before .before .before .before .before .before .before .before .before .before .before .before .before .lower-rule .ensures in
-      let free-is = c .before .before .before .before .before .before .before .before .free .given .1 in
-      let rest = c .before .before .before .before .both-definings2 .ensures in
-      rw (definings-step _ _ (c .before .before .before .before .before .before .before .before .before .before .before .before .before .before .before .before .before .before .before .before .before .before .before .before .pre .1 .0) (omega arith) e) (all-then (_ ∷ []) _ _ _ _ _ _ own _ _ free-is _ _ rest)
+      let at-both-definings2 = c .before .before .before .before in
+      let at-free = at-both-definings2 .before .before .before .before in
+      let at-lower-rule = at-free .before .before .before .before .before .before in
+      let at-x4 = at-lower-rule .before .before .before .before in
+      let at-node-at = at-x4 .before .before in
+      let start = at-node-at .before .before .before .before in
+      let e = sym (at-node-at .node-at .ensures) ∙ at-x4 .x4 .given .1 in
+      let own = at-lower-rule .lower-rule .ensures in
+      let free-is = at-free .free .given .1 in
+      let rest = at-both-definings2 .both-definings2 .ensures in
+      rw (definings-step _ _ (start .pre .1 .0) (omega arith) e) (all-then (_ ∷ []) _ _ _ _ _ _ own _ _ free-is _ _ rest)
 
 pub +both-definings+lower-definings-spec : {M : Type 1} → statement M
 +both-definings+lower-definings-spec =

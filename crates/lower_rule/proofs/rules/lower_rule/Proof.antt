@@ -17,7 +17,9 @@ same-length : tie.Need-same-length
 same-length c = search needs
 
 returns : tie.Need-returns
-returns c = one-full _ _ _ _ _ _ _ (c .before .before .before .before .lower .ensures) (c .enum-told .given .1)
+returns c =
+    let at-lower = c .before .before .before .before in
+    one-full _ _ _ _ _ _ _ (at-lower .lower .ensures) (c .enum-told .given .1)
 
 mul-tops : tie.Need-mul-tops
 mul-tops c = search needs
@@ -35,7 +37,9 @@ same-length-3 : tie.Need-same-length-3
 same-length-3 c = search needs
 
 returns-2 : tie.Need-returns-2
-returns-2 c = one-then _ _ _ _ _ _ _ (c .before .before .before .before .before .lower .ensures) _ _ (c .before .row .given .1)
+returns-2 c =
+    let at-lower = c .before .before .before .before .before in
+    one-then _ _ _ _ _ _ _ (at-lower .lower .ensures) _ _ (c .before .row .given .1)
 
 pub lower-rule-spec : {M : Type 1} → statement M
 lower-rule-spec =

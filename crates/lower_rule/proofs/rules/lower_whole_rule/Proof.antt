@@ -21,8 +21,9 @@ same-length-2 c = search needs
 
 returns : tie.Need-returns
 returns c =
+    let at-lower-rule = c .before .before .before .before .before in
     let here = c .before .before .before .before .before .before .before .before .before .before .before in
-    one-alone (formAt (here .args .arena .now) (here .args .node)) (definingsAt (here .args .arena .now) (here .args .node)) (here .pre .0 .hidden ∙ c .if1 .taken) _ _ _ _ _ (c .before .before .before .before .before .lower-rule .ensures)
+    one-alone (formAt (here .args .arena .now) (here .args .node)) (definingsAt (here .args .arena .now) (here .args .node)) (here .pre .0 .hidden ∙ c .if1 .taken) _ _ _ _ _ (at-lower-rule .lower-rule .ensures)
 
 enum-known-r : tie.Need-enum-known-r
 enum-known-r c = search needs
@@ -37,12 +38,16 @@ same-length-4 : tie.Need-same-length-4
 same-length-4 c = search needs
 
 returns-2 : tie.Need-returns-2
-returns-2 c = let e = c .enum-told .given .1 in subst (LowersAll _ _ _ _ _) (sym e) (all-full (_ ∷ []) _ _ _ _ _ _ (c .before .before .before .before .before .before .before .lower-rule .ensures) _ e)
+returns-2 c =
+    let at-lower-rule = c .before .before .before .before .before .before .before in
+    let e = c .enum-told .given .1 in subst (LowersAll _ _ _ _ _) (sym e) (all-full (_ ∷ []) _ _ _ _ _ _ (at-lower-rule .lower-rule .ensures) _ e)
 
 lower-definings-requires : tie.Need-lower-definings-requires
 lower-definings-requires c κs =
-    let W = went-all _ _ _ _ _ _ (c .before .before .before .before .before .before .before .before .before .before .lower-rule .ensures) _ _ (c .before .before .before .r .given .1) in
-    let given = c .before .before .before .before .before .before .before .before .before .before .before .before .before .before .before .before .pre in
+    let at-lower-rule = c .before .before .before .before .before .before .before .before .before .before in
+    let start = at-lower-rule .before .before .before .before .before .before in
+    let W = went-all _ _ _ _ _ _ (at-lower-rule .lower-rule .ensures) _ _ (c .before .before .before .r .given .1) in
+    let given = start .pre in
     (given .0 .stands, (omega (arith, given .0 .hidden, given .1 .0), buffer-on (given .1 .1) (W .room) (W .long)))
 
 same-length-5 : tie.Need-same-length-5
@@ -53,9 +58,12 @@ same-length-6 c = search needs
 
 returns-3 : tie.Need-returns-3
 returns-3 c =
-    let own = c .before .before .before .before .before .before .before .before .before .before .before .before .before .before .before .lower-rule .ensures in
-    let r-is = c .before .before .before .before .before .before .before .before .r .given .1 in
-    let rest = c .before .before .before .before .lower-definings .ensures in
+    let at-lower-definings = c .before .before .before .before in
+    let at-r = at-lower-definings .before .before .before .before in
+    let at-lower-rule = at-r .before .before .before .before .before .before .before in
+    let own = at-lower-rule .lower-rule .ensures in
+    let r-is = at-r .r .given .1 in
+    let rest = at-lower-definings .lower-definings .ensures in
     all-then (_ ∷ []) _ _ _ _ _ _ own _ _ r-is _ _ rest
 
 pub lower-whole-rule-spec : {M : Type 1} → statement M

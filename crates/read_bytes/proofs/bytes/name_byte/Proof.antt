@@ -14,7 +14,9 @@ returns c = sym (all-at nameByte 10 48 refl (c .before .before .args .b) (omega 
 
 returns-2 : tie.Need-returns-2
 unfolding allFrom nameByte
-returns-2 c = sym (all-at nameByte 26 97 refl (c .before .before .before .before .args .b) (omega arith) (omega arith))
+returns-2 c =
+    let start = c .before .before .before .before in
+    sym (all-at nameByte 26 97 refl (start .args .b) (omega arith) (omega arith))
 
 returns-3 : tie.Need-returns-3
 unfolding allFrom nameByte
@@ -26,7 +28,9 @@ returns-4 c = sym (not-true (nameByte (c .before .before .before .args .b)) (all
 
 returns-5 : tie.Need-returns-5
 unfolding allFrom nameByte
-returns-5 c = sym (not-true (nameByte (c .before .before .before .before .args .b)) (all-at (λ b. not (nameByte b)) 133 123 refl (c .before .before .before .before .args .b) (omega arith) (omega arith)))
+returns-5 c =
+    let start = c .before .before .before .before in
+    sym (not-true (nameByte (start .args .b)) (all-at (λ b. not (nameByte b)) 133 123 refl (start .args .b) (omega arith) (omega arith)))
 
 pub name-byte-spec : {M : Type 1} → statement M
 name-byte-spec = tie.close (tie.spec returns returns-2 returns-3 returns-4 returns-5)

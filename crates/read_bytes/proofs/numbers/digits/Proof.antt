@@ -25,7 +25,9 @@ byte-at-requires : tie.Need-byte-at-requires Inv-loop μ-loop
 byte-at-requires c κs = search needs
 
 mul-v : tie.Need-mul-v Inv-loop μ-loop
-mul-v c = omega (arith, ten-less (c .before .before .before .before .loop .v) (c .before .before .before .before .loop .left))
+mul-v c =
+    let at-loop = c .before .before .before .before in
+    omega (arith, ten-less (at-loop .loop .v) (at-loop .loop .left))
 
 cast-v : tie.Need-cast-v Inv-loop μ-loop
 cast-v c = search needs
@@ -34,7 +36,9 @@ sub-v : tie.Need-sub-v Inv-loop μ-loop
 sub-v c = search needs
 
 add-v : tie.Need-add-v Inv-loop μ-loop
-add-v c = omega (arith, ten-less (c .before .before .before .before .loop .v) (c .before .before .before .before .loop .left))
+add-v c =
+    let at-loop = c .before .before .before .before in
+    omega (arith, ten-less (at-loop .loop .v) (at-loop .loop .left))
 
 add-p : tie.Need-add-p Inv-loop μ-loop
 add-p c = search needs
@@ -47,9 +51,11 @@ loop-less c = search needs
 
 loop-again : tie.Need-loop-again Inv-loop μ-loop
 loop-again c =
-    let a = c .before .before .before .before .before .before .args in
-    let d = digits-on (now (a .s)) (c .before .before .before .before .loop .left) (c .before .before .before .before .loop .p) (c .before .before .before .before .loop .v) _ (omega arith) (c .before .before .byte-at .ensures) (omega arith) (omega arith) in
-    (c .before .before .before .before .loop .inv .0 ∙ d .0, d .1, omega (arith, d .2))
+    let at-loop = c .before .before .before .before in
+    let start = at-loop .before .before in
+    let a = start .args in
+    let d = digits-on (now (a .s)) (at-loop .loop .left) (at-loop .loop .p) (at-loop .loop .v) _ (omega arith) (c .before .before .byte-at .ensures) (omega arith) (omega arith) in
+    (at-loop .loop .inv .0 ∙ d .0, d .1, omega (arith, d .2))
 
 returns : tie.Need-returns Inv-loop μ-loop
 returns c =
@@ -57,7 +63,8 @@ returns c =
 
 returns-2 : tie.Need-returns-2 Inv-loop μ-loop
 returns-2 c =
-    sym (c .before .before .before .before .loop .inv .0 ∙ digits-off _ _ _ _ _ (c .before .before .byte-at .ensures) (between-high (byte "0") (byte "9") (c .before .before .byte-at .result) (omega arith)))
+    let at-loop = c .before .before .before .before in
+    sym (at-loop .loop .inv .0 ∙ digits-off _ _ _ _ _ (c .before .before .byte-at .ensures) (between-high (byte "0") (byte "9") (c .before .before .byte-at .result) (omega arith)))
 
 returns-3 : tie.Need-returns-3 Inv-loop μ-loop
 returns-3 c =

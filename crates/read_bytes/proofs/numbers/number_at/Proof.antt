@@ -22,7 +22,8 @@ returns c = number-zero _ _ _ (c .before .byte-at .ensures) (c .match .keys1)
 
 returns-2 : tie.Need-returns-2
 returns-2 c =
-    c .digits .ensures ∙ number-some _ _ _ (c .before .before .before .before .byte-at .ensures) (omega arith) (omega arith)
+    let at-byte-at = c .before .before .before .before in
+    c .digits .ensures ∙ number-some _ _ _ (at-byte-at .byte-at .ensures) (omega arith) (omega arith)
 
 returns-3 : tie.Need-returns-3
 returns-3 c =

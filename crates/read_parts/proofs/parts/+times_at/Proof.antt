@@ -118,7 +118,8 @@ module _ (t : ℕ) where
 
   times-at-returns-3 : times-at-lts.Need-returns-3 times-at-calls times-at-at times-at.Post
   times-at-returns-3 c =
-      let asked = c .before .before .before .before .pre .1 in
+      let start = c .before .before .before .before in
+      let asked = start .pre .1 in
       λ n x f l he hs. by (times-none _ n f _ (timed-unsigned _ _ _ (c .before .byte-at .ensures) (inl (c .if1 .taken)))) (stop (asked .ready .within) (asked .ready .arena) he hs)
 
   times-at-returns-4 : times-at-lts.Need-returns-4 times-at-calls times-at-at times-at.Post

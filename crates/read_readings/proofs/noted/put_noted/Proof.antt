@@ -34,7 +34,8 @@ cast-w c = omega (arith, c .shared-slice-known2 .given (c .before .before .loop 
 
 put-mark-requires : tie.Need-put-mark-requires Inv-loop μ-loop
 put-mark-requires c κs =
-    let m = marks-all (MarkRoom _ _) _ _ _ (c .before .before .loop-test .taken) (c .before .before .before .before .before .before .pre .0) (c .before .before .before .before .before .before .pre .1) in
+    let start = c .before .before .before .before .before .before in
+    let m = marks-all (MarkRoom _ _) _ _ _ (c .before .before .loop-test .taken) (start .pre .0) (start .pre .1) in
     (m .0, omega (arith, m .1, c .before .before .before .loop .inv .1 .size))
 
 add-i : tie.Need-add-i Inv-loop μ-loop
@@ -45,7 +46,8 @@ loop-less c = omega arith
 
 loop-again : tie.Need-loop-again Inv-loop μ-loop
 loop-again c =
-    (omega arith, puts-same _ _ (sym (marks-next _ _ (omega arith))) (puts-more _ _ (c .before .before .before .before .before .before .loop .inv .1) (c .before .before .put-mark .ensures)))
+    let at-loop = c .before .before .before .before .before .before in
+    (omega arith, puts-same _ _ (sym (marks-next _ _ (omega arith))) (puts-more _ _ (at-loop .loop .inv .1) (c .before .before .put-mark .ensures)))
 
 same-length : tie.Need-same-length Inv-loop μ-loop
 same-length c = c .before .loop .inv .1 .size

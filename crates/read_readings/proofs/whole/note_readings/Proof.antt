@@ -38,7 +38,8 @@ loop-holds c = (refl, omega arith, passed-none _ _)
 
 reading-at-requires : tie.Need-reading-at-requires Inv-loop μ-loop
 reading-at-requires c κs =
-    let asked = c .before .before .before .before .before .before .before .pre in
+    let start = c .before .before .before .before .before .before .before in
+    let asked = start .pre in
     (asked .some, c .before .loop .inv .2 .inside)
 
 enum-known-a : tie.Need-enum-known-a Inv-loop μ-loop

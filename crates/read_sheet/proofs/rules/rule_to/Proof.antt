@@ -28,7 +28,8 @@ slice-aggregate-rule c = simp length-take (omega arith)
 
 rule-requires : tie.Need-rule-requires
 rule-requires c κs =
-    let asked = c .before .before .before .before .before .before .before .pre in
+    let start = c .before .before .before .before .before .before .before in
+    let asked = start .pre in
     rule-ready _ _ _ _ _ _ (asked .ready) (asked .ended) (omega arith)
 
 enum-known-r : tie.Need-enum-known-r

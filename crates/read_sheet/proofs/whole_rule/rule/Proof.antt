@@ -19,21 +19,27 @@ same-length c = search needs
 
 returns : tie.Need-returns
 unfolding rule
-returns c = hand-on _ (c .before .before .before .before .joined .ensures) (c .enum-told .given .1)
+returns c =
+    let at-joined = c .before .before .before .before in
+    hand-on _ (at-joined .joined .ensures) (c .enum-told .given .1)
 
 same-length-2 : tie.Need-same-length-2
 same-length-2 c = search needs
 
 returns-2 : tie.Need-returns-2
 unfolding rule
-returns-2 c = whole _ (was (c .before .before .before .before .before .before .joined .ensures) (c .before .before .r .given .1)) (c .if1 .taken)
+returns-2 c =
+    let at-joined = c .before .before .before .before .before .before in
+    whole _ (was (at-joined .joined .ensures) (c .before .before .r .given .1)) (c .if1 .taken)
 
 same-length-3 : tie.Need-same-length-3
 same-length-3 c = search needs
 
 returns-3 : tie.Need-returns-3
 unfolding rule
-returns-3 c = not-whole _ (was (c .before .before .before .before .before .before .joined .ensures) (c .before .before .r .given .1)) (c .if1 .left)
+returns-3 c =
+    let at-joined = c .before .before .before .before .before .before in
+    not-whole _ (was (at-joined .joined .ensures) (c .before .before .r .given .1)) (c .if1 .left)
 
 pub rule-spec : {M : Type 1} → statement M
 rule-spec =
