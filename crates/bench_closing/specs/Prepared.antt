@@ -1,5 +1,5 @@
 -- What a run needs of an opened sheet, and of the table and the list that it works on.
--- Assumes nothing. `places` are the places of the names, B the rows' words, `tops` the top rows.
+-- Assumes nothing. `places` are the places of the names, B the row codes, `tops` the top rows.
 use mathlib.Core.Path.{_≡_}
 use mathlib.Core.List.{List}
 use Prim.Native.Nat.{ℕ, _+_, _*_, _/_, _≤_, _<_}

@@ -1,4 +1,4 @@
--- A visit by the kind in the row's word. Assumes nothing.
+-- A visit by the kind in the row code. Assumes nothing.
 use mathlib.Core.Path.{_≡_, refl, sym, ap, subst}
 use mathlib.Core.List.{List}
 use Prim.Native.Nat.{ℕ, zero, suc, _≤_, _<_}

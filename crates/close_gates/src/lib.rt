@@ -1,6 +1,6 @@
 // A visit to an item of a row that is no look: the row's rules at the ticks of one word, once through (they add nothing to it then), and every item that
 // rests on a word that they changed put on the list, but for the item itself. A row has `n` words for each value, 64 ticks in each; `q` is the number of a
-// word in a row. Assumes that the words are a program's rows, that the lists of parents are theirs, and that the table and the list of work have them.
+// word in a row. Assumes that the row codes are a program's, that the lists of parents are theirs, and that the table and the list of work have them.
 use close_store::store_child;
 use close_store::store_own;
 use spec_limits::ABOVE;

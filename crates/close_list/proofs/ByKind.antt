@@ -1,4 +1,4 @@
--- What a row's word says by the kind in it of the items of the row itself, and on which rows an item rests. Assumes nothing.
+-- What a row code says by the kind in it of the items of the row itself, and on which rows an item rests. Assumes nothing.
 use mathlib.Core.Path.{_≡_, refl}
 use mathlib.Core.List.{List}
 use mathlib.Core.Logic.{_⊎_, inl, inr, ⊎-elim}
@@ -39,7 +39,7 @@ own-here (suc (suc zero)) a b p q f h = h
 own-here (suc (suc (suc zero))) a b p q f h = absurd (f refl)
 own-here (suc (suc (suc (suc k)))) a b p q f h = h
 
--- ---- the same of a row's word
+-- ---- the same of a row code
 module _ (count : ℕ) (B : List ℕ) (r : ℕ) where
   pub offset-below : Coded count B → kind count B r ≡ 3 → right count B r ≤ 127
   offset-below c e = look-offset (kind count B r) (left count B r) (right count B r) r e (fine-row count B r c)

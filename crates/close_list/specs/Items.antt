@@ -1,5 +1,5 @@
 -- The list of work: an item is a row and a word of 64 ticks, and is on the list if the row's rules may add something to that word.
--- Assumes nothing. n is how many words a row has for each value, B the rows' words, T the table and D the list before, T′ and D′ after.
+-- Assumes nothing. n is how many words a row has for each value, B the row codes, T the table and D the list before, T′ and D′ after.
 use mathlib.Core.Path.{_≡_}
 use mathlib.Core.Bool.{Bool}
 use mathlib.Core.List.{List}

@@ -1,5 +1,5 @@
 -- What the functions that close a table require together. Assumes nothing.
--- count is how many rows there are, n how many words a row has for each value, W the window; B has the rows' words, H and N have the lists of parents, D is the
+-- count is how many rows there are, n how many words a row has for each value, W the window; B has the row codes, H and N have the lists of parents, D is the
 -- list of work and T the table.
 use mathlib.Core.List.{List}
 use Prim.Native.Nat.{ℕ}
@@ -9,7 +9,7 @@ use Rattle.close_rules.specs.Effects.{TableFits}
 use Rattle.close_parents.specs.Links.{Linked}
 use Rattle.close_list.specs.Items.{ListFits}
 
--- Items can be put on the list: the words are a program's rows, the lists of parents are theirs, and the list has a bit for every item.
+-- Items can be put on the list: the row codes are a program's, the lists of parents are theirs, and the list has a bit for every item.
 pub record Queueable (count n : ℕ) (B H N D : List ℕ) : Type 0 where
   pub coded : Coded count B
   pub linked : Linked count B H N

@@ -1,4 +1,4 @@
--- What a row's word says of its children by the kind in it. Assumes nothing.
+-- What a row code says of its children by the kind in it. Assumes nothing.
 use mathlib.Core.Path.{_≡_, refl, subst}
 use mathlib.Core.List.{List}
 use mathlib.Core.Logic.{_⊎_, ⊎-elim}
@@ -52,7 +52,7 @@ two-children (suc zero) a b x l h = h
 two-children (suc (suc zero)) a b x l h = h
 two-children (suc (suc (suc k))) a b x l h = absurd (omega arith)
 
--- ---- the same of a row's word
+-- ---- the same of a row code
 module _ (count : ℕ) (B : List ℕ) (r : ℕ) where
   module _ (c : Coded count B) (some : kind count B r ≡ 0 → ⊥) where
     pub left-below : left count B r < r

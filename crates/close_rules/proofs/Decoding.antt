@@ -55,7 +55,7 @@ pub look-start : (B : List ℕ) (r : ℕ) → getD B r 0 % codeKinds ≡ 3 → L
 look-start B r e = omega arith
 
 module _ (count : ℕ) (B : List ℕ) (r : ℕ) where
-  -- the kind and the two numbers of the row's word
+  -- the kind and the two numbers of the row code
   abbrev pub kind : ℕ
   kind = getD B r 0 % codeKinds
 

@@ -1,5 +1,5 @@
 -- What a visit to an item of work does, also told by the row's node, and how the list is kept. Assumes nothing.
--- n is how many words a row has for each value, B the rows' words, T the table and D the list before, T′ and D′ after. A number that tells of a change
+-- n is how many words a row has for each value, B the row codes, T the table and D the list before, T′ and D′ after. A number that tells of a change
 -- is 0 if there is none.
 use mathlib.Core.Path.{_≡_}
 use mathlib.Core.Bool.{Bool}

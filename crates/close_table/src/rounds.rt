@@ -1,5 +1,5 @@
 // Closes a table: items of the list are visited, word of ticks by word of ticks, until none is left.
-// Assumes that the words are a program's rows, that the table has them, and that no mark is outside the window.
+// Assumes that the row codes are a program's, that the table has them, and that no mark is outside the window.
 use close_list::start;
 use close_parents::EDGES;
 use close_parents::link_rows;

@@ -39,7 +39,7 @@ pub fn mark_tops(tops: &[u16], k: usize, n: usize, window: usize, marks: &mut [u
     }
 }
 
-// Settles the table: it has exactly what the rules lead to from the tops and its marks.
+// Marks the tops and closes the table: it has exactly what the rules lead to from the tops and its marks.
 pub fn close_with_tops(
     rows: &[u64],
     count: usize,

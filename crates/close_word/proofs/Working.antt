@@ -1,4 +1,4 @@
--- Stretches of visits: none, one after another, and a word of the list that is empty then.
+-- Series of visits: none, one after another, and a word of the list that is empty then.
 -- Assumes nothing.
 use mathlib.Core.Path.{_≡_, refl, sym, ap, _∙_, subst}
 use mathlib.Core.List.{List}

@@ -1,5 +1,5 @@
 -- What visits to items one after another do: those of a word of the list, and of any of its words. Assumes nothing.
--- n is how many words a row has for each value, B the rows' words, W the window, T the table and D the list before, T′ and D′ after. A number that tells
+-- n is how many words a row has for each value, B the row codes, W the window, T the table and D the list before, T′ and D′ after. A number that tells
 -- of a change is 0 if there is none.
 use mathlib.Core.Path.{_≡_}
 use mathlib.Core.List.{List}

@@ -1,5 +1,5 @@
 // The items of one word of the list: each is visited and taken off, until none is left there. A row has `n` words for each value, 64 ticks in each.
-// Assumes that the words are a program's rows, that the table has them, and that no mark is outside the window.
+// Assumes that the row codes are a program's, that the table has them, and that no mark is outside the window.
 use close_gates::visit;
 use close_looks::Child;
 use close_looks::child_at;
@@ -40,7 +40,7 @@ fn next_bit(word: u64, from: u64) -> u64
     from + u64::trailing_zeros(rest) as u64
 }
 
-// The first set bit of a word of the list from bit `from` on, if its row's word starts as `kind` says, with its kind and its child; else 64. The bits are
+// The first set bit of a word of the list from bit `from` on, if its row code starts as `kind` says, with its kind and its child; else 64. The bits are
 // those of the rows from `start` on.
 fn next_look(rows: &[u64], start: usize, word: u64, from: u64, kind: u64) -> u64
     requires { ⌜ (from < 64) × (start + 64 ≤ length (now rows)) ⌝ }

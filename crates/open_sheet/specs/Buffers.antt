@@ -1,5 +1,5 @@
 -- An operation's own buffers before its sheet is opened.
--- Assumes nothing. `places` is for the places of the names, B for the rows' words, `tops` for the top rows.
+-- Assumes nothing. `places` is for the places of the names, B for the row codes, `tops` for the top rows.
 use mathlib.Core.Path.{_≡_}
 use mathlib.Core.List.{List}
 use lib.ListN.{length}

@@ -1,4 +1,4 @@
--- The definitions that the contracts cite, lowest layer first; `Ready` serves the functions.
+-- The definitions that the contracts cite, lowest layer first; `OpenedSheet` serves the functions.
 pub mod Results
 pub mod SheetIn
 pub mod Buffers

@@ -1,5 +1,5 @@
 -- What opening a sheet leaves in the operation's own buffers.
--- Assumes nothing. `s` is the sheet's text, `places` the places of the names, B the rows' words.
+-- Assumes nothing. `s` is the sheet's text, `places` the places of the names, B the row codes.
 use mathlib.Core.Path.{_≡_}
 use mathlib.Core.List.{List}
 use Prim.Native.Nat.{ℕ, _≤_}
@@ -12,7 +12,7 @@ use Rattle.open_sheet.specs.declared.Opening.the-variants as opening
 use Rattle.open_sheet.specs.Results.{accepted, refused}
 use Rattle.open_sheet.specs.SheetIn.{sheetIn}
 
--- The sheet stands ready: the places of its names, its rows' words in B and its t top rows in `tops`.
+-- The sheet stands ready: the places of its names, its row codes in B and its t top rows in `tops`.
 pub record OpenedSheet (s places B tops : List ℕ) (w t count : ℕ) : Type 0 where
   pub contents : Contents
   pub holds : sheetIn s ≡ accepted contents

@@ -1,3 +1,3 @@
--- The definitions that the contracts cite, lowest layer first; `Ready` serves the functions.
+-- The definitions that the contracts cite, lowest layer first; `OpenedTable` serves the functions.
 pub mod Opens
 pub mod OpenedTable

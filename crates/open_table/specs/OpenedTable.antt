@@ -1,5 +1,5 @@
 -- What opening a sheet and a table leaves in the operation's own buffers.
--- Assumes nothing. `s` is the sheet's text, T the lent table, `places` the places of the names, B the rows' words.
+-- Assumes nothing. `s` is the sheet's text, T the lent table, `places` the places of the names, B the row codes.
 use mathlib.Core.List.{List}
 use Prim.Native.Nat.{ℕ, _≤_}
 use lib.ListN.{length, take}

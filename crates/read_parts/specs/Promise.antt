@@ -49,7 +49,7 @@ pub record AfterFirst (s a names : List ℕ) (p m h row : ℕ) : Type 0 where
   pub four : 4 ≤ p
   pub within : p ≤ length s
 
--- ---- what the text says at p, by the definitions of Grammar
+-- ---- what the text says at p, by the definitions of FormulaText
 
 abbrev pub declaredAt : Slice → Slice → ℕ → Read Written
 declaredAt s names p = declared (namesOf s names) (before s) p
