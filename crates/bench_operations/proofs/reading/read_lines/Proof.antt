@@ -38,7 +38,9 @@ slice-aggregate-rule-line : tie.Need-slice-aggregate-rule-line Inv-loop μ-loop
 slice-aggregate-rule-line c = search needs
 
 rule-line-requires : tie.Need-rule-line-requires Inv-loop μ-loop
-rule-line-requires c κs = let z = c .before .before .loop .inv in line-ready _ (c .before .before .before .before .before .pre) (z .0) (c .before .loop-test .taken) (z .1) (z .2)
+rule-line-requires c κs =
+    let start = c .before .before .before .before .before in
+    let z = c .before .before .loop .inv in line-ready _ (start .pre) (z .0) (c .before .loop-test .taken) (z .1) (z .2)
 
 enum-known-r : tie.Need-enum-known-r Inv-loop μ-loop
 enum-known-r c = search needs
@@ -50,7 +52,10 @@ loop-less : tie.Need-loop-less Inv-loop μ-loop
 loop-less c = search needs
 
 loop-again : tie.Need-loop-again Inv-loop μ-loop
-loop-again c = let z = c .before .before .before .before .before .before .before .loop .inv in let w = when-rule (c .before .before .before .before .rule-line .ensures) (c .before .r .given .1) in let y = rule-past _ _ _ (w .reads) in (record { ahead = omega (arith, z .0 .ahead, y .ahead); inside = y .inside }, omega (arith, z .1, w .few), omega (arith, z .2))
+loop-again c =
+    let at-rule-line = c .before .before .before .before in
+    let at-loop = at-rule-line .before .before .before in
+    let z = at-loop .loop .inv in let w = when-rule (at-rule-line .rule-line .ensures) (c .before .r .given .1) in let y = rule-past _ _ _ (w .reads) in (record { ahead = omega (arith, z .0 .ahead, y .ahead); inside = y .inside }, omega (arith, z .1, w .few), omega (arith, z .2))
 
 enum-known-r-2 : tie.Need-enum-known-r-2 Inv-loop μ-loop
 enum-known-r-2 c = search needs

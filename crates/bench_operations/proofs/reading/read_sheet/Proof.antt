@@ -20,13 +20,20 @@ enum-known-h : tie.Need-enum-known-h
 enum-known-h c = search needs
 
 array-share-prefix-places : tie.Need-array-share-prefix-places
-array-share-prefix-places c = let h = when-headed (c .before .before .before .before .head .ensures) (c .before .h .given .1) in omega (arith, h .1 .signals-high)
+array-share-prefix-places c =
+    let at-head = c .before .before .before .before in
+    let h = when-headed (at-head .head .ensures) (c .before .h .given .1) in omega (arith, h .1 .signals-high)
 
 slice-aggregate-read-lines : tie.Need-slice-aggregate-read-lines
-slice-aggregate-read-lines c = let h = when-headed (c .before .before .before .before .before .head .ensures) (c .before .before .h .given .1) in simp length-take (omega (arith, h .1 .signals-high))
+slice-aggregate-read-lines c =
+    let at-head = c .before .before .before .before .before in
+    let h = when-headed (at-head .head .ensures) (c .before .before .h .given .1) in simp length-take (omega (arith, h .1 .signals-high))
 
 read-lines-requires : tie.Need-read-lines-requires
-read-lines-requires c κs = legible (begun (c .before .before .before .before .before .head .ensures) (c .before .before .h .given .1) (c .before .before .before .before .before .before .before .if1 .left) (omega arith))
+read-lines-requires c κs =
+    let at-head = c .before .before .before .before .before in
+    let at-if1 = at-head .before .before in
+    legible (begun (at-head .head .ensures) (c .before .before .h .given .1) (at-if1 .if1 .left) (omega arith))
 
 enum-known-h-2 : tie.Need-enum-known-h-2
 enum-known-h-2 c = search needs

@@ -25,14 +25,19 @@ enum-known-o : tie.Need-enum-known-o
 enum-known-o c = search needs
 
 array-share-prefix-places : tie.Need-array-share-prefix-places
-array-share-prefix-places c = let h = when-opened (c .before .before .before .before .before .before .open-table .ensures) (c .before .o .given .1) in omega (arith, h .0)
+array-share-prefix-places c =
+    let at-open-table = c .before .before .before .before .before .before in
+    let h = when-opened (at-open-table .open-table .ensures) (c .before .o .given .1) in omega (arith, h .0)
 
 slice-aggregate-take-opened : tie.Need-slice-aggregate-take-opened
-slice-aggregate-take-opened c = let h = when-opened (c .before .before .before .before .before .before .before .open-table .ensures) (c .before .before .o .given .1) in simp length-take (omega (arith, h .0))
+slice-aggregate-take-opened c =
+    let at-open-table = c .before .before .before .before .before .before .before in
+    let h = when-opened (at-open-table .open-table .ensures) (c .before .before .o .given .1) in simp length-take (omega (arith, h .0))
 
 take-opened-requires : tie.Need-take-opened-requires
 take-opened-requires c κs =
-    let h = when-opened (c .before .before .before .before .before .before .before .before .open-table .ensures) (c .before .before .before .o .given .1) .1 in
+    let at-open-table = c .before .before .before .before .before .before .before .before in
+    let h = when-opened (at-open-table .open-table .ensures) (c .before .before .before .o .given .1) .1 in
     (some-window h _ refl .0, some-window h _ refl .1, signals-few h _ refl .0, signals-fit h _ refl .0)
 
 enum-known-o-2 : tie.Need-enum-known-o-2

@@ -11,14 +11,16 @@ words-of-requires c κs = search needs
 
 count-facts-requires : tie.Need-count-facts-requires
 count-facts-requires c κs =
-    let given = c .before .before .before .before .before .before .pre in
+    let start = c .before .before .before .before .before .before in
+    let given = start .pre in
     let n = c .before .words-of .ensures in
     let spread = row-words (given .0) (given .1) n in
     (spread .some, rw n (given .3), omega (arith, table-most (le-trans (given .2) (omega arith)) (spread .most)))
 
 take-readings-requires : tie.Need-take-readings-requires
 take-readings-requires c κs =
-    let given = c .before .before .before .before .before .before .before .before .pre in
+    let start = c .before .before .before .before .before .before .before .before in
+    let given = start .pre in
     let n = c .before .before .before .words-of .ensures in
     record { some = given .0; ticks = omega (arith, given .1); covered = row-words (given .0) (given .1) n .cover; signals = given .2; room = rw n (given .3) }
 
