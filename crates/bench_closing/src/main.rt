@@ -13,6 +13,7 @@ use run_parts::clear;
 use run_parts::is_asked;
 use run_parts::read_text;
 use run_parts::times_asked;
+use spec_limits::CLOSED;
 use spec_limits::ROWS;
 use spec_limits::SIGNALS;
 use spec_limits::TOPS;
@@ -80,7 +81,7 @@ fn run_once(
 {
     lay(s, places, readings, table);
     if closes {
-        close_with_tops(rows, count, tops, k, 64, 4096, todo, table);
+        close_with_tops(rows, count, tops, k, 64, CLOSED, todo, table);
     }
 }
 
