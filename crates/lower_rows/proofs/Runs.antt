@@ -6,15 +6,14 @@ use mathlib.Core.List.{List, [], _∷_, _++_, map, map-append}
 use Prim.Native.Nat.{ℕ, zero, suc, _+_, _≤_, _<_}
 use native.Mathlib.Nat.{add-zero, add-suc, suc-add}
 use native.Mathlib.Numerals.{add-one}
-use native.Mathlib.Decide.{ℕ-discrete}
 use native.Mathlib.Omega.{arith}
-use lib.ListN.{length, set, getD, length-append, length-set}
-use lib.Seq.{sets, length-sets, getD-set-same, getD-set-other}
+use lib.ListN.{length, set, length-append, length-set}
+use lib.Seq.{sets, length-sets}
 use Rattle.spec_tilco.specs.Lists.{tab}
 use Rattle.spec_tilco.specs.Inference.{Node, gate, look}
 use Rattle.spec_tilco.specs.Lowering.{joined}
 use Rattle.lower_rows.specs.RowCodes.{rowCode}
-use Rattle.lower_rows.specs.RowWrites.{RowBuffer, CountsUp, Fits, looks, gates, lastGate, WroteRows, Spreads}
+use Rattle.lower_rows.specs.RowWrites.{RowBuffer, Fits, looks, gates, lastGate, WroteRows, Spreads}
 use Rattle.lower_rows.specs.declared.words.Lowered.{Lowered}
 use Rattle.lower_rows.specs.declared.words.Lowered.the-variants.{Top, Full}
 
@@ -130,14 +129,6 @@ last-next i b k = rw (add-one k)
 -- Its right child is the next row of those to be joined.
 pub gate-row : (g : Bool) (x i k : ℕ) → rowCode (gate g x (i + k + 1)) ≡ rowCode (gate g x (i + suc k))
 gate-row g x i k = let e : i + k + 1 ≡ i + suc k = omega arith in ap (λ (y : ℕ). rowCode (gate g x y)) e
-
--- One number more of those that follow one another.
-pub numbers-more : (l : List ℕ) (i lo : ℕ) → i < length l → CountsUp lo i l → CountsUp lo (i + 1) (set l i (lo + i))
-numbers-more l i lo h before j lt = go (ℕ-discrete j i)
-  where
-    go : Dec (j ≡ i) → getD (set l i (lo + i)) j 0 ≡ lo + j
-    go (yes e) = rw e (getD-set-same l i (lo + i) 0 h)
-    go (no ne) = getD-set-other l i j (lo + i) 0 ne ∙ before j (omega (arith, ne))
 
 -- The looks of an interval were tried: the joins follow.
 module _ (g : Bool) (lo k x b : ℕ) (m m₁ : List ℕ) (r₁ : Lowered) (w₁ : WroteRows (map rowCode (looks x lo (k + 1))) b b m m₁ r₁) where

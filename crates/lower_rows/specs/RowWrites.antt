@@ -4,7 +4,7 @@ use mathlib.Core.Path.{_≡_}
 use mathlib.Core.Bool.{Bool}
 use mathlib.Core.List.{List, _++_, map}
 use Prim.Native.Nat.{ℕ, suc, _+_, _≤_, _<_}
-use lib.ListN.{length, getD}
+use lib.ListN.{length}
 use lib.Seq.{sets}
 use Rattle.spec_limits.specs.Limits.{mostRows, mostOffset}
 use Rattle.read_bytes.specs.Read.{Read}
@@ -25,10 +25,6 @@ pub record RowBuffer (m : List ℕ) (used : ℕ) : Type 0 where
 pub record NearInterval (first more : ℕ) : Type 0 where
   pub low : 1 ≤ first
   pub high : first + more ≤ mostOffset
-
--- The first n numbers of l count up from lo.
-abbrev pub CountsUp : ℕ → ℕ → List ℕ → Type 0
-CountsUp lo n l = (i : ℕ) → i < n → getD l i 0 ≡ lo + i
 
 -- The looks at row c: n of them, from the offset lo up.
 unfoldable pub looks : ℕ → ℕ → ℕ → List Node

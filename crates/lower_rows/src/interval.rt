@@ -2,47 +2,25 @@
 use crate::words::Lowered;
 use crate::words::gate_code;
 use crate::words::look_code;
-use spec_limits::OFFSET;
 ghost use mathlib.Core.List.{map};
 ghost use Prim.Native.Nat.{_≤_};
-ghost use lib.ListN.{getD};
 ghost use Rattle.spec_limits.specs.Limits.{mostRows, mostOffset};
 ghost use Rattle.lower_rows.specs.RowCodes.{rowCode};
-ghost use Rattle.lower_rows.specs.RowWrites.{RowBuffer, NearInterval, CountsUp, looks, gates, lastGate, WroteRows, Spreads};
+ghost use Rattle.lower_rows.specs.RowWrites.{RowBuffer, NearInterval, looks, gates, lastGate, WroteRows, Spreads};
 
-// The offsets from the first up, as many as an interval can have.
-fn offsets_from(first: u16) -> [u16; OFFSET]
-    requires { ⌜ first ≤ mostOffset ⌝ }
-    ensures { λ r. ⌜ CountsUp first mostOffset r ⌝ }
-{
-    let mut offsets = [0u16; OFFSET];
-    let mut i: usize = 0;
-    while i < OFFSET {
-        offsets[i] = first + i as u16;
-        i += 1;
-    }
-    offsets
-}
-
-// A look at the row child for each of the first n offsets, in the rows from used on.
-fn write_looks(
-    child: u16,
-    offsets: &[u16; OFFSET],
-    n: usize,
-    out: &mut [u64],
-    used: usize,
-) -> Lowered
-    requires { ⌜ n ≤ mostOffset ⌝ }
+// n looks at the row child, from the offset first up, in the rows from used on.
+fn write_looks(child: u16, first: u16, n: usize, out: &mut [u64], used: usize) -> Lowered
+    requires { ⌜ (first ≤ mostOffset) × (n ≤ mostOffset) ⌝ }
     requires { ⌜ RowBuffer (now out) used ⌝ }
-    requires { ⌜ CountsUp (getD (now offsets) 0 0) n (now offsets) ⌝ }
-    ensures { λ r. ⌜ WroteRows (map rowCode (looks child (getD (now (offsets .entry)) 0 0) n)) used used (now (out .entry)) (now (out .exit)) r ⌝ }
+    ensures { λ r. ⌜ WroteRows (map rowCode (looks child first n)) used used (now (out .entry)) (now (out .exit)) r ⌝ }
 {
     if out.len() - used < n {
         return Lowered::Full;
     }
     let mut i: usize = 0;
     while i < n {
-        out[used + i] = look_code(child, offsets[i]);
+        let offset = first + i as u16;
+        out[used + i] = look_code(child, offset);
         i += 1;
     }
     let row = used as u16;
@@ -86,10 +64,9 @@ pub fn spread(
     requires { ⌜ RowBuffer (now out) used ⌝ }
     ensures { λ r. ⌜ Spreads gate first more child used (now (out .entry)) (now (out .exit)) r ⌝ }
 {
-    let offsets = offsets_from(first);
     let joins = more as usize;
     let count = joins + 1;
-    let Lowered::Top { row: _, used: next } = write_looks(child, &offsets, count, out, used) else {
+    let Lowered::Top { row: _, used: next } = write_looks(child, first, count, out, used) else {
         return Lowered::Full;
     };
     write_gates(gate, used, joins, out, next)

@@ -3,7 +3,7 @@ use mathlib.Core.Path.{_≡_, refl}
 use mathlib.Core.List.{map}
 use Prim.Native.Nat.{_-_, _≤_}
 use native.Mathlib.Omega.{arith}
-use lib.ListN.{length, getD, length-set}
+use lib.ListN.{length, length-set}
 use lib.Seq.{sets}
 use Rattle.lower_rows.specs.RowCodes.{rowCode}
 use Rattle.lower_rows.specs.RowWrites.{looks}
@@ -12,10 +12,10 @@ use Rattle.lower_rows.proofs.interval.write_looks.Statement.{statement}
 use Rattle.lower_rows.proofs.interval.write_looks.Tie as tie
 
 abbrev Inv-loop : tie.InvT-loop
-Inv-loop child offsets n out₀ used i₀ out i = (i ≤ n) × (length out ≡ length out₀) × (out ≡ sets out₀ used (map rowCode (looks child (getD offsets 0 0) i)))
+Inv-loop child first n out₀ used i₀ out i = (i ≤ n) × (length out ≡ length out₀) × (out ≡ sets out₀ used (map rowCode (looks child first i)))
 
 abbrev μ-loop : tie.MeasureT-loop
-μ-loop child offsets n out₀ used i₀ out i = n - i
+μ-loop child first n out₀ used i₀ out i = n - i
 
 sub-if1 : tie.Need-sub-if1 Inv-loop μ-loop
 sub-if1 c = omega arith
@@ -26,11 +26,11 @@ returns c = run-full (looks _ _) _ (looks-start _ _) (looks-next _ _) _ (c .befo
 loop-holds : tie.Need-loop-holds Inv-loop μ-loop
 loop-holds c = (omega arith, refl, run-none (looks _ _) _ (looks-start _ _) (looks-next _ _) _ _)
 
-mul-look-code : tie.Need-mul-look-code Inv-loop μ-loop
-mul-look-code c = omega arith
+cast-offset : tie.Need-cast-offset Inv-loop μ-loop
+cast-offset c = omega arith
 
-element-copy-out-look-code : tie.Need-element-copy-out-look-code Inv-loop μ-loop
-element-copy-out-look-code c = omega arith
+add-offset : tie.Need-add-offset Inv-loop μ-loop
+add-offset c = omega arith
 
 look-code-requires : tie.Need-look-code-requires Inv-loop μ-loop
 look-code-requires c κs = omega arith
@@ -52,9 +52,8 @@ loop-less c = omega arith
 
 loop-again : tie.Need-loop-again Inv-loop μ-loop
 loop-again c =
-    let start = c .before .before .before .before .before .before in
-    let l = c .before .before .before .loop in
-    (omega arith, simp length-set (l .inv .1), rw (c .look-code .ensures, l .inv .2, start .pre .1 .1 (l .i) (c .before .before .loop-test .taken)) (run-step (looks _ _) _ (looks-start _ _) (looks-next _ _) _ _ _))
+    let l = c .before .before .loop in
+    (omega arith, simp length-set (l .inv .1), rw (c .look-code .ensures, l .inv .2) (run-step (looks _ _) _ (looks-start _ _) (looks-next _ _) _ _ _))
 
 cast-row : tie.Need-cast-row Inv-loop μ-loop
 cast-row c = omega arith
@@ -69,7 +68,7 @@ returns-2 : tie.Need-returns-2 Inv-loop μ-loop
 returns-2 c =
     let start = c .before .before .before .before in
     let l = c .before .loop in
-    let e : l .i ≡ c .before .before .before .before .args .n = omega arith in
+    let e : l .i ≡ start .args .n = omega arith in
     run-done (looks _ _) _ (looks-start _ _) (looks-next _ _) _ (start .args .n) (start .args .used) (start .args .out .now) _ (omega arith) (rw e at (l .inv .2))
 
 pub write-looks-spec : {M : Type 1} → statement M
@@ -81,8 +80,8 @@ write-looks-spec =
     sub-if1
     returns
     loop-holds
-    mul-look-code
-    element-copy-out-look-code
+    cast-offset
+    add-offset
     look-code-requires
     add-out
     mul-out
