@@ -5,6 +5,8 @@ use read_arena::Node;
 use read_arena::Sign;
 use read_arena::put_keep;
 use read_arena::put_node;
+use read_arena::sign_number;
+use read_arena::sign_of;
 use read_bytes::bytes::Class;
 use read_bytes::bytes::byte_at;
 use read_bytes::bytes::class_of;
@@ -64,7 +66,7 @@ fn below_part(
     }
 }
 
-// Parts joined by the sign.
+// Parts joined by the sign: a timed part, then what follows at each level, from that of `&` up to the sign's.
 pub fn joined(
     sign: Sign,
     s: &[u8],
@@ -78,11 +80,17 @@ pub fn joined(
     requires { ⌜ PartReady (now s) (now arena) (now names) at used hidden ⌝ }
     ensures { λ r. ⌜ Reads (levelAt s names depth (opOf sign) at) s arena at used hidden r ⌝ }
 {
-    let r = below_part(sign, s, names, arena, at, used, hidden, depth);
-    let Parsed::Got(next, count, rows) = r else {
-        return r;
-    };
-    more(sign, s, names, arena, next, count, rows, depth)
+    let last = sign_number(sign);
+    let mut r = timed(s, names, arena, at, used, hidden, depth);
+    let mut level = 0;
+    while level <= last {
+        let Parsed::Got(next, count, rows) = r else {
+            return r;
+        };
+        r = more(sign_of(level), s, names, arena, next, count, rows, depth);
+        level += 1;
+    }
+    r
 }
 
 // The sign and the parts after a part, whose node is the last one.
@@ -99,23 +107,26 @@ fn more(
     requires { ⌜ AfterPart (now s) (now arena) (now names) at used hidden ⌝ }
     ensures { λ r. ⌜ ReadsOn (moreAt s names depth (opOf sign) at) s arena at used hidden r ⌝ }
 {
-    if !sign_at(s, at, sign) {
-        return Parsed::Got(at, used, hidden);
+    let mut place = at;
+    let mut nodes = used;
+    let mut rows = hidden;
+    while sign_at(s, place, sign) {
+        let part = place + sign_len(sign);
+        let r = below_part(sign, s, names, arena, part, nodes, rows, depth);
+        let Parsed::Got(next, last, below) = r else {
+            return r;
+        };
+        let left = nodes - 1;
+        let right = last - 1;
+        put_node(arena, last, Node::Pair(sign, left, right));
+        place = next;
+        nodes = last + 1;
+        rows = below;
+        if !repeats(sign) {
+            return Parsed::Got(place, nodes, rows);
+        }
     }
-    let part = at + sign_len(sign);
-    let r = below_part(sign, s, names, arena, part, used, hidden, depth);
-    let Parsed::Got(next, last, rows) = r else {
-        return r;
-    };
-    let left = used - 1;
-    let right = last - 1;
-    put_node(arena, last, Node::Pair(sign, left, right));
-    let count = last + 1;
-    if repeats(sign) {
-        more(sign, s, names, arena, next, count, rows, depth)
-    } else {
-        Parsed::Got(next, count, rows)
-    }
+    Parsed::Got(place, nodes, rows)
 }
 
 // A plain part, by its first byte.

@@ -62,6 +62,14 @@ module _ {a a′ : List ℕ} {L e p m h x : ℕ} {R : Read Written} where
       go : Parses a a′ L e p m h x R (Refused n k) → Parses b b′ L′ e′ p′ m′ k′ x′ (andThen R K) (Refused n k)
       go (refuses eq) = refuses {n = n} {k = k} (rw eq)
 
+  -- A refusal by another name, whatever stands in the arena.
+  pub refused-as : {R′ : Read Written} {b b′ : List ℕ} {L′ e′ p′ m′ k′ x′ : ℕ} {r : Parsed} {n k : ℕ} → (R ≡ refused n k → R′ ≡ refused n k)
+      → Parses a a′ L e p m h x R r → r ≡ Refused n k → Parses b b′ L′ e′ p′ m′ k′ x′ R′ r
+  refused-as {R′} {b} {b′} {L′} {e′} {p′} {m′} {k′} {x′} {r} {n} {k} same A z = subst (Parses b b′ L′ e′ p′ m′ k′ x′ R′) (sym z) (go (was A z))
+    where
+      go : Parses a a′ L e p m h x R (Refused n k) → Parses b b′ L′ e′ p′ m′ k′ x′ R′ (Refused n k)
+      go (refuses eq) = refuses {n = n} {k = k} (same eq)
+
 -- ---- answers put together
 
 same-fewer : {a b : List ℕ} {c : ℕ} (d : ℕ) → d ≤ c → Same c a b → Same d a b

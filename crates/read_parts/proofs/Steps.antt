@@ -6,6 +6,8 @@ use mathlib.Core.List.{List, [], _∷_}
 use mathlib.Core.Logic.{_⊎_, inl, inr, ⊎-elim}
 use mathlib.Core.Option.{Option, some}
 use Prim.Native.Nat.{ℕ, zero, suc, _+_, _-_, _*_, _<_, _≤_}
+use native.Mathlib.Nat.{zero-add, suc-add}
+use native.Mathlib.Numerals.{add-one}
 use native.Mathlib.Omega.{arith}
 use borrow.Author.Tests.{not-false, eq-eqb, ne-eqb, eqb-true, lt-ltb, le-ltb}
 use lib.Dec.{eqb, ltb}
@@ -23,14 +25,14 @@ use Rattle.read_bytes.proofs.Classes.{class-letter}
 use Rattle.read_names.proofs.Spelling.{word-ahead}
 use Rattle.read_names.proofs.Names.{names-many}
 use Rattle.read_arena.specs.declared.Sign.{Sign}
-use Rattle.read_arena.specs.Nodes.{opOf}
+use Rattle.read_arena.specs.Nodes.{opOf, signNumber, signOf}
 use Rattle.spec_ticks.proofs.Bits.{lt-or-ge}
 use Rattle.spec_tilco.specs.Formula.{Op, And, Or, Implies, Iff, Written}
 use Rattle.read_interval.specs.declared.Span.{Span}
 use Rattle.read_interval.specs.declared.Span.the-variants.{Over}
 use Rattle.read_interval.specs.Interval.{interval}
 use Rattle.read_interval.proofs.Spans.{one-of, none-of, interval-reach}
-use Rattle.read_parts.specs.FormulaText.{Reader, declared, spanThen, times, signText, repeats, more, below, formula, negated, thenParen, inParens, second, sinceUntil, nameOrKeep, plainPartIn, inside, plainPart}
+use Rattle.read_parts.specs.FormulaText.{Reader, declared, spanThen, times, timedPart, signText, repeats, more, level, below, formula, negated, thenParen, inParens, second, sinceUntil, nameOrKeep, plainPartIn, inside, plainPart}
 
 -- ---- signs
 
@@ -65,9 +67,9 @@ pub record Signed (s : List ℕ) (p : ℕ) (o : Op) (n : ℕ) : Type 0 where
   pub some : 1 ≤ n
   pub inside : p + n ≤ length s
 
-pub signed : (s : List ℕ) (p : ℕ) (o : Op) {t : Bool} {n : ℕ} → p ≤ length s → t ≡ starts s p (signText o) → not t ≡ false → n ≡ length (signText o) → Signed s p o n
-signed s p o {t} within told met long =
-    let stands = sym told ∙ not-false t met in
+pub signed : (s : List ℕ) (p : ℕ) (o : Op) {t : Bool} {n : ℕ} → p ≤ length s → t ≡ starts s p (signText o) → t ≡ true → n ≡ length (signText o) → Signed s p o n
+signed s p o within told met long =
+    let stands = sym told ∙ met in
     record { stands = stands; long = long; some = omega (arith, sign-some o); inside = omega (arith, sign-inside o s p within stands) }
 
 -- Whether a sign stands there, by the code's name for it.
@@ -100,6 +102,51 @@ pub more-one : (o : Op) (P : Reader) (s : List ℕ) (n : ℕ) (f : Written) (p :
 unfolding more
 more-one o P s zero f p e h l = absurd (omega arith)
 more-one o P s (suc n) f p e h l = let back : suc n - 1 ≡ n = omega arith in rw (e, back)
+
+-- ---- levels
+
+-- What is read before the level with the number i: a timed part, and what follows it at each level below.
+abbrev pub upTo : ℕ → Reader → List ℕ → Reader
+upTo zero P s = timedPart P s
+upTo (suc i) P s = level (opOf (signOf i)) (upTo i P s) s
+
+-- These are the parts of that level.
+below-level : (i : ℕ) → i ≤ 3 → (P : Reader) (s : List ℕ) → below (opOf (signOf i)) P s ≡ upTo i P s
+unfolding signOf
+below-level zero h P s = refl
+below-level (suc zero) h P s = refl
+below-level (suc (suc zero)) h P s = refl
+below-level (suc (suc (suc zero))) h P s = refl
+below-level (suc (suc (suc (suc i)))) h P s = absurd (omega arith)
+
+-- A level is what is read before the next.
+pub level-up-to : (sign : Sign) (P : Reader) (s : List ℕ) (p : ℕ) → level (opOf sign) (below (opOf sign) P s) s p ≡ upTo (signNumber sign + 1) P s p
+unfolding signOf
+level-up-to Sign.And P s p = refl
+level-up-to Sign.Or P s p = refl
+level-up-to Sign.Implies P s p = refl
+level-up-to Sign.Iff P s p = refl
+
+-- One level more.
+pub one-level : (i : ℕ) → i ≤ 3 → (P : Reader) (s : List ℕ) (p : ℕ)
+    → upTo (i + 1) P s p ≡ andThen (upTo i P s p) (λ f q. more (opOf (signOf i)) (below (opOf (signOf i)) P s) s (length s) f q)
+unfolding level
+one-level i h P s p = rw (add-one i, below-level i h P s)
+
+-- A refusal is that of every level above.
+refused-by : (k i : ℕ) (P : Reader) (s : List ℕ) (p : ℕ) {n q : ℕ} → upTo i P s p ≡ refused n q → upTo (k + i) P s p ≡ refused n q
+unfolding level
+refused-by zero i P s p e = rw zero-add e
+refused-by (suc k) i P s p e = rw (suc-add, refused-by k i P s p e)
+
+pub refused-above : (i j : ℕ) → i ≤ j → (P : Reader) (s : List ℕ) (p : ℕ) {n q : ℕ} → upTo i P s p ≡ refused n q → upTo j P s p ≡ refused n q
+refused-above i j h P s p e = let sum : j ≡ (j - i) + i = omega arith in rw sum (refused-by (j - i) i P s p e)
+
+pub level-most : (sign : Sign) → signNumber sign ≤ 3
+level-most Sign.And = omega arith
+level-most Sign.Or = omega arith
+level-most Sign.Implies = omega arith
+level-most Sign.Iff = omega arith
 
 -- ---- intervals
 
@@ -269,16 +316,3 @@ module _ (b : Bool) (F : Reader) (s : List ℕ) (f : Written) (p : ℕ) where
 -- What is left of the text, with room for the heights of the levels.
 abbrev pub remaining : List ℕ → ℕ → ℕ
 remaining s p = 16 * (length s - p)
-
--- The height of a sign's level.
-abbrev pub rank : Sign → ℕ
-rank Sign.And = 0
-rank Sign.Or = 1
-rank Sign.Implies = 2
-rank Sign.Iff = 3
-
-pub rank-most : (k : Sign) → rank k ≤ 3
-rank-most Sign.And = omega arith
-rank-most Sign.Or = omega arith
-rank-most Sign.Implies = omega arith
-rank-most Sign.Iff = omega arith

@@ -1,5 +1,5 @@
 -- Every limit by its name. Those of 01 first, then those of our own buffers. Assumes nothing.
--- Each has a constant of the same number in src/lib.rt, for the code.
+-- Those that the code uses have a constant of the same number in src/lib.rt.
 use Prim.Native.Nat.{ℕ, _+_, _*_}
 
 -- ---- 01's limits

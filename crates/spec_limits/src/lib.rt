@@ -36,9 +36,6 @@ pub const ARENA: usize = 4 * RULE_BYTES;
 // offsetZero: the offset 0 as it is written.
 pub const OFFSET_ZERO: usize = 64;
 
-// mostOffset
-pub const OFFSET: usize = OFFSET_ZERO + END;
-
 // mostTops
 pub const TOPS: usize = RULES + HIDDEN;
 

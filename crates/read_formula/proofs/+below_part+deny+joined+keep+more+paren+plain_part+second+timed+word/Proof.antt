@@ -1,21 +1,27 @@
 -- The levels of the parser meet their contracts. A level's measure is what is left of the text, and its height. Assumes nothing.
 -- In an answer `start` is where the function was called, `asked` what it requires, and `at-x` the place after x; `w` is how far a part came.
-use Prim.Native.Nat.{ℕ, _+_, _-_, _*_, _<_}
+use Prim.Native.Nat.{ℕ, _+_, _-_, _*_, _<_, _≤_}
 use Rattle.read_arena.proofs.Puts.{arena-put}
-use Rattle.read_arena.specs.Nodes.{opOf}
+use Rattle.read_arena.specs.Nodes.{opOf, signNumber, signOf}
 use Rattle.read_arena.specs.NodeRules.{Arena}
 use Rattle.read_arena.specs.declared.Node.the-variants.{Pair}
-use Rattle.read_parts.proofs.Levels.{was, by, from, far, left, hand-on, then, stop, join, wrap, shut, unshut, shut-keep, unshut-keep, hand-on-keep, held-next}
+use Rattle.read_parts.proofs.Follows.{Follows, follows-none, follows-refused, follows-then}
+use Rattle.read_parts.proofs.Levels.{refused-as, was, by, from, far, left, hand-on, then, stop, join, wrap, shut, unshut, shut-keep, unshut-keep, hand-on-keep, held-next}
 use Rattle.read_parts.proofs.Rooms.{on, room-for, bare}
-use Rattle.read_parts.proofs.Steps.{Signed, signed, below-told, more-none, more-one, onward, onward-more, onward-stop, deny-full, deny-on, paren-full, paren-on, keep-full, keep-on, kept-none, second-none, second-some, class-told, byte-inside, plain-letter, plain-digit, plain-other, plain-deny, plain-sign, plain-paren, plain-bracket, since-inside, until-inside, word-since, word-until, word-name, remaining, rank, rank-most}
-use Rattle.read_parts.specs.FormulaText.{timedPart, level, below, plainPart}
+use Rattle.read_parts.proofs.Steps.{Signed, signed, below-told, more-none, more-one, onward, onward-more, onward-stop, deny-full, deny-on, paren-full, paren-on, keep-full, keep-on, kept-none, second-none, second-some, class-told, byte-inside, plain-letter, plain-digit, plain-other, plain-deny, plain-sign, plain-paren, plain-bracket, since-inside, until-inside, word-since, word-until, word-name, remaining, upTo, level-most, level-up-to, one-level, refused-above}
+use Rattle.read_parts.specs.FormulaText.{Reader, timedPart, level, below, plainPart}
+use Rattle.read_parts.specs.Promise.{AfterPart}
+use Rattle.read_parts.specs.Parsed.{Parses}
 use Rattle.read_parts.specs.Parsed.Parses.{refuses}
+use Rattle.read_parts.specs.declared.parts.Parsed.{Parsed}
 use Rattle.read_bytes.specs.Bytes.{byte}
 use Rattle.read_names.specs.Spellings.{namesAt}
 use borrow.Author.Needs.{needs}
-use borrow.Author.Tests.{not-true}
+use borrow.Author.Tests.{not-true, not-false}
 use denote.Ref.{now}
-use mathlib.Core.Path.{refl, sym, ap, subst, _∙_}
+use mathlib.Core.List.{List}
+use lib.ListN.{length}
+use mathlib.Core.Path.{_≡_, refl, sym, ap, subst, _∙_}
 use native.Mathlib.Omega.{arith}
 use borrow.Fn.Kinds.{In}
 use borrow.Fn.PlainCycle.{Measures, is, falls, and}
@@ -51,6 +57,8 @@ use Rattle.read_formula.proofs.word.Kinds as word-kinds
 use Rattle.read_formula.proofs.+below_part+deny+joined+keep+more+paren+plain_part+second+timed+word.Lts-word as word-lts
 use Rattle.read_arena.proofs.put_keep.Reads as put-keep-reads
 use Rattle.read_arena.proofs.put_node.Reads as put-node-reads
+use Rattle.read_arena.proofs.sign_number.Reads as sign-number-reads
+use Rattle.read_arena.proofs.sign_of.Reads as sign-of-reads
 use Rattle.read_parts.proofs.parts.name.Reads as name-reads
 use Rattle.read_parts.proofs.parts.repeats.Reads as repeats-reads
 use Rattle.read_parts.proofs.parts.sign_at.Reads as sign-at-reads
@@ -64,13 +72,13 @@ use Rattle.read_formula.proofs.+below_part+deny+joined+keep+more+paren+
 use Rattle.read_formula.proofs.+below_part+deny+joined+keep+more+paren+plain_part+second+timed+word.Tie.{close}
 
 abbrev μ-below-part : Measures 3 below-part-kinds.ps ℕ
-μ-below-part κs a = remaining (a .1 .0 .now) (a .1 .1 .1 .1 .0) + (3 + 2 * rank (a .0))
+μ-below-part κs a = remaining (a .1 .0 .now) (a .1 .1 .1 .1 .0) + (3 + 2 * signNumber (a .0))
 
 abbrev μ-deny : Measures 3 deny-kinds.ps ℕ
 μ-deny κs a = remaining (a .0 .now) (a .1 .1 .1 .0) + 0
 
 abbrev μ-joined : Measures 3 joined-kinds.ps ℕ
-μ-joined κs a = remaining (a .1 .0 .now) (a .1 .1 .1 .1 .0) + (4 + 2 * rank (a .0))
+μ-joined κs a = remaining (a .1 .0 .now) (a .1 .1 .1 .1 .0) + (4 + 2 * signNumber (a .0))
 
 abbrev μ-keep : Measures 3 keep-kinds.ps ℕ
 μ-keep κs a = remaining (a .0 .now) (a .1 .1 .1 .0) + 0
@@ -92,6 +100,26 @@ abbrev μ-timed : Measures 3 timed-kinds.ps ℕ
 
 abbrev μ-word : Measures 3 word-kinds.ps ℕ
 μ-word κs a = remaining (a .0 .now) (a .1 .1 .1 .0) + 0
+
+-- A turn of `joined`'s loop has read what stands before the level, if the timed part was read.
+abbrev joined-Inv-loop : joined-lts.InvT-loop
+joined-Inv-loop s names arena₀ at used hidden depth last r₀ level₀ arena r level =
+    let before : ℕ → Reader = λ i. upTo i (plainPart depth (namesAt s names) s) s in
+    (level ≤ last + 1) × (length arena ≡ length arena₀)
+    × ((a : List ℕ) → Parses a arena₀ (length s) 1 at used hidden hidden (before 0 at) r₀ → Parses a arena (length s) 1 at used hidden hidden (before level at) r)
+
+abbrev joined-μ-loop : joined-lts.MeasureT-loop
+joined-μ-loop s names arena₀ at used hidden depth last r₀ level₀ arena r level = last + 1 - level
+
+-- What follows at `place` follows at the first place too.
+abbrev more-Inv-loop : more-lts.InvT-loop
+more-Inv-loop sign s names arena₀ at used hidden depth place₀ nodes₀ rows₀ arena place nodes rows =
+    let P = below (opOf sign) (plainPart depth (namesAt s names) s) s in
+    (at ≤ place) × (length arena ≡ length arena₀) × AfterPart s arena names place nodes rows
+    × ((a : List ℕ) (r : Parsed) → Follows (opOf sign) P s arena a place nodes rows r → Follows (opOf sign) P s arena₀ a at used hidden r)
+
+abbrev more-μ-loop : more-lts.MeasureT-loop
+more-μ-loop sign s names arena₀ at used hidden depth place₀ nodes₀ rows₀ arena place nodes rows = length s - place
 
 module _ (t : ℕ) where
   abbrev below-part-at : In 3 below-part-kinds.ps
@@ -161,13 +189,13 @@ module _ (t : ℕ) where
   deny-calls = (plain-part-below, plain-part.Post, put-node-reads.Asked, put-node-reads.Learnt)
 
   abbrev joined-calls : joined-lts.Claims
-  joined-calls = (below-part-below, below-part.Post, more-below, more.Post)
+  joined-calls = (sign-number-reads.Asked, sign-number-reads.Learnt, timed-below, timed.Post, sign-of-reads.Asked, sign-of-reads.Learnt, more-below, more.Post)
 
   abbrev keep-calls : keep-lts.Claims
   keep-calls = (byte-at-reads.Asked, byte-at-reads.Learnt, joined-below, joined.Post, second-below, second.Post)
 
   abbrev more-calls : more-lts.Claims
-  more-calls = (sign-at-reads.Asked, sign-at-reads.Learnt, sign-len-reads.Asked, sign-len-reads.Learnt, below-part-below, below-part.Post, put-node-reads.Asked, put-node-reads.Learnt, repeats-reads.Asked, repeats-reads.Learnt, more-below, more.Post)
+  more-calls = (sign-at-reads.Asked, sign-at-reads.Learnt, sign-len-reads.Asked, sign-len-reads.Learnt, below-part-below, below-part.Post, put-node-reads.Asked, put-node-reads.Learnt, repeats-reads.Asked, repeats-reads.Learnt)
 
   abbrev paren-calls : paren-lts.Claims
   paren-calls = (joined-below, joined.Post, byte-at-reads.Asked, byte-at-reads.Learnt)
@@ -198,7 +226,7 @@ module _ (t : ℕ) where
   below-part-joined-requires : below-part-lts.Need-joined-requires below-part-calls below-part-at below-part.Post
   below-part-joined-requires c κs =
       let asked = c .before .before .before .before .before .before .pre .1 in
-      (omega (arith, ap rank (c .before .enum-told2 .given .1)), asked)
+      (omega (arith, ap signNumber (c .before .enum-told2 .given .1)), asked)
 
   below-part-enum-told-3 : below-part-lts.Need-enum-told-3 below-part-calls below-part-at below-part.Post
   below-part-enum-told-3 c = search needs
@@ -206,7 +234,7 @@ module _ (t : ℕ) where
   below-part-joined-requires-2 : below-part-lts.Need-joined-requires-2 below-part-calls below-part-at below-part.Post
   below-part-joined-requires-2 c κs =
       let asked = c .before .before .before .before .before .before .pre .1 in
-      (omega (arith, ap rank (c .before .enum-told3 .given .1)), asked)
+      (omega (arith, ap signNumber (c .before .enum-told3 .given .1)), asked)
 
   below-part-enum-told-4 : below-part-lts.Need-enum-told-4 below-part-calls below-part-at below-part.Post
   below-part-enum-told-4 c = search needs
@@ -214,7 +242,7 @@ module _ (t : ℕ) where
   below-part-joined-requires-3 : below-part-lts.Need-joined-requires-3 below-part-calls below-part-at below-part.Post
   below-part-joined-requires-3 c κs =
       let asked = c .before .before .before .before .before .before .pre .1 in
-      (omega (arith, ap rank (c .before .enum-told4 .given .1)), asked)
+      (omega (arith, ap signNumber (c .before .enum-told4 .given .1)), asked)
 
   below-part-same-length : below-part-lts.Need-same-length below-part-calls below-part-at below-part.Post
   below-part-same-length c = search needs
@@ -316,45 +344,67 @@ module _ (t : ℕ) where
       let w = far (at-plain-part .plain-part .ensures) (at-r .r .given .1) in
       by (deny-on _ _ _ _ (at-if1 .if1 .left)) (wrap _ _ (omega arith) (was (at-plain-part .plain-part .ensures) (at-r .r .given .1)) (room-for (asked .ready) _ 1 (omega arith) (search needs)) (at-put-node .put-node .ensures))
 
-  joined-below-part-requires : joined-lts.Need-below-part-requires joined-calls joined-at joined.Post
-  joined-below-part-requires c κs =
-      let asked = c .before .before .before .before .pre .1 in
-      (omega arith, asked)
+  joined-sign-number-requires : joined-lts.Need-sign-number-requires joined-calls joined-at joined.Post joined-Inv-loop joined-μ-loop
+  joined-sign-number-requires c κs = search needs
 
-  joined-enum-known-r : joined-lts.Need-enum-known-r joined-calls joined-at joined.Post
+  joined-timed-requires : joined-lts.Need-timed-requires joined-calls joined-at joined.Post joined-Inv-loop joined-μ-loop
+  joined-timed-requires c κs = (omega arith, c .before .before .before .before .before .pre .1)
+
+  joined-loop-holds : joined-lts.Need-loop-holds joined-calls joined-at joined.Post joined-Inv-loop joined-μ-loop
+  joined-loop-holds c = (omega arith, refl, λ a h. h)
+
+  joined-enum-known-r : joined-lts.Need-enum-known-r joined-calls joined-at joined.Post joined-Inv-loop joined-μ-loop
   joined-enum-known-r c = search needs
 
-  joined-enum-told : joined-lts.Need-enum-told joined-calls joined-at joined.Post
+  joined-enum-told : joined-lts.Need-enum-told joined-calls joined-at joined.Post joined-Inv-loop joined-μ-loop
   joined-enum-told c = search needs
 
-  joined-same-length : joined-lts.Need-same-length joined-calls joined-at joined.Post
-  joined-same-length c = search needs
+  joined-same-length : joined-lts.Need-same-length joined-calls joined-at joined.Post joined-Inv-loop joined-μ-loop
+  joined-same-length c = omega arith
 
-  joined-returns : joined-lts.Need-returns joined-calls joined-at joined.Post
-  unfolding level
+  joined-returns : joined-lts.Need-returns joined-calls joined-at joined.Post joined-Inv-loop joined-μ-loop
   joined-returns c =
-      let at-below-part = c .before .before .before .before in
-      hand-on _ (at-below-part .below-part .ensures) (c .enum-told .given .1)
+      let sign = c .before .before .before .before .before .before .before .before .before .before .before .before .args .sign in
+      let read = c .before .before .before .loop .inv .2 _ (c .before .before .before .before .before .before .timed .ensures) in
+      by (level-up-to sign _ _ _) (refused-as (refused-above (c .before .before .before .loop .level) (signNumber sign + 1) (omega (arith, c .before .before .before .before .before .before .before .before .sign-number .ensures)) _ _ _) read (c .enum-told .given .1))
 
-  joined-more-requires : joined-lts.Need-more-requires joined-calls joined-at joined.Post
+  joined-sign-of-requires : joined-lts.Need-sign-of-requires joined-calls joined-at joined.Post joined-Inv-loop joined-μ-loop
+  joined-sign-of-requires c κs = search needs
+
+  joined-more-requires : joined-lts.Need-more-requires joined-calls joined-at joined.Post joined-Inv-loop joined-μ-loop
   joined-more-requires c κs =
-      let at-r = c .before .before in
-      let at-below-part = at-r .before .before .before .before in
-      let asked = at-below-part .before .before .before .before .before .pre .1 in
-      let w = far (at-below-part .below-part .ensures) (at-r .r .given .1) in
-      (omega arith, record { ready = on asked _ _ _ (w .inside) (omega arith) (omega arith) (left (at-below-part .below-part .ensures) (at-r .r .given .1)) (search needs); some = omega arith })
+      let asked = c .before .before .before .before .before .before .before .before .before .before .before .before .before .before .before .pre .1 in
+      let read = c .before .before .before .before .before .before .loop .inv .2 _ (c .before .before .before .before .before .before .before .before .before .timed .ensures) in
+      let w = far read (c .before .before .before .r .given .1) in
+      (omega arith, record { ready = on asked _ _ _ (w .inside) (omega arith) (omega arith) (left read (c .before .before .before .r .given .1)) (omega arith); some = omega arith })
 
-  joined-same-length-2 : joined-lts.Need-same-length-2 joined-calls joined-at joined.Post
-  joined-same-length-2 c = search needs
+  joined-add-level : joined-lts.Need-add-level joined-calls joined-at joined.Post joined-Inv-loop joined-μ-loop
+  joined-add-level c = omega (arith, c .before .before .before .before .before .before .before .before .before .before .before .before .before .before .sign-number .ensures, level-most (c .before .before .before .before .before .before .before .before .before .before .before .before .before .before .before .before .before .before .args .sign))
 
-  joined-returns-2 : joined-lts.Need-returns-2 joined-calls joined-at joined.Post
-  unfolding level
+  joined-loop-less : joined-lts.Need-loop-less joined-calls joined-at joined.Post joined-Inv-loop joined-μ-loop
+  joined-loop-less c = omega arith
+
+  joined-loop-again : joined-lts.Need-loop-again joined-calls joined-at joined.Post joined-Inv-loop joined-μ-loop
+  joined-loop-again c =
+      let l = c .before .before .before .before .before .before .before .before .before .loop in
+      let e = c .before .before .before .before .before .before .r .given .1 in
+      let told = rw (c .before .before .before .before .sign-of .ensures) at (c .before .before .more .ensures) in (
+        omega arith,
+        omega arith,
+        λ a h.
+            let read = l .inv .2 a h in
+            let w = far read e in
+            by (one-level (l .level) (omega (arith, c .before .before .before .before .before .before .before .before .before .before .before .before .before .before .sign-number .ensures, level-most (c .before .before .before .before .before .before .before .before .before .before .before .before .before .before .before .before .before .before .args .sign))) _ _ _)
+            (then _ _ _ (omega arith) (omega arith) (omega arith) (omega arith) (was read e) (λ f hf hs. told _ _ f (omega arith) hf hs)),
+      )
+
+  joined-same-length-2 : joined-lts.Need-same-length-2 joined-calls joined-at joined.Post joined-Inv-loop joined-μ-loop
+  joined-same-length-2 c = omega arith
+
+  joined-returns-2 : joined-lts.Need-returns-2 joined-calls joined-at joined.Post joined-Inv-loop joined-μ-loop
   joined-returns-2 c =
-      let at-more = c .before .before in
-      let at-r = at-more .before .before .before in
-      let at-below-part = at-r .before .before .before .before in
-      let w = far (at-below-part .below-part .ensures) (at-r .r .given .1) in
-      then _ _ _ (omega arith) (omega arith) (omega arith) (omega arith) (was (at-below-part .below-part .ensures) (at-r .r .given .1)) (λ f hf hs. at-more .more .ensures _ _ f (omega arith) hf hs)
+      let e : c .before .loop .level ≡ signNumber (c .before .before .before .before .before .before .before .before .before .before .args .sign) + 1 = omega (arith, c .before .before .before .before .before .before .sign-number .ensures) in
+      by (level-up-to (c .before .before .before .before .before .before .before .before .before .before .args .sign) _ _ _) (rw e at (c .before .loop .inv .2 _ (c .before .before .before .before .timed .ensures)))
 
   keep-byte-at-requires : keep-lts.Need-byte-at-requires keep-calls keep-at keep.Post
   keep-byte-at-requires c κs = search needs
@@ -429,138 +479,106 @@ module _ (t : ℕ) where
       (then _ _ _ (omega (arith, asked .keyword)) (omega (arith, asked .keyword)) (omega arith) (omega (arith, asked .keyword)) (was (the-joined .ensures) (the-r .given .1))
       (λ f hf hs. the-second .ensures f (held-next _ hf) (omega arith)))
 
-  more-sign-at-requires : more-lts.Need-sign-at-requires more-calls more-at more.Post
-  more-sign-at-requires c κs = search needs
+  more-loop-holds : more-lts.Need-loop-holds more-calls more-at more.Post more-Inv-loop more-μ-loop
+  more-loop-holds c = (omega arith, refl, c .before .before .before .pre .1, λ a′ r h. h)
 
-  more-returns : more-lts.Need-returns more-calls more-at more.Post
-  more-returns c =
-      let asked = c .before .before .before .before .before .pre .1 in
-      λ n x f l he hs. by (more-none _ _ _ n f _ (sym (c .before .sign-at .ensures) ∙ not-true _ (c .if1 .taken))) (stop (asked .ready .within) (asked .ready .arena) he hs)
+  more-sign-at-requires : more-lts.Need-sign-at-requires more-calls more-at more.Post more-Inv-loop more-μ-loop
+  more-sign-at-requires c κs = c .loop .inv .2 .ready .within
 
-  more-sign-len-requires : more-lts.Need-sign-len-requires more-calls more-at more.Post
+  more-sign-len-requires : more-lts.Need-sign-len-requires more-calls more-at more.Post more-Inv-loop more-μ-loop
   more-sign-len-requires c κs = search needs
 
-  -- Where `more` has the sign's length: what it was called with, and the sign at its place.
-  abbrev more-start : more-lts.After-sign-len more-calls more-at more.Post → more-lts.Start more-calls more-at more.Post
-  more-start c = c .before .before .before .before .before .before
+  -- Where `more` has the sign's length: the sign stands at its place.
+  more-sign : (c : more-lts.After-sign-len more-calls more-at more.Post more-Inv-loop more-μ-loop) → Signed (now (c .before .before .before .before .before .before .before .args .s)) (c .before .before .before .loop .place) (opOf (c .before .before .before .before .before .before .before .args .sign)) (c .sign-len .result)
+  more-sign c = signed (now (c .before .before .before .before .before .before .before .args .s)) (c .before .before .before .loop .place) (opOf (c .before .before .before .before .before .before .before .args .sign)) (c .before .before .before .loop .inv .2 .ready .within) (c .before .before .sign-at .ensures) (c .before .if1 .taken) (c .sign-len .ensures)
 
-  more-sign : (c : more-lts.After-sign-len more-calls more-at more.Post) → Signed (now (more-start c .args .s)) (more-start c .args .at) (opOf (more-start c .args .sign)) (c .sign-len .result)
-  more-sign c = signed (now (more-start c .args .s)) (more-start c .args .at) (opOf (more-start c .args .sign)) (more-start c .pre .1 .ready .within) (c .before .before .sign-at .ensures) (c .before .if1 .left) (c .sign-len .ensures)
-
-  more-add-part : more-lts.Need-add-part more-calls more-at more.Post
+  more-add-part : more-lts.Need-add-part more-calls more-at more.Post more-Inv-loop more-μ-loop
   more-add-part c =
       let sign = more-sign c in
       omega arith
 
-  more-below-part-requires : more-lts.Need-below-part-requires more-calls more-at more.Post
+  more-below-part-requires : more-lts.Need-below-part-requires more-calls more-at more.Post more-Inv-loop more-μ-loop
   more-below-part-requires c κs =
-      let start = more-start (c .before) in
-      let asked = start .pre .1 in
+      let ready = c .before .before .before .before .loop .inv .2 .ready in
       let sign = more-sign (c .before) in
-      (omega (arith, rank-most (start .args .sign)), on (asked .ready) _ _ _ (omega arith) (omega arith) (omega arith) (asked .ready .arena) refl)
+      (omega (arith, level-most (c .before .before .before .before .before .before .before .before .args .sign)), on ready _ _ _ (omega arith) (omega arith) (omega arith) (ready .arena) refl)
 
-  more-enum-known-r : more-lts.Need-enum-known-r more-calls more-at more.Post
+  more-enum-known-r : more-lts.Need-enum-known-r more-calls more-at more.Post more-Inv-loop more-μ-loop
   more-enum-known-r c = search needs
 
-  more-enum-told : more-lts.Need-enum-told more-calls more-at more.Post
+  more-enum-told : more-lts.Need-enum-told more-calls more-at more.Post more-Inv-loop more-μ-loop
   more-enum-told c = search needs
 
-  more-same-length : more-lts.Need-same-length more-calls more-at more.Post
-  more-same-length c = search needs
+  more-same-length : more-lts.Need-same-length more-calls more-at more.Post more-Inv-loop more-μ-loop
+  more-same-length c = omega arith
 
-  more-returns-2 : more-lts.Need-returns-2 more-calls more-at more.Post
-  more-returns-2 c =
-      let at-below-part = c .before .before .before .before in
-      let at-sign-len = at-below-part .before .before in
-      let start = more-start at-sign-len in
-      let asked = start .pre .1 in
-      let args = start .args in
-      let sign = more-sign at-sign-len in
-      λ n x f l he hs. by (more-one _ _ _ n f _ (sign .stands) (omega arith) l) (hand-on _ (by (ap (below (opOf (args .sign)) _ _) (omega (arith, sign .long))) (at-below-part .below-part .ensures)) (c .enum-told .given .1))
+  more-returns : more-lts.Need-returns more-calls more-at more.Post more-Inv-loop more-μ-loop
+  more-returns c =
+      let at-sign-len = c .before .before .before .before .before .before in
+      c .before .before .before .before .before .before .before .before .before .loop .inv .3 _ _ (follows-refused (c .before .before .before .before .before .before .before .before .before .before .before .before .before .args .sign) _ (more-sign at-sign-len) (c .before .before .before .before .below-part .ensures) (c .enum-told .given .1))
 
-  more-sub-left : more-lts.Need-sub-left more-calls more-at more.Post
-  more-sub-left c = search needs
+  more-sub-left : more-lts.Need-sub-left more-calls more-at more.Post more-Inv-loop more-μ-loop
+  more-sub-left c = omega (arith, c .before .before .before .before .before .before .before .before .before .before .loop .inv .2 .some)
 
-  more-sub-right : more-lts.Need-sub-right more-calls more-at more.Post
+  more-sub-right : more-lts.Need-sub-right more-calls more-at more.Post more-Inv-loop more-μ-loop
   more-sub-right c =
-      let at-below-part = c .before .before .before .before .before in
-      let w = far (at-below-part .below-part .ensures) (c .before .r .given .1) in
+      let w = far (c .before .before .before .before .before .below-part .ensures) (c .before .r .given .1) in
       omega arith
 
-  more-put-node-requires : more-lts.Need-put-node-requires more-calls more-at more.Post
+  more-put-node-requires : more-lts.Need-put-node-requires more-calls more-at more.Post more-Inv-loop more-μ-loop
   more-put-node-requires c κs =
-      let at-r = c .before .before in
-      let at-below-part = at-r .before .before .before .before in
-      let at-sign-len = at-below-part .before .before in
-      let asked = more-start at-sign-len .pre .1 in
+      let at-sign-len = c .before .before .before .before .before .before .before .before in
       let sign = more-sign at-sign-len in
-      let w = far (at-below-part .below-part .ensures) (at-r .r .given .1) in
-      (room-for (asked .ready) _ 1 (omega arith) (search needs), (omega arith, omega arith))
+      let w = far (c .before .before .before .before .before .before .below-part .ensures) (c .before .before .r .given .1) in
+      (room-for (c .before .before .before .before .before .before .before .before .before .before .before .loop .inv .2 .ready) _ 1 (omega arith) (search needs), (omega arith, omega arith))
 
-  more-add-count : more-lts.Need-add-count more-calls more-at more.Post
-  more-add-count c =
-      let at-r = c .before .before .before .before .before in
-      let at-below-part = at-r .before .before .before .before in
-      let at-sign-len = at-below-part .before .before in
-      let asked = more-start at-sign-len .pre .1 in
+  more-add-nodes : more-lts.Need-add-nodes more-calls more-at more.Post more-Inv-loop more-μ-loop
+  more-add-nodes c =
+      let at-sign-len = c .before .before .before .before .before .before .before .before .before .before .before in
       let sign = more-sign at-sign-len in
-      let w = far (at-below-part .below-part .ensures) (at-r .r .given .1) in
-      omega (arith, asked .ready .room .few)
+      let w = far (c .before .before .before .before .before .before .before .before .before .below-part .ensures) (c .before .before .before .before .before .r .given .1) in
+      omega (arith, c .before .before .before .before .before .before .before .before .before .before .before .before .before .before .loop .inv .2 .ready .room .few)
 
-  more-repeats-requires : more-lts.Need-repeats-requires more-calls more-at more.Post
+  more-repeats-requires : more-lts.Need-repeats-requires more-calls more-at more.Post more-Inv-loop more-μ-loop
   more-repeats-requires c κs = search needs
 
-  more-more-requires : more-lts.Need-more-requires more-calls more-at more.Post
-  more-more-requires c κs =
-      let at-put-node = c .before .before .before .before .before in
-      let at-r = at-put-node .before .before .before in
-      let at-below-part = at-r .before .before .before .before in
-      let at-sign-len = at-below-part .before .before in
-      let start = more-start at-sign-len in
-      let asked = start .pre .1 in
+  more-same-length-2 : more-lts.Need-same-length-2 more-calls more-at more.Post more-Inv-loop more-μ-loop
+  more-same-length-2 c = omega arith
+
+  more-returns-2 : more-lts.Need-returns-2 more-calls more-at more.Post more-Inv-loop more-μ-loop
+  more-returns-2 c =
+      let at-sign-len = c .before .before .before .before .before .before .before .before .before .before .before .before .before in
       let sign = more-sign at-sign-len in
-      let w = far (at-below-part .below-part .ensures) (at-r .r .given .1) in
-      (omega arith, record { ready = on (asked .ready) _ _ _ (w .inside) (omega arith) (omega arith) (subst (Arena _) (sym (at-put-node .put-node .ensures)) (arena-put (Pair _ _ _) (left (at-below-part .below-part .ensures) (at-r .r .given .1)) (room-for (asked .ready) _ 1 (omega arith) (search needs)) (omega arith, omega arith))) (search needs); some = omega arith })
+      let ready = c .before .before .before .before .before .before .before .before .before .before .before .before .before .before .before .before .loop .inv .2 .ready in
+      let w = far (c .before .before .before .before .before .before .before .before .before .before .before .below-part .ensures) (c .before .before .before .before .before .before .before .r .given .1) in
+      c .before .before .before .before .before .before .before .before .before .before .before .before .before .before .before .before .loop .inv .3 _ _ (follows-then (c .before .before .before .before .before .before .before .before .before .before .before .before .before .before .before .before .before .before .before .before .args .sign) _ sign (c .before .before .before .before .before .before .before .before .before .before .before .before .before .before .before .before .loop .inv .2 .some) (ready .arena) (was (c .before .before .before .before .before .before .before .before .before .before .before .below-part .ensures) (c .before .before .before .before .before .before .before .r .given .1)) (room-for ready _ 1 (omega arith) (search needs)) (c .before .before .before .before .put-node .ensures)
+      (λ n x z l hz hs ar. by (onward-stop (opOf (c .before .before .before .before .before .before .before .before .before .before .before .before .before .before .before .before .before .before .before .before .args .sign)) _ _ n z _ (c .before .repeats .ensures) (not-true _ (c .if2 .taken))) (stop (w .inside) ar hz hs)))
 
-  more-same-length-2 : more-lts.Need-same-length-2 more-calls more-at more.Post
-  more-same-length-2 c = search needs
-
-  more-returns-3 : more-lts.Need-returns-3 more-calls more-at more.Post
-  more-returns-3 c =
-      let args = c .before .before .before .before .before .before .before .before .before .before .before .before .before .before .before .before .before .before .before .before .before .before .before .args in
-      let asked = c .before .before .before .before .before .before .before .before .before .before .before .before .before .before .before .before .before .before .before .before .before .before .before .pre .1 in
-      let the-sign-at = c .before .before .before .before .before .before .before .before .before .before .before .before .before .before .before .before .before .before .before .sign-at in
-      let the-if1 = c .before .before .before .before .before .before .before .before .before .before .before .before .before .before .before .before .before .before .if1 in
-      let the-sign-len = c .before .before .before .before .before .before .before .before .before .before .before .before .before .before .before .before .before .sign-len in
-      let the-below-part = c .before .before .before .before .before .before .before .before .before .before .before .before .before .before .before .below-part in
-      let the-r = c .before .before .before .before .before .before .before .before .before .before .before .r in
-      let the-put-node = c .before .before .before .before .before .before .before .before .put-node in
-      let the-repeats = c .before .before .before .before .before .repeats in
-      let the-if2 = c .before .before .before .before .if2 in
-      let the-more = c .before .before .more in
-      let sign = signed (now (args .s)) (args .at) (opOf (args .sign)) (asked .ready .within) (the-sign-at .ensures) (the-if1 .left) (the-sign-len .ensures) in
-      let w = far (the-below-part .ensures) (the-r .given .1) in
-      λ n x f l he hs. by (more-one _ _ _ n f _ (sign .stands) (omega arith) l)
-      (join _ _ (args .sign) f (onward (opOf (args .sign)) _ _ (n - 1)) (asked .some) (omega arith) (asked .ready .arena) he hs (was (by (ap (below (opOf (args .sign)) _ _) (omega (arith, sign .long))) (the-below-part .ensures)) (the-r .given .1)) (room-for (asked .ready) _ 1 (omega arith) (search needs)) (the-put-node .ensures)
-      (λ z hz hs′ ar. by (onward-more _ _ _ _ z _ (the-repeats .ensures) (the-if2 .taken)) (the-more .ensures (n - 1) x z (omega arith) hz hs′)))
-
-  more-same-length-3 : more-lts.Need-same-length-3 more-calls more-at more.Post
-  more-same-length-3 c = search needs
-
-  more-returns-4 : more-lts.Need-returns-4 more-calls more-at more.Post
-  more-returns-4 c =
-      let at-put-node = c .before .before .before .before in
-      let at-r = at-put-node .before .before .before in
-      let at-below-part = at-r .before .before .before .before in
-      let at-sign-len = at-below-part .before .before in
-      let start = more-start at-sign-len in
-      let asked = start .pre .1 in
-      let args = start .args in
+  more-loop-less : more-lts.Need-loop-less more-calls more-at more.Post more-Inv-loop more-μ-loop
+  more-loop-less c =
+      let at-sign-len = c .before .before .before .before .before .before .before .before .before .before .before .before .before in
       let sign = more-sign at-sign-len in
-      let w = far (at-below-part .below-part .ensures) (at-r .r .given .1) in
-      λ n x f l he hs. by (more-one _ _ _ n f _ (sign .stands) (omega arith) l)
-      (join _ _ (args .sign) f (onward (opOf (args .sign)) _ _ (n - 1)) (asked .some) (omega arith) (asked .ready .arena) he hs (was (by (ap (below (opOf (args .sign)) _ _) (omega (arith, sign .long))) (at-below-part .below-part .ensures)) (at-r .r .given .1)) (room-for (asked .ready) _ 1 (omega arith) (search needs)) (at-put-node .put-node .ensures)
-      (λ z hz hs′ ar. by (onward-stop (opOf (args .sign)) (below (opOf (args .sign)) (plainPart (args .depth) (namesAt (now (args .s)) (now (args .names))) (now (args .s))) (now (args .s))) (now (args .s)) (n - 1) z _ (c .before .repeats .ensures) (c .if2 .left)) (stop (w .inside) ar hz hs′)))
+      let w = far (c .before .before .before .before .before .before .before .before .before .before .before .below-part .ensures) (c .before .before .before .before .before .before .before .r .given .1) in
+      omega arith
+
+  more-loop-again : more-lts.Need-loop-again more-calls more-at more.Post more-Inv-loop more-μ-loop
+  more-loop-again c =
+      let at-sign-len = c .before .before .before .before .before .before .before .before .before .before .before .before .before in
+      let sign = more-sign at-sign-len in
+      let ready = c .before .before .before .before .before .before .before .before .before .before .before .before .before .before .before .before .loop .inv .2 .ready in
+      let w = far (c .before .before .before .before .before .before .before .before .before .before .before .below-part .ensures) (c .before .before .before .before .before .before .before .r .given .1) in (
+        omega arith,
+        omega arith,
+        record { ready = on ready _ _ _ (w .inside) (omega arith) (omega arith) (subst (Arena _) (sym (c .before .before .before .before .put-node .ensures)) (arena-put (Pair _ _ _) (left (c .before .before .before .before .before .before .before .before .before .before .before .below-part .ensures) (c .before .before .before .before .before .before .before .r .given .1)) (room-for ready _ 1 (omega arith) (search needs)) (omega arith, omega arith))) (search needs); some = omega arith },
+        λ a r h. c .before .before .before .before .before .before .before .before .before .before .before .before .before .before .before .before .loop .inv .3 a r (follows-then (c .before .before .before .before .before .before .before .before .before .before .before .before .before .before .before .before .before .before .before .before .args .sign) _ sign (c .before .before .before .before .before .before .before .before .before .before .before .before .before .before .before .before .loop .inv .2 .some) (ready .arena) (was (c .before .before .before .before .before .before .before .before .before .before .before .below-part .ensures) (c .before .before .before .before .before .before .before .r .given .1)) (room-for ready _ 1 (omega arith) (search needs)) (c .before .before .before .before .put-node .ensures)
+            (λ n x z l hz hs ar. by (onward-more (opOf (c .before .before .before .before .before .before .before .before .before .before .before .before .before .before .before .before .before .before .before .before .args .sign)) _ _ n z _ (c .before .repeats .ensures) (not-false _ (c .if2 .left))) (h n x z l hz hs))),
+      )
+
+  more-same-length-3 : more-lts.Need-same-length-3 more-calls more-at more.Post more-Inv-loop more-μ-loop
+  more-same-length-3 c = omega arith
+
+  more-returns-3 : more-lts.Need-returns-3 more-calls more-at more.Post more-Inv-loop more-μ-loop
+  more-returns-3 c = c .before .before .loop .inv .3 _ _ (follows-none (opOf (c .before .before .before .before .before .before .args .sign)) _ _ (sym (c .before .sign-at .ensures) ∙ c .if1 .left) (c .before .before .loop .inv .2 .ready .within) (c .before .before .loop .inv .2 .ready .arena))
 
   paren-returns : paren-lts.Need-returns paren-calls paren-at paren.Post
   paren-returns c = refuses (paren-full _ _ _ _ (c .if1 .taken))
@@ -934,9 +952,9 @@ pub +below-part+deny+joined+keep+more+paren+plain-part+second+timed+word-spec : 
     close μ-below-part μ-deny μ-joined μ-keep μ-more μ-paren μ-plain-part μ-second μ-timed μ-word
     (λ t. below-part-lts.spec (below-part-calls t) (below-part-at t) below-part.Post (below-part-enum-told t) (below-part-timed-requires t) (below-part-enum-told-2 t) (below-part-joined-requires t) (below-part-enum-told-3 t) (below-part-joined-requires-2 t) (below-part-enum-told-4 t) (below-part-joined-requires-3 t) (below-part-same-length t) (below-part-returns t) (below-part-same-length-2 t) (below-part-returns-2 t) (below-part-same-length-3 t) (below-part-returns-3 t) (below-part-same-length-4 t) (below-part-returns-4 t))
     (λ t. deny-lts.spec (deny-calls t) (deny-at t) deny.Post (deny-returns t) (deny-add-inner t) (deny-sub-plain-part t) (deny-plain-part-requires t) (deny-enum-known-r t) (deny-enum-told t) (deny-same-length t) (deny-returns-2 t) (deny-sub-child t) (deny-put-node-requires t) (deny-add-count t) (deny-same-length-2 t) (deny-returns-3 t))
-    (λ t. joined-lts.spec (joined-calls t) (joined-at t) joined.Post (joined-below-part-requires t) (joined-enum-known-r t) (joined-enum-told t) (joined-same-length t) (joined-returns t) (joined-more-requires t) (joined-same-length-2 t) (joined-returns-2 t))
+    (λ t. joined-lts.spec (joined-calls t) (joined-at t) joined.Post joined-Inv-loop joined-μ-loop (joined-sign-number-requires t) (joined-timed-requires t) (joined-loop-holds t) (joined-enum-known-r t) (joined-enum-told t) (joined-same-length t) (joined-returns t) (joined-sign-of-requires t) (joined-more-requires t) (joined-add-level t) (joined-loop-less t) (joined-loop-again t) (joined-same-length-2 t) (joined-returns-2 t))
     (λ t. keep-lts.spec (keep-calls t) (keep-at t) keep.Post (keep-byte-at-requires t) (keep-returns t) (keep-returns-2 t) (keep-add-inner t) (keep-add-first t) (keep-sub-joined t) (keep-joined-requires t) (keep-enum-known-r t) (keep-enum-told t) (keep-same-length t) (keep-returns-3 t) (keep-sub-second t) (keep-second-requires t) (keep-same-length-2 t) (keep-returns-4 t))
-    (λ t. more-lts.spec (more-calls t) (more-at t) more.Post (more-sign-at-requires t) (more-returns t) (more-sign-len-requires t) (more-add-part t) (more-below-part-requires t) (more-enum-known-r t) (more-enum-told t) (more-same-length t) (more-returns-2 t) (more-sub-left t) (more-sub-right t) (more-put-node-requires t) (more-add-count t) (more-repeats-requires t) (more-more-requires t) (more-same-length-2 t) (more-returns-3 t) (more-same-length-3 t) (more-returns-4 t))
+    (λ t. more-lts.spec (more-calls t) (more-at t) more.Post more-Inv-loop more-μ-loop (more-loop-holds t) (more-sign-at-requires t) (more-sign-len-requires t) (more-add-part t) (more-below-part-requires t) (more-enum-known-r t) (more-enum-told t) (more-same-length t) (more-returns t) (more-sub-left t) (more-sub-right t) (more-put-node-requires t) (more-add-nodes t) (more-repeats-requires t) (more-same-length-2 t) (more-returns-2 t) (more-loop-less t) (more-loop-again t) (more-same-length-3 t) (more-returns-3 t))
     (λ t. paren-lts.spec (paren-calls t) (paren-at t) paren.Post (paren-returns t) (paren-add-inner t) (paren-sub-joined t) (paren-joined-requires t) (paren-enum-known-r t) (paren-enum-told t) (paren-same-length t) (paren-returns-2 t) (paren-byte-at-requires t) (paren-same-length-2 t) (paren-returns-3 t) (paren-add-after t) (paren-same-length-3 t) (paren-returns-4 t))
     (λ t. plain-part-lts.spec (plain-part-calls t) (plain-part-at t) plain-part.Post (plain-part-byte-at-requires t) (plain-part-class-of-requires t) (plain-part-enum-told t) (plain-part-word-requires t) (plain-part-enum-told-2 t) (plain-part-deny-requires t) (plain-part-enum-told-3 t) (plain-part-paren-requires t) (plain-part-enum-told-4 t) (plain-part-enum-told-5 t) (plain-part-same-length t) (plain-part-returns t) (plain-part-same-length-2 t) (plain-part-returns-2 t) (plain-part-returns-3 t) (plain-part-same-length-3 t) (plain-part-returns-4 t) (plain-part-returns-5 t) (plain-part-returns-6 t) (plain-part-returns-7 t))
     (λ t. second-lts.spec (second-calls t) (second-at t) second.Post (second-byte-at-requires t) (second-returns t) (second-add-inner t) (second-joined-requires t) (second-enum-known-r t) (second-enum-told t) (second-same-length t) (second-returns-2 t) (second-byte-at-requires-2 t) (second-same-length-2 t) (second-returns-3 t) (second-sub-left t) (second-sub-right t) (second-cast-put-keep t) (second-put-keep-requires t) (second-add-after t) (second-add-count t) (second-same-length-3 t) (second-returns-4 t))
