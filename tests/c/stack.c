@@ -1,5 +1,6 @@
-/* How much stack a call takes: check, add and ask run on a painted stack, on sheets whose one rule is as deep as a rule can be in this way or that.
+/* How much stack a call takes: check, add and ask run on a painted stack, on sheets whose one rule is as deep as a rule can be, in many ways.
  * Prints the most that each took, and 'N passed, M failed' at the end: a call passes if it never took more than include/mikhakun.h asks for. */
+#define _POSIX_C_SOURCE 200809L
 #include "mikhakun.h"
 
 #include <stdio.h>
@@ -9,12 +10,11 @@
 
 enum { ASKED = 64 * 1024, STACK = 2 * ASKED, PAINT = 0xA5, LONGEST_RULE = 256, MOST_OPEN = 32, MOST_WORDS = 2 * 1024 };
 
-/* What is repeated around a core, and what the rule is filled up with behind the core. */
+/* What is put around a rule's core, over and over; what the core is; and what fills the rest of the rule behind it. */
 static const struct { const char *open, *close; } NESTS[] = {
-    {"!", ""}, {"(", ")"}, {"!(", ")"}, {"(", ")@[0,0]"}, {"(a&", ")"}, {"(a|a&", ")"}, {"(a=>a|a&", ")"}, {"(a<=>a=>a|a&", ")"}, {"since(", ",a)"}, {"since(a,", ")"},
+    {"!", ""}, {"(", ")"}, {"(a|", ")"}, {"(a=>a|", ")"}, {"(a<=>a=>a|", ")"}, {"(", ")@[0,0]"}, {"since(", ",a)"}, {"since(a,", ")"},
 };
-static const char *const CORES[] = {"a", "since(a,a)"};
-static const char *const FILLS[] = {"&a", "|a", "@[0,0]"};
+static const struct { const char *core, *fill; } ENDS[] = {{"a", "&a"}, {"a", "@[0,0]"}, {"since(a,a)", "&a"}};
 #define COUNT(list) (sizeof(list) / sizeof *(list))
 
 static uint8_t stack[STACK];
@@ -26,12 +26,13 @@ static void check(void) { number = mikhakun_check((uint8_t *)sheet, strlen(sheet
 static void add(void) { number = mikhakun_add((uint8_t *)sheet, strlen(sheet), (const uint8_t *)"", 0, table, 2 * rows, &fresh, &clash, &place); }
 static void ask(void) { number = mikhakun_ask((uint8_t *)sheet, strlen(sheet), table, 2 * rows, 0, 0, &value, &place); }
 
-static struct { const char *name; void (*call)(void); size_t most; char rule[LONGEST_RULE + 1]; } calls[] = {{.name = "check", .call = check}, {.name = "add", .call = add}, {.name = "ask", .call = ask}};
+static struct { const char *name; void (*call)(void); size_t most; char rule[LONGEST_RULE + 1]; } calls[] = {
+    {.name = "check", .call = check}, {.name = "add", .call = add}, {.name = "ask", .call = ask},
+};
 
-/* How many bytes of the stack a call writes, from its top down to the last one whose paint is gone. */
+/* How many bytes a call takes of the stack, which is painted before it: from the top down to the last byte whose paint is gone. Paints it again. */
 static size_t taken_by(void (*call)(void))
 {
-    memset(stack, PAINT, sizeof stack);
     if (getcontext(&inside) != 0) abort();
     inside.uc_stack.ss_sp = stack;
     inside.uc_stack.ss_size = sizeof stack;
@@ -40,23 +41,33 @@ static size_t taken_by(void (*call)(void))
     if (swapcontext(&outside, &inside) != 0) abort();
     size_t low = 0;
     while (low < sizeof stack && stack[low] == PAINT) low++;
+    memset(stack + low, PAINT, sizeof stack - low);
     return sizeof stack - low;
 }
 
-/* The core inside `depth` nests, and behind it as often the fill as a rule has bytes for. False if there are too few for the nests. */
-static int deep_rule(char *rule, size_t nest, size_t depth, const char *core, const char *fill)
+/* Writes the core inside `depth` outer nests, and inside these as many inner ones, with as much of the fill, as a rule has room for.
+ * False if it has none for the outer ones. */
+static int deep_rule(char *rule, size_t outer, size_t depth, size_t inner, size_t end)
 {
-    size_t closing = depth * strlen(NESTS[nest].close);
-    if (depth * strlen(NESTS[nest].open) + strlen(core) + closing > LONGEST_RULE) return 0;
-    *rule = 0;
-    for (size_t i = 0; i < depth; i++) strcat(rule, NESTS[nest].open);
-    strcat(rule, core);
-    while (strlen(rule) + strlen(fill) + closing <= LONGEST_RULE) strcat(rule, fill);
-    for (size_t i = 0; i < depth; i++) strcat(rule, NESTS[nest].close);
+    size_t nests = 0, closing = 0, core = strlen(ENDS[end].core);
+    char *at = rule;
+    size_t order[MOST_OPEN];
+    while (nests < MOST_OPEN) {
+        size_t nest = nests < depth ? outer : inner;
+        size_t open = strlen(NESTS[nest].open), close = strlen(NESTS[nest].close);
+        if ((size_t)(at - rule) + open + core + closing + close > LONGEST_RULE) break;
+        at = stpcpy(at, NESTS[nest].open);
+        closing += close;
+        order[nests++] = nest;
+    }
+    if (nests < depth) return 0;
+    at = stpcpy(at, ENDS[end].core);
+    while ((size_t)(at - rule) + strlen(ENDS[end].fill) + closing <= LONGEST_RULE) at = stpcpy(at, ENDS[end].fill);
+    while (nests > 0) at = stpcpy(at, NESTS[order[--nests]].close);
     return 1;
 }
 
-/* Runs each call on the sheet of this rule. The sheet is accepted, but for its size. */
+/* Makes each call on the sheet of this rule, which is accepted, but for its size. */
 static void try_rule(const char *rule)
 {
     sprintf(sheet, "window=64\nsignals=1\nsignal=a\nrules=1\nrule=%s\n", rule);
@@ -76,13 +87,14 @@ static void try_rule(const char *rule)
 
 int main(void)
 {
-    char rule[2 * LONGEST_RULE];
+    char rule[LONGEST_RULE + 1];
     int failed = 0;
-    for (size_t nest = 0; nest < COUNT(NESTS); nest++)
-        for (size_t depth = 0; depth <= MOST_OPEN; depth++)
-            for (size_t core = 0; core < COUNT(CORES); core++)
-                for (size_t fill = 0; fill < COUNT(FILLS); fill++)
-                    if (deep_rule(rule, nest, depth, CORES[core], FILLS[fill])) try_rule(rule);
+    memset(stack, PAINT, sizeof stack);
+    for (size_t outer = 0; outer < COUNT(NESTS); outer++)
+        for (size_t inner = 0; inner < COUNT(NESTS); inner++)
+            for (size_t depth = 0; depth <= MOST_OPEN; depth++)
+                for (size_t end = 0; end < COUNT(ENDS); end++)
+                    if (deep_rule(rule, outer, depth, inner, end)) try_rule(rule);
     for (size_t i = 0; i < COUNT(calls); i++) {
         printf("%s took %zu bytes of stack at most, with the rule %s\n", calls[i].name, calls[i].most, calls[i].rule);
         failed += calls[i].most > ASKED;

@@ -43,7 +43,8 @@ pub fn lower_rule(
     }
 }
 
-// The defining rules of the hidden signals of the rule at a node, in the order written. That of a since or an until is just before it.
+// The defining rules of the hidden signals of the rule at a node, in the order written. That of a since or an until is just before it. `!`, `@` and
+// `?` are passed over: what is inside has the same.
 pub fn lower_definings(
     arena: &[u16],
     node: usize,
@@ -57,21 +58,24 @@ pub fn lower_definings(
     requires { ⌜ RowBuffer (now out) used ⌝ }
     ensures { λ r. ⌜ LowersAll (lows (definingsAt (now (arena .entry)) node)) used at (buffers (now (out .entry)) (now (tops .entry))) (buffers (now (out .exit)) (now (tops .exit))) r ⌝ }
 {
-    match node_at(arena, node) {
-        Node::Name(_) => AllLowered::Next { at, used },
-        Node::Deny(x) => lower_definings(arena, x, tops, at, out, used),
-        Node::Pair(_, x, y) => both_definings(arena, x, y, tops, at, out, used),
-        Node::Time(_, x, _, _) => lower_definings(arena, x, tops, at, out, used),
-        Node::Keep(_, x, y, _) => {
-            let own = node - 1;
-            let AllLowered::Next {
-                at: free,
-                used: next,
-            } = lower_rule(arena, own, tops, at, out, used)
-            else {
-                return AllLowered::Full;
-            };
-            both_definings(arena, x, y, tops, free, out, next)
+    let mut inner = node;
+    loop {
+        match node_at(arena, inner) {
+            Node::Name(_) => return AllLowered::Next { at, used },
+            Node::Deny(x) => inner = x,
+            Node::Pair(_, x, y) => return both_definings(arena, x, y, tops, at, out, used),
+            Node::Time(_, x, _, _) => inner = x,
+            Node::Keep(_, x, y, _) => {
+                let own = inner - 1;
+                let AllLowered::Next {
+                    at: free,
+                    used: next,
+                } = lower_rule(arena, own, tops, at, out, used)
+                else {
+                    return AllLowered::Full;
+                };
+                return both_definings(arena, x, y, tops, free, out, next);
+            }
         }
     }
 }

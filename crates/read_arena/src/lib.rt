@@ -57,7 +57,7 @@ pub fn sign_of(z: u16) -> Sign
     }
 }
 
-// The sign's number.
+// The sign's number. A sign binds tighter than those with a larger one.
 pub fn sign_number(sign: Sign) -> u16
     ensures { λ r. ⌜ r ≡ signNumber sign ⌝ }
 {

@@ -58,15 +58,15 @@ fn below_part(
     requires { ⌜ PartReady (now s) (now arena) (now names) at used hidden ⌝ }
     ensures { λ r. ⌜ Reads (belowAt s names depth (opOf sign) at) s arena at used hidden r ⌝ }
 {
-    match sign {
-        Sign::And => timed(s, names, arena, at, used, hidden, depth),
-        Sign::Or => joined(Sign::And, s, names, arena, at, used, hidden, depth),
-        Sign::Implies => joined(Sign::Or, s, names, arena, at, used, hidden, depth),
-        Sign::Iff => joined(Sign::Implies, s, names, arena, at, used, hidden, depth),
+    let level = sign_number(sign);
+    if level == 0 {
+        timed(s, names, arena, at, used, hidden, depth)
+    } else {
+        joined(sign_of(level - 1), s, names, arena, at, used, hidden, depth)
     }
 }
 
-// Parts joined by the sign: a timed part, then what follows at each level, from that of `&` up to the sign's.
+// Parts joined by the sign: a part of the level of `&`, then what follows it at each level up to the sign's.
 pub fn joined(
     sign: Sign,
     s: &[u8],
@@ -81,7 +81,7 @@ pub fn joined(
     ensures { λ r. ⌜ Reads (levelAt s names depth (opOf sign) at) s arena at used hidden r ⌝ }
 {
     let last = sign_number(sign);
-    let mut r = timed(s, names, arena, at, used, hidden, depth);
+    let mut r = below_part(Sign::And, s, names, arena, at, used, hidden, depth);
     let mut level = 0;
     while level <= last {
         let Parsed::Got(next, count, rows) = r else {

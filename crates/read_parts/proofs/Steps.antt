@@ -82,10 +82,6 @@ unfolding more
 more-none o P s zero f p e = refl
 more-none o P s (suc n) f p e = rw e
 
--- A level's parts, by the code's name for the sign.
-pub below-told : (P : Reader) (s : List ℕ) (p : ℕ) {sign k : Sign} → sign ≡ k → below (opOf sign) P s p ≡ below (opOf k) P s p
-below-told P s p e = rw e
-
 -- What stands after one sign and its part.
 abbrev pub onward : Op → Reader → List ℕ → ℕ → Written → Reader
 onward o P s n f q = pick (repeats o) (λ _. more o P s n f q) (got f q)
@@ -104,6 +100,28 @@ more-one o P s zero f p e h l = absurd (omega arith)
 more-one o P s (suc n) f p e h l = let back : suc n - 1 ≡ n = omega arith in rw (e, back)
 
 -- ---- levels
+
+-- The first level's parts are timed parts, those of any other the level before it.
+pub below-first : (sign : Sign) (P : Reader) (s : List ℕ) (p : ℕ) → signNumber sign ≡ 0 → below (opOf sign) P s p ≡ timedPart P s p
+below-first Sign.And P s p e = refl
+below-first Sign.Or P s p e = absurd (omega arith)
+below-first Sign.Implies P s p e = absurd (omega arith)
+below-first Sign.Iff P s p e = absurd (omega arith)
+
+module _ {n : ℕ} {k : Sign} where
+  pub below-next : (sign : Sign) (P : Reader) (s : List ℕ) (p : ℕ) → n ≡ signNumber sign → (n ≡ 0 → ⊥) → k ≡ signOf (n - 1) → below (opOf sign) P s p ≡ level (opOf k) (below (opOf k) P s) s p
+  unfolding signOf
+  below-next Sign.And P s p e ne i = absurd (ne e)
+  below-next Sign.Or P s p e ne i = rw (i, e)
+  below-next Sign.Implies P s p e ne i = rw (i, e)
+  below-next Sign.Iff P s p e ne i = rw (i, e)
+
+  pub number-before : (sign : Sign) → n ≡ signNumber sign → (n ≡ 0 → ⊥) → k ≡ signOf (n - 1) → signNumber k + 1 ≡ n
+  unfolding signOf
+  number-before Sign.And e ne i = absurd (ne e)
+  number-before Sign.Or e ne i = rw (i, e)
+  number-before Sign.Implies e ne i = rw (i, e)
+  number-before Sign.Iff e ne i = rw (i, e)
 
 -- What is read before the level with the number i: a timed part, and what follows it at each level below.
 abbrev pub upTo : ℕ → Reader → List ℕ → Reader

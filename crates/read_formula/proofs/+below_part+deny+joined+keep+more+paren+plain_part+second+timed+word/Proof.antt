@@ -8,7 +8,7 @@ use Rattle.read_arena.specs.declared.Node.the-variants.{Pair}
 use Rattle.read_parts.proofs.Follows.{Follows, follows-none, follows-refused, follows-then}
 use Rattle.read_parts.proofs.Levels.{refused-as, was, by, from, far, left, hand-on, then, stop, join, wrap, shut, unshut, shut-keep, unshut-keep, hand-on-keep, held-next}
 use Rattle.read_parts.proofs.Rooms.{on, room-for, bare}
-use Rattle.read_parts.proofs.Steps.{Signed, signed, below-told, more-none, more-one, onward, onward-more, onward-stop, deny-full, deny-on, paren-full, paren-on, keep-full, keep-on, kept-none, second-none, second-some, class-told, byte-inside, plain-letter, plain-digit, plain-other, plain-deny, plain-sign, plain-paren, plain-bracket, since-inside, until-inside, word-since, word-until, word-name, remaining, upTo, level-most, level-up-to, one-level, refused-above}
+use Rattle.read_parts.proofs.Steps.{Signed, signed, below-first, below-next, number-before, more-none, more-one, onward, onward-more, onward-stop, deny-full, deny-on, paren-full, paren-on, keep-full, keep-on, kept-none, second-none, second-some, class-told, byte-inside, plain-letter, plain-digit, plain-other, plain-deny, plain-sign, plain-paren, plain-bracket, since-inside, until-inside, word-since, word-until, word-name, remaining, upTo, level-most, level-up-to, one-level, refused-above}
 use Rattle.read_parts.specs.FormulaText.{Reader, timedPart, level, below, plainPart}
 use Rattle.read_parts.specs.Promise.{AfterPart}
 use Rattle.read_parts.specs.Parsed.{Parses}
@@ -183,13 +183,13 @@ module _ (t : ℕ) where
   word-below = and 3 word-kinds.ps (falls 3 word-kinds.ps _<_ μ-word t) word.Pre
 
   abbrev below-part-calls : below-part-lts.Claims
-  below-part-calls = (timed-below, timed.Post, joined-below, joined.Post)
+  below-part-calls = (sign-number-reads.Asked, sign-number-reads.Learnt, timed-below, timed.Post, sign-of-reads.Asked, sign-of-reads.Learnt, joined-below, joined.Post)
 
   abbrev deny-calls : deny-lts.Claims
   deny-calls = (plain-part-below, plain-part.Post, put-node-reads.Asked, put-node-reads.Learnt)
 
   abbrev joined-calls : joined-lts.Claims
-  joined-calls = (sign-number-reads.Asked, sign-number-reads.Learnt, timed-below, timed.Post, sign-of-reads.Asked, sign-of-reads.Learnt, more-below, more.Post)
+  joined-calls = (sign-number-reads.Asked, sign-number-reads.Learnt, below-part-below, below-part.Post, sign-of-reads.Asked, sign-of-reads.Learnt, more-below, more.Post)
 
   abbrev keep-calls : keep-lts.Claims
   keep-calls = (byte-at-reads.Asked, byte-at-reads.Learnt, joined-below, joined.Post, second-below, second.Post)
@@ -212,73 +212,45 @@ module _ (t : ℕ) where
   abbrev word-calls : word-lts.Claims
   word-calls = (is-since-reads.Asked, is-since-reads.Learnt, keep-below, keep.Post, is-until-reads.Asked, is-until-reads.Learnt, name-reads.Asked, name-reads.Learnt)
 
-  below-part-enum-told : below-part-lts.Need-enum-told below-part-calls below-part-at below-part.Post
-  below-part-enum-told c = search needs
+  below-part-sign-number-requires : below-part-lts.Need-sign-number-requires below-part-calls below-part-at below-part.Post
+  below-part-sign-number-requires c κs = search needs
 
   below-part-timed-requires : below-part-lts.Need-timed-requires below-part-calls below-part-at below-part.Post
   below-part-timed-requires c κs =
-      let asked = c .before .before .before .before .before .before .pre .1 in
-      (omega arith, asked)
+      let start = c .before .before .before .before .before .before in
+      (omega arith, start .pre .1)
 
-  below-part-enum-told-2 : below-part-lts.Need-enum-told-2 below-part-calls below-part-at below-part.Post
-  below-part-enum-told-2 c = search needs
+  below-part-sub-sign-of : below-part-lts.Need-sub-sign-of below-part-calls below-part-at below-part.Post
+  below-part-sub-sign-of c = search needs
+
+  below-part-sign-of-requires : below-part-lts.Need-sign-of-requires below-part-calls below-part-at below-part.Post
+  below-part-sign-of-requires c κs = search needs
 
   below-part-joined-requires : below-part-lts.Need-joined-requires below-part-calls below-part-at below-part.Post
   below-part-joined-requires c κs =
-      let asked = c .before .before .before .before .before .before .pre .1 in
-      (omega (arith, ap signNumber (c .before .enum-told2 .given .1)), asked)
-
-  below-part-enum-told-3 : below-part-lts.Need-enum-told-3 below-part-calls below-part-at below-part.Post
-  below-part-enum-told-3 c = search needs
-
-  below-part-joined-requires-2 : below-part-lts.Need-joined-requires-2 below-part-calls below-part-at below-part.Post
-  below-part-joined-requires-2 c κs =
-      let asked = c .before .before .before .before .before .before .pre .1 in
-      (omega (arith, ap signNumber (c .before .enum-told3 .given .1)), asked)
-
-  below-part-enum-told-4 : below-part-lts.Need-enum-told-4 below-part-calls below-part-at below-part.Post
-  below-part-enum-told-4 c = search needs
-
-  below-part-joined-requires-3 : below-part-lts.Need-joined-requires-3 below-part-calls below-part-at below-part.Post
-  below-part-joined-requires-3 c κs =
-      let asked = c .before .before .before .before .before .before .pre .1 in
-      (omega (arith, ap signNumber (c .before .enum-told4 .given .1)), asked)
+      let start = c .before .before .before .before .before .before .before in
+      (omega (arith, c .before .before .before .sign-number .ensures, number-before (start .args .sign) (c .before .before .before .sign-number .ensures) (c .before .before .if1 .left) (c .before .sign-of .ensures)), start .pre .1)
 
   below-part-same-length : below-part-lts.Need-same-length below-part-calls below-part-at below-part.Post
   below-part-same-length c = search needs
 
   below-part-returns : below-part-lts.Need-returns below-part-calls below-part-at below-part.Post
   below-part-returns c =
-      let at-timed = c .before .before in
-      let at-enum-told = at-timed .before .before in
-      by (below-told _ _ _ (at-enum-told .enum-told .given .1)) (at-timed .timed .ensures)
+      let at-if1 = c .before .before .before .before in
+      let at-sign-number = at-if1 .before in
+      let start = at-sign-number .before .before .before .before in
+      by (below-first (start .args .sign) _ _ _ (omega (arith, at-sign-number .sign-number .ensures, at-if1 .if1 .taken))) (c .before .before .timed .ensures)
 
   below-part-same-length-2 : below-part-lts.Need-same-length-2 below-part-calls below-part-at below-part.Post
   below-part-same-length-2 c = search needs
 
   below-part-returns-2 : below-part-lts.Need-returns-2 below-part-calls below-part-at below-part.Post
   below-part-returns-2 c =
-      let at-joined = c .before .before in
-      let at-enum-told2 = at-joined .before .before in
-      by (below-told _ _ _ (at-enum-told2 .enum-told2 .given .1)) (at-joined .joined .ensures)
-
-  below-part-same-length-3 : below-part-lts.Need-same-length-3 below-part-calls below-part-at below-part.Post
-  below-part-same-length-3 c = search needs
-
-  below-part-returns-3 : below-part-lts.Need-returns-3 below-part-calls below-part-at below-part.Post
-  below-part-returns-3 c =
-      let at-joined2 = c .before .before in
-      let at-enum-told3 = at-joined2 .before .before in
-      by (below-told _ _ _ (at-enum-told3 .enum-told3 .given .1)) (at-joined2 .joined2 .ensures)
-
-  below-part-same-length-4 : below-part-lts.Need-same-length-4 below-part-calls below-part-at below-part.Post
-  below-part-same-length-4 c = search needs
-
-  below-part-returns-4 : below-part-lts.Need-returns-4 below-part-calls below-part-at below-part.Post
-  below-part-returns-4 c =
-      let at-joined3 = c .before .before in
-      let at-enum-told4 = at-joined3 .before .before in
-      by (below-told _ _ _ (at-enum-told4 .enum-told4 .given .1)) (at-joined3 .joined3 .ensures)
+      let at-sign-of = c .before .before .before .before in
+      let at-if1 = at-sign-of .before in
+      let at-sign-number = at-if1 .before in
+      let start = at-sign-number .before .before .before .before in
+      by (below-next (start .args .sign) _ _ _ (at-sign-number .sign-number .ensures) (at-if1 .if1 .left) (at-sign-of .sign-of .ensures)) (c .before .before .joined .ensures)
 
   deny-returns : deny-lts.Need-returns deny-calls deny-at deny.Post
   deny-returns c = refuses (deny-full _ _ _ _ (c .if1 .taken))
@@ -291,7 +263,8 @@ module _ (t : ℕ) where
 
   deny-plain-part-requires : deny-lts.Need-plain-part-requires deny-calls deny-at deny.Post
   deny-plain-part-requires c κs =
-      let asked = c .before .before .before .before .before .pre .1 in
+      let start = c .before .before .before .before .before in
+      let asked = start .pre .1 in
       (omega (arith, asked .inside), on (asked .ready) _ _ _ (omega (arith, asked .inside)) (omega arith) (omega arith) (asked .ready .arena) refl)
 
   deny-enum-known-r : deny-lts.Need-enum-known-r deny-calls deny-at deny.Post
@@ -347,8 +320,10 @@ module _ (t : ℕ) where
   joined-sign-number-requires : joined-lts.Need-sign-number-requires joined-calls joined-at joined.Post joined-Inv-loop joined-μ-loop
   joined-sign-number-requires c κs = search needs
 
-  joined-timed-requires : joined-lts.Need-timed-requires joined-calls joined-at joined.Post joined-Inv-loop joined-μ-loop
-  joined-timed-requires c κs = (omega arith, c .before .before .before .before .before .pre .1)
+  joined-below-part-requires : joined-lts.Need-below-part-requires joined-calls joined-at joined.Post joined-Inv-loop joined-μ-loop
+  joined-below-part-requires c κs =
+      let start = c .before .before .before .before .before in
+      (omega arith, start .pre .1)
 
   joined-loop-holds : joined-lts.Need-loop-holds joined-calls joined-at joined.Post joined-Inv-loop joined-μ-loop
   joined-loop-holds c = (omega arith, refl, λ a h. h)
@@ -364,37 +339,51 @@ module _ (t : ℕ) where
 
   joined-returns : joined-lts.Need-returns joined-calls joined-at joined.Post joined-Inv-loop joined-μ-loop
   joined-returns c =
-      let sign = c .before .before .before .before .before .before .before .before .before .before .before .before .args .sign in
-      let read = c .before .before .before .loop .inv .2 _ (c .before .before .before .before .before .before .timed .ensures) in
-      by (level-up-to sign _ _ _) (refused-as (refused-above (c .before .before .before .loop .level) (signNumber sign + 1) (omega (arith, c .before .before .before .before .before .before .before .before .sign-number .ensures)) _ _ _) read (c .enum-told .given .1))
+      let at-below-part = c .before .before .before .before .before .before in
+      let at-sign-number = at-below-part .before .before in
+      let start = at-sign-number .before .before .before .before in
+      let sign = start .args .sign in
+      let read = c .before .before .before .loop .inv .2 _ (at-below-part .below-part .ensures) in
+      by (level-up-to sign _ _ _) (refused-as (refused-above (c .before .before .before .loop .level) (signNumber sign + 1) (omega (arith, at-sign-number .sign-number .ensures)) _ _ _) read (c .enum-told .given .1))
 
   joined-sign-of-requires : joined-lts.Need-sign-of-requires joined-calls joined-at joined.Post joined-Inv-loop joined-μ-loop
   joined-sign-of-requires c κs = search needs
 
   joined-more-requires : joined-lts.Need-more-requires joined-calls joined-at joined.Post joined-Inv-loop joined-μ-loop
   joined-more-requires c κs =
-      let asked = c .before .before .before .before .before .before .before .before .before .before .before .before .before .before .before .pre .1 in
-      let read = c .before .before .before .before .before .before .loop .inv .2 _ (c .before .before .before .before .before .before .before .before .before .timed .ensures) in
+      let at-loop = c .before .before .before .before .before .before in
+      let at-below-part = at-loop .before .before .before in
+      let start = at-below-part .before .before .before .before .before .before in
+      let asked = start .pre .1 in
+      let read = at-loop .loop .inv .2 _ (at-below-part .below-part .ensures) in
       let w = far read (c .before .before .before .r .given .1) in
       (omega arith, record { ready = on asked _ _ _ (w .inside) (omega arith) (omega arith) (left read (c .before .before .before .r .given .1)) (omega arith); some = omega arith })
 
   joined-add-level : joined-lts.Need-add-level joined-calls joined-at joined.Post joined-Inv-loop joined-μ-loop
-  joined-add-level c = omega (arith, c .before .before .before .before .before .before .before .before .before .before .before .before .before .before .sign-number .ensures, level-most (c .before .before .before .before .before .before .before .before .before .before .before .before .before .before .before .before .before .before .args .sign))
+  joined-add-level c =
+      let at-sign-number = c .before .before .before .before .before .before .before .before .before .before .before .before .before .before in
+      let start = at-sign-number .before .before .before .before in
+      omega (arith, at-sign-number .sign-number .ensures, level-most (start .args .sign))
 
   joined-loop-less : joined-lts.Need-loop-less joined-calls joined-at joined.Post joined-Inv-loop joined-μ-loop
   joined-loop-less c = omega arith
 
   joined-loop-again : joined-lts.Need-loop-again joined-calls joined-at joined.Post joined-Inv-loop joined-μ-loop
   joined-loop-again c =
-      let l = c .before .before .before .before .before .before .before .before .before .loop in
-      let e = c .before .before .before .before .before .before .r .given .1 in
-      let told = rw (c .before .before .before .before .sign-of .ensures) at (c .before .before .more .ensures) in (
+      let at-sign-of = c .before .before .before .before in
+      let at-r = at-sign-of .before .before in
+      let at-loop = at-r .before .before .before in
+      let at-sign-number = at-loop .before .before .before .before .before in
+      let start = at-sign-number .before .before .before .before in
+      let l = at-loop .loop in
+      let e = at-r .r .given .1 in
+      let told = rw (at-sign-of .sign-of .ensures) at (c .before .before .more .ensures) in (
         omega arith,
         omega arith,
         λ a h.
             let read = l .inv .2 a h in
             let w = far read e in
-            by (one-level (l .level) (omega (arith, c .before .before .before .before .before .before .before .before .before .before .before .before .before .before .sign-number .ensures, level-most (c .before .before .before .before .before .before .before .before .before .before .before .before .before .before .before .before .before .before .args .sign))) _ _ _)
+            by (one-level (l .level) (omega (arith, at-sign-number .sign-number .ensures, level-most (start .args .sign))) _ _ _)
             (then _ _ _ (omega arith) (omega arith) (omega arith) (omega arith) (was read e) (λ f hf hs. told _ _ f (omega arith) hf hs)),
       )
 
@@ -403,8 +392,11 @@ module _ (t : ℕ) where
 
   joined-returns-2 : joined-lts.Need-returns-2 joined-calls joined-at joined.Post joined-Inv-loop joined-μ-loop
   joined-returns-2 c =
-      let e : c .before .loop .level ≡ signNumber (c .before .before .before .before .before .before .before .before .before .before .args .sign) + 1 = omega (arith, c .before .before .before .before .before .before .sign-number .ensures) in
-      by (level-up-to (c .before .before .before .before .before .before .before .before .before .before .args .sign) _ _ _) (rw e at (c .before .loop .inv .2 _ (c .before .before .before .before .timed .ensures)))
+      let at-below-part = c .before .before .before .before in
+      let at-sign-number = at-below-part .before .before in
+      let start = at-sign-number .before .before .before .before in
+      let e : c .before .loop .level ≡ signNumber (start .args .sign) + 1 = omega (arith, at-sign-number .sign-number .ensures) in
+      by (level-up-to (start .args .sign) _ _ _) (rw e at (c .before .loop .inv .2 _ (at-below-part .below-part .ensures)))
 
   keep-byte-at-requires : keep-lts.Need-byte-at-requires keep-calls keep-at keep.Post
   keep-byte-at-requires c κs = search needs
@@ -467,12 +459,18 @@ module _ (t : ℕ) where
 
   keep-returns-4 : keep-lts.Need-returns-4 keep-calls keep-at keep.Post
   keep-returns-4 c =
-      let asked = c .before .before .before .before .before .before .before .before .before .before .before .before .before .before .before .before .before .pre .1 in
-      let the-byte-at = c .before .before .before .before .before .before .before .before .before .before .before .before .before .byte-at in
-      let the-if1 = c .before .before .before .before .before .before .before .before .before .before .before .before .if1 in
-      let the-if2 = c .before .before .before .before .before .before .before .before .before .before .before .if2 in
-      let the-joined = c .before .before .before .before .before .before .before .before .before .joined in
-      let the-r = c .before .before .before .before .before .r in
+      let at-r = c .before .before .before .before .before in
+      let at-joined = at-r .before .before .before .before in
+      let at-if2 = at-joined .before .before in
+      let at-if1 = at-if2 .before in
+      let at-byte-at = at-if1 .before in
+      let start = at-byte-at .before .before .before .before in
+      let asked = start .pre .1 in
+      let the-byte-at = at-byte-at .byte-at in
+      let the-if1 = at-if1 .if1 in
+      let the-if2 = at-if2 .if2 in
+      let the-joined = at-joined .joined in
+      let the-r = at-r .r in
       let the-second = c .before .before .second in
       let w = far (the-joined .ensures) (the-r .given .1) in
       by (keep-on _ _ _ _ _ (sym (the-byte-at .ensures) ∙ the-if1 .left) (the-if2 .left))
@@ -499,9 +497,11 @@ module _ (t : ℕ) where
 
   more-below-part-requires : more-lts.Need-below-part-requires more-calls more-at more.Post more-Inv-loop more-μ-loop
   more-below-part-requires c κs =
-      let ready = c .before .before .before .before .loop .inv .2 .ready in
+      let at-loop = c .before .before .before .before in
+      let start = at-loop .before .before .before .before in
+      let ready = at-loop .loop .inv .2 .ready in
       let sign = more-sign (c .before) in
-      (omega (arith, level-most (c .before .before .before .before .before .before .before .before .args .sign)), on ready _ _ _ (omega arith) (omega arith) (omega arith) (ready .arena) refl)
+      (omega (arith, level-most (start .args .sign)), on ready _ _ _ (omega arith) (omega arith) (omega arith) (ready .arena) refl)
 
   more-enum-known-r : more-lts.Need-enum-known-r more-calls more-at more.Post more-Inv-loop more-μ-loop
   more-enum-known-r c = search needs
@@ -518,11 +518,14 @@ module _ (t : ℕ) where
       c .before .before .before .before .before .before .before .before .before .loop .inv .3 _ _ (follows-refused (c .before .before .before .before .before .before .before .before .before .before .before .before .before .args .sign) _ (more-sign at-sign-len) (c .before .before .before .before .below-part .ensures) (c .enum-told .given .1))
 
   more-sub-left : more-lts.Need-sub-left more-calls more-at more.Post more-Inv-loop more-μ-loop
-  more-sub-left c = omega (arith, c .before .before .before .before .before .before .before .before .before .before .loop .inv .2 .some)
+  more-sub-left c =
+      let at-loop = c .before .before .before .before .before .before .before .before .before .before in
+      omega (arith, at-loop .loop .inv .2 .some)
 
   more-sub-right : more-lts.Need-sub-right more-calls more-at more.Post more-Inv-loop more-μ-loop
   more-sub-right c =
-      let w = far (c .before .before .before .before .before .below-part .ensures) (c .before .r .given .1) in
+      let at-below-part = c .before .before .before .before .before in
+      let w = far (at-below-part .below-part .ensures) (c .before .r .given .1) in
       omega arith
 
   more-put-node-requires : more-lts.Need-put-node-requires more-calls more-at more.Post more-Inv-loop more-μ-loop
@@ -578,7 +581,9 @@ module _ (t : ℕ) where
   more-same-length-3 c = omega arith
 
   more-returns-3 : more-lts.Need-returns-3 more-calls more-at more.Post more-Inv-loop more-μ-loop
-  more-returns-3 c = c .before .before .loop .inv .3 _ _ (follows-none (opOf (c .before .before .before .before .before .before .args .sign)) _ _ (sym (c .before .sign-at .ensures) ∙ c .if1 .left) (c .before .before .loop .inv .2 .ready .within) (c .before .before .loop .inv .2 .ready .arena))
+  more-returns-3 c =
+      let start = c .before .before .before .before .before .before in
+      c .before .before .loop .inv .3 _ _ (follows-none (opOf (start .args .sign)) _ _ (sym (c .before .sign-at .ensures) ∙ c .if1 .left) (c .before .before .loop .inv .2 .ready .within) (c .before .before .loop .inv .2 .ready .arena))
 
   paren-returns : paren-lts.Need-returns paren-calls paren-at paren.Post
   paren-returns c = refuses (paren-full _ _ _ _ (c .if1 .taken))
@@ -591,7 +596,8 @@ module _ (t : ℕ) where
 
   paren-joined-requires : paren-lts.Need-joined-requires paren-calls paren-at paren.Post
   paren-joined-requires c κs =
-      let asked = c .before .before .before .before .before .pre .1 in
+      let start = c .before .before .before .before .before in
+      let asked = start .pre .1 in
       (omega (arith, asked .inside), on (asked .ready) _ _ _ (omega (arith, asked .inside)) (omega arith) (omega arith) (asked .ready .arena) refl)
 
   paren-enum-known-r : paren-lts.Need-enum-known-r paren-calls paren-at paren.Post
@@ -798,7 +804,8 @@ module _ (t : ℕ) where
 
   second-cast-put-keep : second-lts.Need-cast-put-keep second-calls second-at second.Post
   second-cast-put-keep c =
-      let asked = c .before .before .before .before .before .before .before .before .before .before .before .before .before .before .before .pre .1 in
+      let start = c .before .before .before .before .before .before .before .before .before .before .before .before .before .before .before in
+      let asked = start .pre .1 in
       omega (arith, asked .ready .rows)
 
   second-put-keep-requires : second-lts.Need-put-keep-requires second-calls second-at second.Post
@@ -846,7 +853,8 @@ module _ (t : ℕ) where
 
   timed-plain-part-requires : timed-lts.Need-plain-part-requires timed-calls timed-at timed.Post
   timed-plain-part-requires c κs =
-      let asked = c .before .before .before .before .pre .1 in
+      let start = c .before .before .before .before in
+      let asked = start .pre .1 in
       (omega arith, asked)
 
   timed-enum-known-r : timed-lts.Need-enum-known-r timed-calls timed-at timed.Post
@@ -950,9 +958,9 @@ module _ (t : ℕ) where
 pub +below-part+deny+joined+keep+more+paren+plain-part+second+timed+word-spec : {M : Type 1} → statement M
 +below-part+deny+joined+keep+more+paren+plain-part+second+timed+word-spec =
     close μ-below-part μ-deny μ-joined μ-keep μ-more μ-paren μ-plain-part μ-second μ-timed μ-word
-    (λ t. below-part-lts.spec (below-part-calls t) (below-part-at t) below-part.Post (below-part-enum-told t) (below-part-timed-requires t) (below-part-enum-told-2 t) (below-part-joined-requires t) (below-part-enum-told-3 t) (below-part-joined-requires-2 t) (below-part-enum-told-4 t) (below-part-joined-requires-3 t) (below-part-same-length t) (below-part-returns t) (below-part-same-length-2 t) (below-part-returns-2 t) (below-part-same-length-3 t) (below-part-returns-3 t) (below-part-same-length-4 t) (below-part-returns-4 t))
+    (λ t. below-part-lts.spec (below-part-calls t) (below-part-at t) below-part.Post (below-part-sign-number-requires t) (below-part-timed-requires t) (below-part-sub-sign-of t) (below-part-sign-of-requires t) (below-part-joined-requires t) (below-part-same-length t) (below-part-returns t) (below-part-same-length-2 t) (below-part-returns-2 t))
     (λ t. deny-lts.spec (deny-calls t) (deny-at t) deny.Post (deny-returns t) (deny-add-inner t) (deny-sub-plain-part t) (deny-plain-part-requires t) (deny-enum-known-r t) (deny-enum-told t) (deny-same-length t) (deny-returns-2 t) (deny-sub-child t) (deny-put-node-requires t) (deny-add-count t) (deny-same-length-2 t) (deny-returns-3 t))
-    (λ t. joined-lts.spec (joined-calls t) (joined-at t) joined.Post joined-Inv-loop joined-μ-loop (joined-sign-number-requires t) (joined-timed-requires t) (joined-loop-holds t) (joined-enum-known-r t) (joined-enum-told t) (joined-same-length t) (joined-returns t) (joined-sign-of-requires t) (joined-more-requires t) (joined-add-level t) (joined-loop-less t) (joined-loop-again t) (joined-same-length-2 t) (joined-returns-2 t))
+    (λ t. joined-lts.spec (joined-calls t) (joined-at t) joined.Post joined-Inv-loop joined-μ-loop (joined-sign-number-requires t) (joined-below-part-requires t) (joined-loop-holds t) (joined-enum-known-r t) (joined-enum-told t) (joined-same-length t) (joined-returns t) (joined-sign-of-requires t) (joined-more-requires t) (joined-add-level t) (joined-loop-less t) (joined-loop-again t) (joined-same-length-2 t) (joined-returns-2 t))
     (λ t. keep-lts.spec (keep-calls t) (keep-at t) keep.Post (keep-byte-at-requires t) (keep-returns t) (keep-returns-2 t) (keep-add-inner t) (keep-add-first t) (keep-sub-joined t) (keep-joined-requires t) (keep-enum-known-r t) (keep-enum-told t) (keep-same-length t) (keep-returns-3 t) (keep-sub-second t) (keep-second-requires t) (keep-same-length-2 t) (keep-returns-4 t))
     (λ t. more-lts.spec (more-calls t) (more-at t) more.Post more-Inv-loop more-μ-loop (more-loop-holds t) (more-sign-at-requires t) (more-sign-len-requires t) (more-add-part t) (more-below-part-requires t) (more-enum-known-r t) (more-enum-told t) (more-same-length t) (more-returns t) (more-sub-left t) (more-sub-right t) (more-put-node-requires t) (more-add-nodes t) (more-repeats-requires t) (more-same-length-2 t) (more-returns-2 t) (more-loop-less t) (more-loop-again t) (more-same-length-3 t) (more-returns-3 t))
     (λ t. paren-lts.spec (paren-calls t) (paren-at t) paren.Post (paren-returns t) (paren-add-inner t) (paren-sub-joined t) (paren-joined-requires t) (paren-enum-known-r t) (paren-enum-told t) (paren-same-length t) (paren-returns-2 t) (paren-byte-at-requires t) (paren-same-length-2 t) (paren-returns-3 t) (paren-add-after t) (paren-same-length-3 t) (paren-returns-4 t))

@@ -1,15 +1,15 @@
 -- `lower_definings` and `both_definings` meet their contracts. The measure is a node's number: children stand before their
 -- parents. Assumes nothing.
-use Prim.Native.Nat.{ℕ, _+_, _*_, _<_, max}
+use Prim.Native.Nat.{ℕ, _+_, _*_, _<_, _≤_, max}
 use Rattle.read_arena.proofs.Puts.{arena-fewer}
 use Rattle.read_arena.proofs.Read.{definings-step, right-step}
-use Rattle.read_arena.specs.NodeRules.{definingsAt}
+use Rattle.read_arena.specs.NodeRules.{definingsAt, NodeIn}
 use Rattle.lower_rows.proofs.Runs.{buffer-on}
 use Rattle.lower_rule.proofs.InTurn.{went-all, all-none, all-full, all-then, rules-full, rules-then, rules-tops}
 use borrow.Author.Needs.{needs}
 use lib.ListN.{length, length-append}
 use mathlib.Core.List.{[], _∷_}
-use mathlib.Core.Path.{sym, ap, _∙_}
+use mathlib.Core.Path.{_≡_, refl, sym, ap, _∙_}
 use native.Mathlib.Omega.{arith}
 use borrow.Fn.Kinds.{In}
 use borrow.Fn.PlainCycle.{Measures, is, falls, and}
@@ -30,6 +30,14 @@ abbrev μ-both-definings : Measures 3 both-definings-kinds.ps ℕ
 abbrev μ-lower-definings : Measures 3 lower-definings-kinds.ps ℕ
 μ-lower-definings κs a = 2 * a .1 .0 + 1
 
+-- Nothing is written before the loop's end, and the defining rules at `inner` are those at the node.
+abbrev lower-definings-Inv-loop : lower-definings-lts.InvT-loop
+lower-definings-Inv-loop arena node tops₀ at out₀ used inner₀ tops out inner =
+    (inner ≤ node) × (tops ≡ tops₀) × (out ≡ out₀) × NodeIn arena inner × (definingsAt arena inner ≡ definingsAt arena node)
+
+abbrev lower-definings-μ-loop : lower-definings-lts.MeasureT-loop
+lower-definings-μ-loop arena node tops₀ at out₀ used inner₀ tops out inner = inner
+
 module _ (t : ℕ) where
   abbrev both-definings-at : In 3 both-definings-kinds.ps
   both-definings-at = and 3 both-definings-kinds.ps (is 3 both-definings-kinds.ps μ-both-definings t) both-definings.Pre
@@ -47,7 +55,7 @@ module _ (t : ℕ) where
   both-definings-calls = (lower-definings-below, lower-definings.Post)
 
   abbrev lower-definings-calls : lower-definings-lts.Claims
-  lower-definings-calls = (node-at-reads.Asked, node-at-reads.Learnt, lower-definings-below, lower-definings.Post, both-definings-below, both-definings.Post, lower-rule-reads.Asked, lower-rule-reads.Learnt)
+  lower-definings-calls = (node-at-reads.Asked, node-at-reads.Learnt, both-definings-below, both-definings.Post, lower-rule-reads.Asked, lower-rule-reads.Learnt)
 
   both-definings-lower-definings-requires : both-definings-lts.Need-lower-definings-requires both-definings-calls both-definings-at both-definings.Post
   both-definings-lower-definings-requires c κs =
@@ -104,186 +112,164 @@ module _ (t : ℕ) where
       let rights = at-lower-definings2 .lower-definings2 .ensures in
       rules-then (definingsAt (s .arena .now) (s .left)) (definingsAt (s .arena .now) (s .right)) _ _ _ _ _ lefts _ _ free-is _ _ rights
 
-  lower-definings-node-at-requires : lower-definings-lts.Need-node-at-requires lower-definings-calls lower-definings-at lower-definings.Post
+  lower-definings-loop-holds : lower-definings-lts.Need-loop-holds lower-definings-calls lower-definings-at lower-definings.Post lower-definings-Inv-loop lower-definings-μ-loop
+  lower-definings-loop-holds c = (omega arith, refl, refl, c .before .before .before .pre .1 .0, refl)
+
+  lower-definings-node-at-requires : lower-definings-lts.Need-node-at-requires lower-definings-calls lower-definings-at lower-definings.Post lower-definings-Inv-loop lower-definings-μ-loop
   lower-definings-node-at-requires c κs = search needs
 
-  lower-definings-enum-told : lower-definings-lts.Need-enum-told lower-definings-calls lower-definings-at lower-definings.Post
+  lower-definings-enum-told : lower-definings-lts.Need-enum-told lower-definings-calls lower-definings-at lower-definings.Post lower-definings-Inv-loop lower-definings-μ-loop
   lower-definings-enum-told c = search needs
 
-  lower-definings-enum-known-x : lower-definings-lts.Need-enum-known-x lower-definings-calls lower-definings-at lower-definings.Post
+  lower-definings-same-length : lower-definings-lts.Need-same-length lower-definings-calls lower-definings-at lower-definings.Post lower-definings-Inv-loop lower-definings-μ-loop
+  lower-definings-same-length c = omega (arith, ap length (c .before .before .before .loop .inv .1))
+
+  lower-definings-same-length-2 : lower-definings-lts.Need-same-length-2 lower-definings-calls lower-definings-at lower-definings.Post lower-definings-Inv-loop lower-definings-μ-loop
+  lower-definings-same-length-2 c = omega (arith, ap length (c .before .before .before .loop .inv .2))
+
+  lower-definings-returns : lower-definings-lts.Need-returns lower-definings-calls lower-definings-at lower-definings.Post lower-definings-Inv-loop lower-definings-μ-loop
+  lower-definings-returns c =
+      let l = c .before .before .before .loop in
+      let e = sym (c .before .before .node-at .ensures) ∙ c .enum-told .given .1 in
+      let d = sym (l .inv .4) ∙ definings-step _ _ (l .inv .3) (omega arith) e in
+      rw (d, l .inv .1, l .inv .2) (all-none _ _ _ (c .before .before .before .before .before .before .before .pre .1 .1 .1 .used-in))
+
+  lower-definings-enum-known-x : lower-definings-lts.Need-enum-known-x lower-definings-calls lower-definings-at lower-definings.Post lower-definings-Inv-loop lower-definings-μ-loop
   lower-definings-enum-known-x c = search needs
 
-  lower-definings-lower-definings-requires : lower-definings-lts.Need-lower-definings-requires lower-definings-calls lower-definings-at lower-definings.Post
-  lower-definings-lower-definings-requires c κs =
-      let at-node-at = c .before .before .before .before .before in
-      let start = at-node-at .before .before .before .before in
-      let given = start .pre .1 in
-      let A = given .0 in
-      let e = sym (at-node-at .node-at .ensures) ∙ c .before .before .before .x .given .1 in
-      let R = right-step _ _ A (omega arith) e in
-      let z = ap length (definings-step _ _ A (omega arith) e) in
-      (omega arith, (arena-fewer _ (omega arith) A, (omega arith, given .1 .1)))
-
-  lower-definings-enum-known-x-2 : lower-definings-lts.Need-enum-known-x-2 lower-definings-calls lower-definings-at lower-definings.Post
-  lower-definings-enum-known-x-2 c = search needs
-
-  lower-definings-both-definings-requires : lower-definings-lts.Need-both-definings-requires lower-definings-calls lower-definings-at lower-definings.Post
-  lower-definings-both-definings-requires c κs =
-      let at-node-at = c .before .before .before .before .before in
-      let start = at-node-at .before .before .before .before in
-      let given = start .pre .1 in
-      let A = given .0 in
-      let e = sym (at-node-at .node-at .ensures) ∙ c .before .before .before .x2 .given .1 in
-      let R = right-step _ _ A (omega arith) e in
-      let z = ap length (definings-step _ _ A (omega arith) e) in
-      (omega arith, (record { left = arena-fewer _ (omega arith) A; right = arena-fewer _ (omega arith) A }, (omega arith, given .1 .1)))
-
-  lower-definings-enum-known-x-3 : lower-definings-lts.Need-enum-known-x-3 lower-definings-calls lower-definings-at lower-definings.Post
-  lower-definings-enum-known-x-3 c = search needs
-
-  lower-definings-lower-definings-requires-2 : lower-definings-lts.Need-lower-definings-requires-2 lower-definings-calls lower-definings-at lower-definings.Post
-  lower-definings-lower-definings-requires-2 c κs =
-      let at-node-at = c .before .before .before .before .before in
-      let start = at-node-at .before .before .before .before in
-      let given = start .pre .1 in
-      let A = given .0 in
-      let e = sym (at-node-at .node-at .ensures) ∙ c .before .before .before .x3 .given .1 in
-      let R = right-step _ _ A (omega arith) e in
-      let z = ap length (definings-step _ _ A (omega arith) e) in
-      (omega arith, (arena-fewer _ (omega arith) A, (omega arith, given .1 .1)))
-
-  lower-definings-enum-known-x-4 : lower-definings-lts.Need-enum-known-x-4 lower-definings-calls lower-definings-at lower-definings.Post
-  lower-definings-enum-known-x-4 c = search needs
-
-  lower-definings-sub-own : lower-definings-lts.Need-sub-own lower-definings-calls lower-definings-at lower-definings.Post
-  lower-definings-sub-own c =
-      let start = c .before .before .before .before .before .before .before in
-      let A = start .pre .1 .0 in
-      let e = sym (c .before .before .before .node-at .ensures) ∙ c .before .x4 .given .1 in
-      let R = right-step _ _ A (omega arith) e in
-      let z = ap length (definings-step _ _ A (omega arith) e) in
+  lower-definings-loop-less : lower-definings-lts.Need-loop-less lower-definings-calls lower-definings-at lower-definings.Post lower-definings-Inv-loop lower-definings-μ-loop
+  lower-definings-loop-less c =
+      let l = c .before .before .before .before .loop in
+      let e = sym (c .before .before .before .node-at .ensures) ∙ c .before .x .given .1 in
+      let R = right-step _ _ (l .inv .3) (omega arith) e in
+      let d = definings-step _ _ (l .inv .3) (omega arith) e in
       omega arith
 
-  lower-definings-lower-rule-requires : lower-definings-lts.Need-lower-rule-requires lower-definings-calls lower-definings-at lower-definings.Post
-  lower-definings-lower-rule-requires c κs =
-      let at-node-at = c .before .before .before .before .before in
-      let start = at-node-at .before .before .before .before in
-      let given = start .pre .1 in
-      let A = given .0 in
-      let e = sym (at-node-at .node-at .ensures) ∙ c .before .before .before .x4 .given .1 in
-      let R = right-step _ _ A (omega arith) e in
-      let z = ap length (definings-step _ _ A (omega arith) e) in
-      (arena-fewer _ (omega arith) A, (omega arith, given .1 .1))
+  lower-definings-loop-again : lower-definings-lts.Need-loop-again lower-definings-calls lower-definings-at lower-definings.Post lower-definings-Inv-loop lower-definings-μ-loop
+  lower-definings-loop-again c =
+      let l = c .before .before .before .before .loop in
+      let e = sym (c .before .before .before .node-at .ensures) ∙ c .before .x .given .1 in
+      let R = right-step _ _ (l .inv .3) (omega arith) e in
+      let d = definings-step _ _ (l .inv .3) (omega arith) e in
+      (omega arith, l .inv .1, l .inv .2, arena-fewer _ (omega arith) (l .inv .3), sym d ∙ l .inv .4)
 
-  lower-definings-enum-known-free : lower-definings-lts.Need-enum-known-free lower-definings-calls lower-definings-at lower-definings.Post
+  lower-definings-enum-known-x-2 : lower-definings-lts.Need-enum-known-x-2 lower-definings-calls lower-definings-at lower-definings.Post lower-definings-Inv-loop lower-definings-μ-loop
+  lower-definings-enum-known-x-2 c = search needs
+
+  lower-definings-both-definings-requires : lower-definings-lts.Need-both-definings-requires lower-definings-calls lower-definings-at lower-definings.Post lower-definings-Inv-loop lower-definings-μ-loop
+  lower-definings-both-definings-requires c κs =
+      let l = c .before .before .before .before .before .before .loop in
+      let e = sym (c .before .before .before .before .before .node-at .ensures) ∙ c .before .before .before .x2 .given .1 in
+      let R = right-step _ _ (l .inv .3) (omega arith) e in
+      let d = definings-step _ _ (l .inv .3) (omega arith) e in
+      let given = c .before .before .before .before .before .before .before .before .before .before .pre .1 in
+      (omega arith, (record { left = arena-fewer _ (omega arith) (l .inv .3); right = arena-fewer _ (omega arith) (l .inv .3) }, (omega (arith, ap length (sym (l .inv .4) ∙ d), ap length (l .inv .1)), rw (l .inv .2) (given .1 .1))))
+
+  lower-definings-same-length-3 : lower-definings-lts.Need-same-length-3 lower-definings-calls lower-definings-at lower-definings.Post lower-definings-Inv-loop lower-definings-μ-loop
+  lower-definings-same-length-3 c = omega (arith, ap length (c .before .before .before .before .before .before .before .before .before .before .before .loop .inv .1))
+
+  lower-definings-same-length-4 : lower-definings-lts.Need-same-length-4 lower-definings-calls lower-definings-at lower-definings.Post lower-definings-Inv-loop lower-definings-μ-loop
+  lower-definings-same-length-4 c = omega (arith, ap length (c .before .before .before .before .before .before .before .before .before .before .before .loop .inv .2))
+
+  lower-definings-returns-2 : lower-definings-lts.Need-returns-2 lower-definings-calls lower-definings-at lower-definings.Post lower-definings-Inv-loop lower-definings-μ-loop
+  lower-definings-returns-2 c =
+      let l = c .before .before .before .before .before .before .before .before .before .before .before .loop in
+      let e = sym (c .before .before .before .before .before .before .before .before .before .before .node-at .ensures) ∙ c .before .before .before .before .before .before .before .before .x2 .given .1 in
+      let d = sym (l .inv .4) ∙ definings-step _ _ (l .inv .3) (omega arith) e in
+      rw d (rw (l .inv .1, l .inv .2) at (c .before .before .before .before .both-definings .ensures))
+
+  lower-definings-enum-known-x-3 : lower-definings-lts.Need-enum-known-x-3 lower-definings-calls lower-definings-at lower-definings.Post lower-definings-Inv-loop lower-definings-μ-loop
+  lower-definings-enum-known-x-3 c = search needs
+
+  lower-definings-loop-less-2 : lower-definings-lts.Need-loop-less-2 lower-definings-calls lower-definings-at lower-definings.Post lower-definings-Inv-loop lower-definings-μ-loop
+  lower-definings-loop-less-2 c =
+      let l = c .before .before .before .before .loop in
+      let e = sym (c .before .before .before .node-at .ensures) ∙ c .before .x3 .given .1 in
+      let R = right-step _ _ (l .inv .3) (omega arith) e in
+      let d = definings-step _ _ (l .inv .3) (omega arith) e in
+      omega arith
+
+  lower-definings-loop-again-2 : lower-definings-lts.Need-loop-again-2 lower-definings-calls lower-definings-at lower-definings.Post lower-definings-Inv-loop lower-definings-μ-loop
+  lower-definings-loop-again-2 c =
+      let l = c .before .before .before .before .loop in
+      let e = sym (c .before .before .before .node-at .ensures) ∙ c .before .x3 .given .1 in
+      let R = right-step _ _ (l .inv .3) (omega arith) e in
+      let d = definings-step _ _ (l .inv .3) (omega arith) e in
+      (omega arith, l .inv .1, l .inv .2, arena-fewer _ (omega arith) (l .inv .3), sym d ∙ l .inv .4)
+
+  lower-definings-enum-known-x-4 : lower-definings-lts.Need-enum-known-x-4 lower-definings-calls lower-definings-at lower-definings.Post lower-definings-Inv-loop lower-definings-μ-loop
+  lower-definings-enum-known-x-4 c = search needs
+
+  lower-definings-sub-own : lower-definings-lts.Need-sub-own lower-definings-calls lower-definings-at lower-definings.Post lower-definings-Inv-loop lower-definings-μ-loop
+  lower-definings-sub-own c =
+      let l = c .before .before .before .before .loop in
+      let e = sym (c .before .before .before .node-at .ensures) ∙ c .before .x4 .given .1 in
+      let R = right-step _ _ (l .inv .3) (omega arith) e in
+      let d = sym (l .inv .4) ∙ definings-step _ _ (l .inv .3) (omega arith) e in
+      let z = ap length d in
+      omega arith
+
+  lower-definings-lower-rule-requires : lower-definings-lts.Need-lower-rule-requires lower-definings-calls lower-definings-at lower-definings.Post lower-definings-Inv-loop lower-definings-μ-loop
+  lower-definings-lower-rule-requires c κs =
+      let l = c .before .before .before .before .before .before .loop in
+      let e = sym (c .before .before .before .before .before .node-at .ensures) ∙ c .before .before .before .x4 .given .1 in
+      let R = right-step _ _ (l .inv .3) (omega arith) e in
+      let d = sym (l .inv .4) ∙ definings-step _ _ (l .inv .3) (omega arith) e in
+      let z = ap length d in
+      let given = c .before .before .before .before .before .before .before .before .before .before .pre .1 in
+      (arena-fewer _ (omega arith) (l .inv .3), (omega (arith, ap length (l .inv .1)), rw (l .inv .2) (given .1 .1)))
+
+  lower-definings-enum-known-free : lower-definings-lts.Need-enum-known-free lower-definings-calls lower-definings-at lower-definings.Post lower-definings-Inv-loop lower-definings-μ-loop
   lower-definings-enum-known-free c = search needs
 
-  lower-definings-enum-told-2 : lower-definings-lts.Need-enum-told-2 lower-definings-calls lower-definings-at lower-definings.Post
+  lower-definings-enum-told-2 : lower-definings-lts.Need-enum-told-2 lower-definings-calls lower-definings-at lower-definings.Post lower-definings-Inv-loop lower-definings-μ-loop
   lower-definings-enum-told-2 c = search needs
 
-  lower-definings-same-length : lower-definings-lts.Need-same-length lower-definings-calls lower-definings-at lower-definings.Post
-  lower-definings-same-length c = search needs
+  lower-definings-same-length-5 : lower-definings-lts.Need-same-length-5 lower-definings-calls lower-definings-at lower-definings.Post lower-definings-Inv-loop lower-definings-μ-loop
+  lower-definings-same-length-5 c = omega (arith, ap length (c .before .before .before .before .before .before .before .before .before .before .before .before .before .loop .inv .1))
 
-  lower-definings-same-length-2 : lower-definings-lts.Need-same-length-2 lower-definings-calls lower-definings-at lower-definings.Post
-  lower-definings-same-length-2 c = search needs
+  lower-definings-same-length-6 : lower-definings-lts.Need-same-length-6 lower-definings-calls lower-definings-at lower-definings.Post lower-definings-Inv-loop lower-definings-μ-loop
+  lower-definings-same-length-6 c = omega (arith, ap length (c .before .before .before .before .before .before .before .before .before .before .before .before .before .loop .inv .2))
 
-  lower-definings-returns : lower-definings-lts.Need-returns lower-definings-calls lower-definings-at lower-definings.Post
-  lower-definings-returns c =
-      let at-lower-rule = c .before .before .before .before .before .before in
-      let at-x4 = at-lower-rule .before .before .before .before in
-      let at-node-at = at-x4 .before .before in
-      let start = at-node-at .before .before .before .before in
-      let e = sym (at-node-at .node-at .ensures) ∙ at-x4 .x4 .given .1 in
-      let own = at-lower-rule .lower-rule .ensures in
-      rw (definings-step _ _ (start .pre .1 .0) (omega arith) e) (all-full (_ ∷ []) _ _ _ _ _ _ own _ (c .enum-told2 .given .1))
-
-  lower-definings-both-definings-requires-2 : lower-definings-lts.Need-both-definings-requires-2 lower-definings-calls lower-definings-at lower-definings.Post
-  lower-definings-both-definings-requires-2 c κs =
-      let at-lower-rule = c .before .before .before .before .before .before .before .before .before in
-      let at-x4 = at-lower-rule .before .before .before .before in
-      let at-node-at = at-x4 .before .before in
-      let start = at-node-at .before .before .before .before in
-      let given = start .pre .1 in
-      let A = given .0 in
-      let e = sym (at-node-at .node-at .ensures) ∙ at-x4 .x4 .given .1 in
-      let R = right-step _ _ A (omega arith) e in
-      let z = ap length (definings-step _ _ A (omega arith) e) in
-      let W = went-all _ _ _ _ _ _ (at-lower-rule .lower-rule .ensures) _ _ (c .before .before .before .free .given .1) in
-      (omega arith, (record { left = arena-fewer _ (omega arith) A; right = arena-fewer _ (omega arith) A }, (omega arith, buffer-on (given .1 .1) (W .room) (W .long))))
-
-  lower-definings-returns-2 : lower-definings-lts.Need-returns-2 lower-definings-calls lower-definings-at lower-definings.Post
-  lower-definings-returns-2 c =
-      let start = c .before .before .before .before .before .before in
-      let e = sym (c .before .before .node-at .ensures) ∙ c .enum-told .given .1 in
-      rw (definings-step _ _ (start .pre .1 .0) (omega arith) e) (all-none _ _ _ (start .pre .1 .1 .1 .used-in))
-
-  lower-definings-same-length-3 : lower-definings-lts.Need-same-length-3 lower-definings-calls lower-definings-at lower-definings.Post
-  lower-definings-same-length-3 c = search needs
-
-  lower-definings-same-length-4 : lower-definings-lts.Need-same-length-4 lower-definings-calls lower-definings-at lower-definings.Post
-  lower-definings-same-length-4 c = search needs
-
-  lower-definings-returns-3 : lower-definings-lts.Need-returns-3 lower-definings-calls lower-definings-at lower-definings.Post
+  lower-definings-returns-3 : lower-definings-lts.Need-returns-3 lower-definings-calls lower-definings-at lower-definings.Post lower-definings-Inv-loop lower-definings-μ-loop
   lower-definings-returns-3 c =
-      let at-lower-definings = c .before .before .before .before in
-      let at-x = at-lower-definings .before .before .before .before in
-      let at-node-at = at-x .before .before in
-      let start = at-node-at .before .before .before .before in
-      let e = sym (at-node-at .node-at .ensures) ∙ at-x .x .given .1 in
-      rw (definings-step _ _ (start .pre .1 .0) (omega arith) e) (at-lower-definings .lower-definings .ensures)
+      let l = c .before .before .before .before .before .before .before .before .before .before .before .before .before .loop in
+      let e = sym (c .before .before .before .before .before .before .before .before .before .before .before .before .node-at .ensures) ∙ c .before .before .before .before .before .before .before .before .before .before .x4 .given .1 in
+      let R = right-step _ _ (l .inv .3) (omega arith) e in
+      let d = sym (l .inv .4) ∙ definings-step _ _ (l .inv .3) (omega arith) e in
+      let z = ap length d in
+      let own = rw (l .inv .1, l .inv .2) at (c .before .before .before .before .before .before .lower-rule .ensures) in
+      rw d (all-full (_ ∷ []) _ _ _ _ _ _ own _ (c .enum-told2 .given .1))
 
-  lower-definings-same-length-5 : lower-definings-lts.Need-same-length-5 lower-definings-calls lower-definings-at lower-definings.Post
-  lower-definings-same-length-5 c = search needs
+  lower-definings-both-definings-requires-2 : lower-definings-lts.Need-both-definings-requires-2 lower-definings-calls lower-definings-at lower-definings.Post lower-definings-Inv-loop lower-definings-μ-loop
+  lower-definings-both-definings-requires-2 c κs =
+      let l = c .before .before .before .before .before .before .before .before .before .before .before .before .before .before .before .before .loop in
+      let e = sym (c .before .before .before .before .before .before .before .before .before .before .before .before .before .before .before .node-at .ensures) ∙ c .before .before .before .before .before .before .before .before .before .before .before .before .before .x4 .given .1 in
+      let R = right-step _ _ (l .inv .3) (omega arith) e in
+      let d = sym (l .inv .4) ∙ definings-step _ _ (l .inv .3) (omega arith) e in
+      let z = ap length d in
+      let given = c .before .before .before .before .before .before .before .before .before .before .before .before .before .before .before .before .before .before .before .before .pre .1 in
+      let W = went-all _ _ _ _ _ _ (rw (l .inv .1, l .inv .2) at (c .before .before .before .before .before .before .before .before .before .lower-rule .ensures)) _ _ (c .before .before .before .free .given .1) in
+      (omega arith, (record { left = arena-fewer _ (omega arith) (l .inv .3); right = arena-fewer _ (omega arith) (l .inv .3) }, (omega (arith, ap length (l .inv .1)), buffer-on (given .1 .1) (W .room) (W .long))))
 
-  lower-definings-same-length-6 : lower-definings-lts.Need-same-length-6 lower-definings-calls lower-definings-at lower-definings.Post
-  lower-definings-same-length-6 c = search needs
+  lower-definings-same-length-7 : lower-definings-lts.Need-same-length-7 lower-definings-calls lower-definings-at lower-definings.Post lower-definings-Inv-loop lower-definings-μ-loop
+  lower-definings-same-length-7 c = omega (arith, ap length (c .before .before .before .before .before .before .before .before .before .before .before .before .before .before .before .before .before .before .before .before .before .loop .inv .1))
 
-  lower-definings-returns-4 : lower-definings-lts.Need-returns-4 lower-definings-calls lower-definings-at lower-definings.Post
+  lower-definings-same-length-8 : lower-definings-lts.Need-same-length-8 lower-definings-calls lower-definings-at lower-definings.Post lower-definings-Inv-loop lower-definings-μ-loop
+  lower-definings-same-length-8 c = omega (arith, ap length (c .before .before .before .before .before .before .before .before .before .before .before .before .before .before .before .before .before .before .before .before .before .loop .inv .2))
+
+  lower-definings-returns-4 : lower-definings-lts.Need-returns-4 lower-definings-calls lower-definings-at lower-definings.Post lower-definings-Inv-loop lower-definings-μ-loop
   lower-definings-returns-4 c =
-      let at-both-definings = c .before .before .before .before in
-      let at-x2 = at-both-definings .before .before .before .before in
-      let at-node-at = at-x2 .before .before in
-      let start = at-node-at .before .before .before .before in
-      let e = sym (at-node-at .node-at .ensures) ∙ at-x2 .x2 .given .1 in
-      rw (definings-step _ _ (start .pre .1 .0) (omega arith) e) (at-both-definings .both-definings .ensures)
-
-  lower-definings-same-length-7 : lower-definings-lts.Need-same-length-7 lower-definings-calls lower-definings-at lower-definings.Post
-  lower-definings-same-length-7 c = search needs
-
-  lower-definings-same-length-8 : lower-definings-lts.Need-same-length-8 lower-definings-calls lower-definings-at lower-definings.Post
-  lower-definings-same-length-8 c = search needs
-
-  lower-definings-returns-5 : lower-definings-lts.Need-returns-5 lower-definings-calls lower-definings-at lower-definings.Post
-  lower-definings-returns-5 c =
-      let at-lower-definings2 = c .before .before .before .before in
-      let at-x3 = at-lower-definings2 .before .before .before .before in
-      let at-node-at = at-x3 .before .before in
-      let start = at-node-at .before .before .before .before in
-      let e = sym (at-node-at .node-at .ensures) ∙ at-x3 .x3 .given .1 in
-      rw (definings-step _ _ (start .pre .1 .0) (omega arith) e) (at-lower-definings2 .lower-definings2 .ensures)
-
-  lower-definings-same-length-9 : lower-definings-lts.Need-same-length-9 lower-definings-calls lower-definings-at lower-definings.Post
-  lower-definings-same-length-9 c = search needs
-
-  lower-definings-same-length-10 : lower-definings-lts.Need-same-length-10 lower-definings-calls lower-definings-at lower-definings.Post
-  lower-definings-same-length-10 c = search needs
-
-  lower-definings-returns-6 : lower-definings-lts.Need-returns-6 lower-definings-calls lower-definings-at lower-definings.Post
-  lower-definings-returns-6 c =
-      let at-both-definings2 = c .before .before .before .before in
-      let at-free = at-both-definings2 .before .before .before .before in
-      let at-lower-rule = at-free .before .before .before .before .before .before in
-      let at-x4 = at-lower-rule .before .before .before .before in
-      let at-node-at = at-x4 .before .before in
-      let start = at-node-at .before .before .before .before in
-      let e = sym (at-node-at .node-at .ensures) ∙ at-x4 .x4 .given .1 in
-      let own = at-lower-rule .lower-rule .ensures in
-      let free-is = at-free .free .given .1 in
-      let rest = at-both-definings2 .both-definings2 .ensures in
-      rw (definings-step _ _ (start .pre .1 .0) (omega arith) e) (all-then (_ ∷ []) _ _ _ _ _ _ own _ _ free-is _ _ rest)
+      let l = c .before .before .before .before .before .before .before .before .before .before .before .before .before .before .before .before .before .before .before .before .before .loop in
+      let e = sym (c .before .before .before .before .before .before .before .before .before .before .before .before .before .before .before .before .before .before .before .before .node-at .ensures) ∙ c .before .before .before .before .before .before .before .before .before .before .before .before .before .before .before .before .before .before .x4 .given .1 in
+      let R = right-step _ _ (l .inv .3) (omega arith) e in
+      let d = sym (l .inv .4) ∙ definings-step _ _ (l .inv .3) (omega arith) e in
+      let z = ap length d in
+      let own = rw (l .inv .1, l .inv .2) at (c .before .before .before .before .before .before .before .before .before .before .before .before .before .before .lower-rule .ensures) in
+      rw d (all-then (_ ∷ []) _ _ _ _ _ _ own _ _ (c .before .before .before .before .before .before .before .before .free .given .1) _ _ (c .before .before .before .before .both-definings2 .ensures))
 
 pub +both-definings+lower-definings-spec : {M : Type 1} → statement M
 +both-definings+lower-definings-spec =
     close μ-both-definings μ-lower-definings
     (λ t. both-definings-lts.spec (both-definings-calls t) (both-definings-at t) both-definings.Post (both-definings-lower-definings-requires t) (both-definings-enum-known-free t) (both-definings-enum-told t) (both-definings-same-length t) (both-definings-same-length-2 t) (both-definings-returns t) (both-definings-lower-definings-requires-2 t) (both-definings-same-length-3 t) (both-definings-same-length-4 t) (both-definings-returns-2 t))
-    (λ t. lower-definings-lts.spec (lower-definings-calls t) (lower-definings-at t) lower-definings.Post (lower-definings-node-at-requires t) (lower-definings-enum-told t) (lower-definings-enum-known-x t) (lower-definings-lower-definings-requires t) (lower-definings-enum-known-x-2 t) (lower-definings-both-definings-requires t) (lower-definings-enum-known-x-3 t) (lower-definings-lower-definings-requires-2 t) (lower-definings-enum-known-x-4 t) (lower-definings-sub-own t) (lower-definings-lower-rule-requires t) (lower-definings-enum-known-free t) (lower-definings-enum-told-2 t) (lower-definings-same-length t) (lower-definings-same-length-2 t) (lower-definings-returns t) (lower-definings-both-definings-requires-2 t) (lower-definings-returns-2 t) (lower-definings-same-length-3 t) (lower-definings-same-length-4 t) (lower-definings-returns-3 t) (lower-definings-same-length-5 t) (lower-definings-same-length-6 t) (lower-definings-returns-4 t) (lower-definings-same-length-7 t) (lower-definings-same-length-8 t) (lower-definings-returns-5 t) (lower-definings-same-length-9 t) (lower-definings-same-length-10 t) (lower-definings-returns-6 t))
+    (λ t. lower-definings-lts.spec (lower-definings-calls t) (lower-definings-at t) lower-definings.Post lower-definings-Inv-loop lower-definings-μ-loop (lower-definings-loop-holds t) (lower-definings-node-at-requires t) (lower-definings-enum-told t) (lower-definings-same-length t) (lower-definings-same-length-2 t) (lower-definings-returns t) (lower-definings-enum-known-x t) (lower-definings-loop-less t) (lower-definings-loop-again t) (lower-definings-enum-known-x-2 t) (lower-definings-both-definings-requires t) (lower-definings-same-length-3 t) (lower-definings-same-length-4 t) (lower-definings-returns-2 t) (lower-definings-enum-known-x-3 t) (lower-definings-loop-less-2 t) (lower-definings-loop-again-2 t) (lower-definings-enum-known-x-4 t) (lower-definings-sub-own t) (lower-definings-lower-rule-requires t) (lower-definings-enum-known-free t) (lower-definings-enum-told-2 t) (lower-definings-same-length-5 t) (lower-definings-same-length-6 t) (lower-definings-returns-3 t) (lower-definings-both-definings-requires-2 t) (lower-definings-same-length-7 t) (lower-definings-same-length-8 t) (lower-definings-returns-4 t))
