@@ -5,7 +5,7 @@
  * words the table is too long, and three for each mark of the table that is lent: where (two bytes) and its tick. What is missing counts as 0.
  *
  * The library is machine code that no sanitizer has prepared. So each text and table ends or begins where memory that nobody may touch begins
- * or ends, and the calls run on a stack of 100 KB above such memory: a step too far in any of them is a crash. */
+ * or ends, and the calls run above such memory too, on a stack of the 64 KB that a call may take and 2 for what makes it: a step too far in any of them is a crash. */
 #define _GNU_SOURCE
 #include <stdio.h>
 #include <stdlib.h>
@@ -15,7 +15,7 @@
 
 #include "../../include/mikhakun.h"
 
-enum { PAGE = 4096, LONGEST_INPUT = 1 << 17, MOST_WORDS = 2 * 1024 + 255, STACK = 100 * 1024 };
+enum { PAGE = 4096, LONGEST_INPUT = 1 << 17, MOST_WORDS = 2 * 1024 + 255, STACK = (64 + 2) * 1024 };
 static const uint64_t UNWRITTEN = 0x5EC02D5EC02D5EC0;
 
 /* What the fuzzer is told beside the blocks of code that were reached: which answers were given, and how large the results were. */

@@ -54,14 +54,6 @@ module _ {a a′ : List ℕ} {L e p m h x : ℕ} {R : Read Written} where
       go : Parses a a′ L e p m h x R (Got q u h′) → Arena u a′
       go (parsed w eq f ar sm he hh) = ar
 
-  -- A refusal is handed on, whatever stands in the arena.
-  pub hand-on : {b b′ : List ℕ} {L′ e′ p′ m′ k′ x′ : ℕ} {r : Parsed} {n k : ℕ} (K : Written → ℕ → Read Written)
-      → Parses a a′ L e p m h x R r → r ≡ Refused n k → Parses b b′ L′ e′ p′ m′ k′ x′ (andThen R K) r
-  hand-on {b} {b′} {L′} {e′} {p′} {m′} {k′} {x′} {r} {n} {k} K A z = subst (Parses b b′ L′ e′ p′ m′ k′ x′ (andThen R K)) (sym z) (go (was A z))
-    where
-      go : Parses a a′ L e p m h x R (Refused n k) → Parses b b′ L′ e′ p′ m′ k′ x′ (andThen R K) (Refused n k)
-      go (refuses eq) = refuses {n = n} {k = k} (rw eq)
-
   -- A refusal by another name, whatever stands in the arena.
   pub refused-as : {R′ : Read Written} {b b′ : List ℕ} {L′ e′ p′ m′ k′ x′ : ℕ} {r : Parsed} {n k : ℕ} → (R ≡ refused n k → R′ ≡ refused n k)
       → Parses a a′ L e p m h x R r → r ≡ Refused n k → Parses b b′ L′ e′ p′ m′ k′ x′ R′ r
@@ -69,6 +61,11 @@ module _ {a a′ : List ℕ} {L e p m h x : ℕ} {R : Read Written} where
     where
       go : Parses a a′ L e p m h x R (Refused n k) → Parses b b′ L′ e′ p′ m′ k′ x′ R′ (Refused n k)
       go (refuses eq) = refuses {n = n} {k = k} (same eq)
+
+  -- A refusal is handed on.
+  pub hand-on : {b b′ : List ℕ} {L′ e′ p′ m′ k′ x′ : ℕ} {r : Parsed} {n k : ℕ} (K : Written → ℕ → Read Written)
+      → Parses a a′ L e p m h x R r → r ≡ Refused n k → Parses b b′ L′ e′ p′ m′ k′ x′ (andThen R K) r
+  hand-on K A z = refused-as (λ e. rw e) A z
 
 -- ---- answers put together
 
@@ -198,11 +195,7 @@ module _ {a a₁ : List ℕ} {L k m h q u h₂ : ℕ} {R : Read Written} (s : Li
 
 pub hand-on-keep : {a a′ b₁ b′ : List ℕ} {L e p m h x L′ e′ p′ m′ k′ x′ n k : ℕ} {R : Read Written} {r : Parsed} (s : List ℕ) (b : Bool) (f : Written)
     → Parses a a′ L e p m h x R r → r ≡ Refused n k → Parses b₁ b′ L′ e′ p′ m′ k′ x′ (thenParen s (andThen R (λ g y. got (Written.keep b f g) y))) r
-hand-on-keep {a} {a′} {b₁} {b′} {L} {e} {p} {m} {h} {x} {L′} {e′} {p′} {m′} {k′} {x′} {n} {k} {R} {r} s b f A z =
-    subst (Parses b₁ b′ L′ e′ p′ m′ k′ x′ (thenParen s (andThen R (λ g y. got (Written.keep b f g) y)))) (sym z) (go (was A z))
-  where
-    go : Parses a a′ L e p m h x R (Refused n k) → Parses b₁ b′ L′ e′ p′ m′ k′ x′ (thenParen s (andThen R (λ g y. got (Written.keep b f g) y))) (Refused n k)
-    go (refuses eq) = refuses {n = n} {k = k} (rw eq)
+hand-on-keep s b f A z = refused-as (λ e. rw e) A z
 
 -- The first hidden signal after h.
 pub held-next : {a : List ℕ} {n : ℕ} {f : Written} (h : ℕ) → Held a (h + 1) n f → Held a (suc h) n f

@@ -1,7 +1,7 @@
 -- What the grammar's definitions say, case by case.
 -- Assumes nothing.
 use mathlib.Core.Path.{_≡_, refl, sym, ap, _∙_}
-use mathlib.Core.Bool.{Bool, true, false, not, and-eq-true-iff}
+use mathlib.Core.Bool.{Bool, true, false, and-eq-true-iff}
 use mathlib.Core.List.{List, [], _∷_}
 use mathlib.Core.Logic.{_⊎_, inl, inr, ⊎-elim}
 use mathlib.Core.Option.{Option, some}
@@ -9,7 +9,7 @@ use Prim.Native.Nat.{ℕ, zero, suc, _+_, _-_, _*_, _<_, _≤_}
 use native.Mathlib.Nat.{zero-add, suc-add}
 use native.Mathlib.Numerals.{add-one}
 use native.Mathlib.Omega.{arith}
-use borrow.Author.Tests.{not-false, eq-eqb, ne-eqb, eqb-true, lt-ltb, le-ltb}
+use borrow.Author.Tests.{eq-eqb, ne-eqb, eqb-true, lt-ltb, le-ltb}
 use lib.Dec.{eqb, ltb}
 use lib.ListN.{length}
 use Rattle.spec_limits.specs.Limits.{mostOffset}
@@ -101,27 +101,20 @@ more-one o P s (suc n) f p e h l = let back : suc n - 1 ≡ n = omega arith in r
 
 -- ---- levels
 
--- The first level's parts are timed parts, those of any other the level before it.
-pub below-first : (sign : Sign) (P : Reader) (s : List ℕ) (p : ℕ) → signNumber sign ≡ 0 → below (opOf sign) P s p ≡ timedPart P s p
-below-first Sign.And P s p e = refl
-below-first Sign.Or P s p e = absurd (omega arith)
-below-first Sign.Implies P s p e = absurd (omega arith)
-below-first Sign.Iff P s p e = absurd (omega arith)
+pub level-most : (sign : Sign) → signNumber sign ≤ 3
+level-most Sign.And = omega arith
+level-most Sign.Or = omega arith
+level-most Sign.Implies = omega arith
+level-most Sign.Iff = omega arith
 
-module _ {n : ℕ} {k : Sign} where
-  pub below-next : (sign : Sign) (P : Reader) (s : List ℕ) (p : ℕ) → n ≡ signNumber sign → (n ≡ 0 → ⊥) → k ≡ signOf (n - 1) → below (opOf sign) P s p ≡ level (opOf k) (below (opOf k) P s) s p
-  unfolding signOf
-  below-next Sign.And P s p e ne i = absurd (ne e)
-  below-next Sign.Or P s p e ne i = rw (i, e)
-  below-next Sign.Implies P s p e ne i = rw (i, e)
-  below-next Sign.Iff P s p e ne i = rw (i, e)
-
-  pub number-before : (sign : Sign) → n ≡ signNumber sign → (n ≡ 0 → ⊥) → k ≡ signOf (n - 1) → signNumber k + 1 ≡ n
-  unfolding signOf
-  number-before Sign.And e ne i = absurd (ne e)
-  number-before Sign.Or e ne i = rw (i, e)
-  number-before Sign.Implies e ne i = rw (i, e)
-  number-before Sign.Iff e ne i = rw (i, e)
+-- The sign with a number has it.
+number-of : (i : ℕ) → i ≤ 3 → signNumber (signOf i) ≡ i
+unfolding signOf
+number-of zero h = refl
+number-of (suc zero) h = refl
+number-of (suc (suc zero)) h = refl
+number-of (suc (suc (suc zero))) h = refl
+number-of (suc (suc (suc (suc i)))) h = absurd (omega arith)
 
 -- What is read before the level with the number i: a timed part, and what follows it at each level below.
 abbrev pub upTo : ℕ → Reader → List ℕ → Reader
@@ -129,13 +122,12 @@ upTo zero P s = timedPart P s
 upTo (suc i) P s = level (opOf (signOf i)) (upTo i P s) s
 
 -- These are the parts of that level.
-below-level : (i : ℕ) → i ≤ 3 → (P : Reader) (s : List ℕ) → below (opOf (signOf i)) P s ≡ upTo i P s
+parts-up-to : (sign : Sign) (P : Reader) (s : List ℕ) → below (opOf sign) P s ≡ upTo (signNumber sign) P s
 unfolding signOf
-below-level zero h P s = refl
-below-level (suc zero) h P s = refl
-below-level (suc (suc zero)) h P s = refl
-below-level (suc (suc (suc zero))) h P s = refl
-below-level (suc (suc (suc (suc i)))) h P s = absurd (omega arith)
+parts-up-to Sign.And P s = refl
+parts-up-to Sign.Or P s = refl
+parts-up-to Sign.Implies P s = refl
+parts-up-to Sign.Iff P s = refl
 
 -- A level is what is read before the next.
 pub level-up-to : (sign : Sign) (P : Reader) (s : List ℕ) (p : ℕ) → level (opOf sign) (below (opOf sign) P s) s p ≡ upTo (signNumber sign + 1) P s p
@@ -149,7 +141,18 @@ level-up-to Sign.Iff P s p = refl
 pub one-level : (i : ℕ) → i ≤ 3 → (P : Reader) (s : List ℕ) (p : ℕ)
     → upTo (i + 1) P s p ≡ andThen (upTo i P s p) (λ f q. more (opOf (signOf i)) (below (opOf (signOf i)) P s) s (length s) f q)
 unfolding level
-one-level i h P s p = rw (add-one i, below-level i h P s)
+one-level i h P s p = rw (add-one i, parts-up-to (signOf i) P s, number-of i h)
+
+-- The parts of the first level are timed parts, those of any other the level before it.
+pub below-first : (sign : Sign) (P : Reader) (s : List ℕ) (p : ℕ) → signNumber sign ≡ 0 → below (opOf sign) P s p ≡ timedPart P s p
+below-first sign P s p e = rw (parts-up-to sign P s, e)
+
+module _ {n : ℕ} {k : Sign} (sign : Sign) (e : n ≡ signNumber sign) (some : n ≡ 0 → ⊥) (before : k ≡ signOf (n - 1)) where
+  pub number-before : signNumber k + 1 ≡ n
+  number-before = rw before (omega (arith, some, number-of (n - 1) (omega (arith, level-most sign))))
+
+  pub below-next : (P : Reader) (s : List ℕ) (p : ℕ) → below (opOf sign) P s p ≡ level (opOf k) (below (opOf k) P s) s p
+  below-next P s p = rw (parts-up-to sign P s, ← e, ← number-before) (sym (level-up-to k P s p))
 
 -- A refusal is that of every level above.
 refused-by : (k i : ℕ) (P : Reader) (s : List ℕ) (p : ℕ) {n q : ℕ} → upTo i P s p ≡ refused n q → upTo (k + i) P s p ≡ refused n q
@@ -159,12 +162,6 @@ refused-by (suc k) i P s p e = rw (suc-add, refused-by k i P s p e)
 
 pub refused-above : (i j : ℕ) → i ≤ j → (P : Reader) (s : List ℕ) (p : ℕ) {n q : ℕ} → upTo i P s p ≡ refused n q → upTo j P s p ≡ refused n q
 refused-above i j h P s p e = let sum : j ≡ (j - i) + i = omega arith in rw sum (refused-by (j - i) i P s p e)
-
-pub level-most : (sign : Sign) → signNumber sign ≤ 3
-level-most Sign.And = omega arith
-level-most Sign.Or = omega arith
-level-most Sign.Implies = omega arith
-level-most Sign.Iff = omega arith
 
 -- ---- intervals
 

@@ -2,13 +2,13 @@
 -- In an answer `start` is where the function was called, `asked` what it requires, and `at-x` the place after x; `w` is how far a part came.
 use Prim.Native.Nat.{ℕ, _+_, _-_, _*_, _<_, _≤_}
 use Rattle.read_arena.proofs.Puts.{arena-put}
-use Rattle.read_arena.specs.Nodes.{opOf, signNumber, signOf}
+use Rattle.read_arena.specs.Nodes.{opOf, signNumber}
 use Rattle.read_arena.specs.NodeRules.{Arena}
 use Rattle.read_arena.specs.declared.Node.the-variants.{Pair}
 use Rattle.read_parts.proofs.Follows.{Follows, follows-none, follows-refused, follows-then}
-use Rattle.read_parts.proofs.Levels.{refused-as, was, by, from, far, left, hand-on, then, stop, join, wrap, shut, unshut, shut-keep, unshut-keep, hand-on-keep, held-next}
+use Rattle.read_parts.proofs.Levels.{refused-as, was, by, from, far, left, hand-on, then, stop, wrap, shut, unshut, shut-keep, unshut-keep, hand-on-keep, held-next}
 use Rattle.read_parts.proofs.Rooms.{on, room-for, bare}
-use Rattle.read_parts.proofs.Steps.{Signed, signed, below-first, below-next, number-before, more-none, more-one, onward, onward-more, onward-stop, deny-full, deny-on, paren-full, paren-on, keep-full, keep-on, kept-none, second-none, second-some, class-told, byte-inside, plain-letter, plain-digit, plain-other, plain-deny, plain-sign, plain-paren, plain-bracket, since-inside, until-inside, word-since, word-until, word-name, remaining, upTo, level-most, level-up-to, one-level, refused-above}
+use Rattle.read_parts.proofs.Steps.{Signed, signed, below-first, below-next, number-before, onward-more, onward-stop, deny-full, deny-on, paren-full, paren-on, keep-full, keep-on, kept-none, second-none, second-some, class-told, byte-inside, plain-letter, plain-digit, plain-other, plain-deny, plain-sign, plain-paren, plain-bracket, since-inside, until-inside, word-since, word-until, word-name, remaining, upTo, level-most, level-up-to, one-level, refused-above}
 use Rattle.read_parts.specs.FormulaText.{Reader, timedPart, level, below, plainPart}
 use Rattle.read_parts.specs.Promise.{AfterPart}
 use Rattle.read_parts.specs.Parsed.{Parses}
@@ -21,7 +21,7 @@ use borrow.Author.Tests.{not-true, not-false}
 use denote.Ref.{now}
 use mathlib.Core.List.{List}
 use lib.ListN.{length}
-use mathlib.Core.Path.{_≡_, refl, sym, ap, subst, _∙_}
+use mathlib.Core.Path.{_≡_, refl, sym, subst, _∙_}
 use native.Mathlib.Omega.{arith}
 use borrow.Fn.Kinds.{In}
 use borrow.Fn.PlainCycle.{Measures, is, falls, and}
@@ -250,7 +250,7 @@ module _ (t : ℕ) where
       let at-if1 = at-sign-of .before in
       let at-sign-number = at-if1 .before in
       let start = at-sign-number .before .before .before .before in
-      by (below-next (start .args .sign) _ _ _ (at-sign-number .sign-number .ensures) (at-if1 .if1 .left) (at-sign-of .sign-of .ensures)) (c .before .before .joined .ensures)
+      by (below-next (start .args .sign) (at-sign-number .sign-number .ensures) (at-if1 .if1 .left) (at-sign-of .sign-of .ensures) _ _ _) (c .before .before .joined .ensures)
 
   deny-returns : deny-lts.Need-returns deny-calls deny-at deny.Post
   deny-returns c = refuses (deny-full _ _ _ _ (c .if1 .taken))
@@ -486,9 +486,15 @@ module _ (t : ℕ) where
   more-sign-len-requires : more-lts.Need-sign-len-requires more-calls more-at more.Post more-Inv-loop more-μ-loop
   more-sign-len-requires c κs = search needs
 
-  -- Where `more` has the sign's length: the sign stands at its place.
-  more-sign : (c : more-lts.After-sign-len more-calls more-at more.Post more-Inv-loop more-μ-loop) → Signed (now (c .before .before .before .before .before .before .before .args .s)) (c .before .before .before .loop .place) (opOf (c .before .before .before .before .before .before .before .args .sign)) (c .sign-len .result)
-  more-sign c = signed (now (c .before .before .before .before .before .before .before .args .s)) (c .before .before .before .loop .place) (opOf (c .before .before .before .before .before .before .before .args .sign)) (c .before .before .before .loop .inv .2 .ready .within) (c .before .before .sign-at .ensures) (c .before .if1 .taken) (c .sign-len .ensures)
+  -- Where `more` has the sign's length: what it was called with, and the sign at its place.
+  abbrev more-start : more-lts.After-sign-len more-calls more-at more.Post more-Inv-loop more-μ-loop → more-lts.Start more-calls more-at more.Post more-Inv-loop more-μ-loop
+  more-start c = c .before .before .before .before .before .before .before
+
+  more-sign : (c : more-lts.After-sign-len more-calls more-at more.Post more-Inv-loop more-μ-loop) → Signed (now (more-start c .args .s)) (c .before .before .before .loop .place) (opOf (more-start c .args .sign)) (c .sign-len .result)
+  more-sign c =
+      let at-sign-at = c .before .before in
+      let l = at-sign-at .before .loop in
+      signed (now (more-start c .args .s)) (l .place) (opOf (more-start c .args .sign)) (l .inv .2 .ready .within) (at-sign-at .sign-at .ensures) (c .before .if1 .taken) (c .sign-len .ensures)
 
   more-add-part : more-lts.Need-add-part more-calls more-at more.Post more-Inv-loop more-μ-loop
   more-add-part c =
@@ -514,8 +520,11 @@ module _ (t : ℕ) where
 
   more-returns : more-lts.Need-returns more-calls more-at more.Post more-Inv-loop more-μ-loop
   more-returns c =
-      let at-sign-len = c .before .before .before .before .before .before in
-      c .before .before .before .before .before .before .before .before .before .loop .inv .3 _ _ (follows-refused (c .before .before .before .before .before .before .before .before .before .before .before .before .before .args .sign) _ (more-sign at-sign-len) (c .before .before .before .before .below-part .ensures) (c .enum-told .given .1))
+      let at-below-part = c .before .before .before .before in
+      let at-sign-len = at-below-part .before .before in
+      let at-loop = at-sign-len .before .before .before in
+      let start = at-loop .before .before .before .before in
+      at-loop .loop .inv .3 _ _ (follows-refused (start .args .sign) _ (more-sign at-sign-len) (at-below-part .below-part .ensures) (c .enum-told .given .1))
 
   more-sub-left : more-lts.Need-sub-left more-calls more-at more.Post more-Inv-loop more-μ-loop
   more-sub-left c =
@@ -530,17 +539,23 @@ module _ (t : ℕ) where
 
   more-put-node-requires : more-lts.Need-put-node-requires more-calls more-at more.Post more-Inv-loop more-μ-loop
   more-put-node-requires c κs =
-      let at-sign-len = c .before .before .before .before .before .before .before .before in
+      let at-r = c .before .before in
+      let at-below-part = at-r .before .before .before .before in
+      let at-sign-len = at-below-part .before .before in
+      let at-loop = at-sign-len .before .before .before in
       let sign = more-sign at-sign-len in
-      let w = far (c .before .before .before .before .before .before .below-part .ensures) (c .before .before .r .given .1) in
-      (room-for (c .before .before .before .before .before .before .before .before .before .before .before .loop .inv .2 .ready) _ 1 (omega arith) (search needs), (omega arith, omega arith))
+      let w = far (at-below-part .below-part .ensures) (at-r .r .given .1) in
+      (room-for (at-loop .loop .inv .2 .ready) _ 1 (omega arith) (search needs), (omega arith, omega arith))
 
   more-add-nodes : more-lts.Need-add-nodes more-calls more-at more.Post more-Inv-loop more-μ-loop
   more-add-nodes c =
-      let at-sign-len = c .before .before .before .before .before .before .before .before .before .before .before in
+      let at-r = c .before .before .before .before .before in
+      let at-below-part = at-r .before .before .before .before in
+      let at-sign-len = at-below-part .before .before in
+      let at-loop = at-sign-len .before .before .before in
       let sign = more-sign at-sign-len in
-      let w = far (c .before .before .before .before .before .before .before .before .before .below-part .ensures) (c .before .before .before .before .before .r .given .1) in
-      omega (arith, c .before .before .before .before .before .before .before .before .before .before .before .before .before .before .loop .inv .2 .ready .room .few)
+      let w = far (at-below-part .below-part .ensures) (at-r .r .given .1) in
+      omega (arith, at-loop .loop .inv .2 .ready .room .few)
 
   more-repeats-requires : more-lts.Need-repeats-requires more-calls more-at more.Post more-Inv-loop more-μ-loop
   more-repeats-requires c κs = search needs
@@ -550,31 +565,45 @@ module _ (t : ℕ) where
 
   more-returns-2 : more-lts.Need-returns-2 more-calls more-at more.Post more-Inv-loop more-μ-loop
   more-returns-2 c =
-      let at-sign-len = c .before .before .before .before .before .before .before .before .before .before .before .before .before in
+      let at-put-node = c .before .before .before .before in
+      let at-r = at-put-node .before .before .before in
+      let at-below-part = at-r .before .before .before .before in
+      let at-sign-len = at-below-part .before .before in
+      let at-loop = at-sign-len .before .before .before in
+      let start = at-loop .before .before .before .before in
       let sign = more-sign at-sign-len in
-      let ready = c .before .before .before .before .before .before .before .before .before .before .before .before .before .before .before .before .loop .inv .2 .ready in
-      let w = far (c .before .before .before .before .before .before .before .before .before .before .before .below-part .ensures) (c .before .before .before .before .before .before .before .r .given .1) in
-      c .before .before .before .before .before .before .before .before .before .before .before .before .before .before .before .before .loop .inv .3 _ _ (follows-then (c .before .before .before .before .before .before .before .before .before .before .before .before .before .before .before .before .before .before .before .before .args .sign) _ sign (c .before .before .before .before .before .before .before .before .before .before .before .before .before .before .before .before .loop .inv .2 .some) (ready .arena) (was (c .before .before .before .before .before .before .before .before .before .before .before .below-part .ensures) (c .before .before .before .before .before .before .before .r .given .1)) (room-for ready _ 1 (omega arith) (search needs)) (c .before .before .before .before .put-node .ensures)
-      (λ n x z l hz hs ar. by (onward-stop (opOf (c .before .before .before .before .before .before .before .before .before .before .before .before .before .before .before .before .before .before .before .before .args .sign)) _ _ n z _ (c .before .repeats .ensures) (not-true _ (c .if2 .taken))) (stop (w .inside) ar hz hs)))
+      let l = at-loop .loop in
+      let ready = l .inv .2 .ready in
+      let w = far (at-below-part .below-part .ensures) (at-r .r .given .1) in
+      l .inv .3 _ _ (follows-then (start .args .sign) _ sign (l .inv .2 .some) (ready .arena) (was (at-below-part .below-part .ensures) (at-r .r .given .1)) (room-for ready _ 1 (omega arith) (search needs)) (at-put-node .put-node .ensures)
+      (λ n x z l hz hs ar. by (onward-stop (opOf (start .args .sign)) _ _ n z _ (c .before .repeats .ensures) (not-true _ (c .if2 .taken))) (stop (w .inside) ar hz hs)))
 
   more-loop-less : more-lts.Need-loop-less more-calls more-at more.Post more-Inv-loop more-μ-loop
   more-loop-less c =
-      let at-sign-len = c .before .before .before .before .before .before .before .before .before .before .before .before .before in
+      let at-r = c .before .before .before .before .before .before .before in
+      let at-below-part = at-r .before .before .before .before in
+      let at-sign-len = at-below-part .before .before in
       let sign = more-sign at-sign-len in
-      let w = far (c .before .before .before .before .before .before .before .before .before .before .before .below-part .ensures) (c .before .before .before .before .before .before .before .r .given .1) in
+      let w = far (at-below-part .below-part .ensures) (at-r .r .given .1) in
       omega arith
 
   more-loop-again : more-lts.Need-loop-again more-calls more-at more.Post more-Inv-loop more-μ-loop
   more-loop-again c =
-      let at-sign-len = c .before .before .before .before .before .before .before .before .before .before .before .before .before in
+      let at-put-node = c .before .before .before .before in
+      let at-r = at-put-node .before .before .before in
+      let at-below-part = at-r .before .before .before .before in
+      let at-sign-len = at-below-part .before .before in
+      let at-loop = at-sign-len .before .before .before in
+      let start = at-loop .before .before .before .before in
       let sign = more-sign at-sign-len in
-      let ready = c .before .before .before .before .before .before .before .before .before .before .before .before .before .before .before .before .loop .inv .2 .ready in
-      let w = far (c .before .before .before .before .before .before .before .before .before .before .before .below-part .ensures) (c .before .before .before .before .before .before .before .r .given .1) in (
+      let l = at-loop .loop in
+      let ready = l .inv .2 .ready in
+      let w = far (at-below-part .below-part .ensures) (at-r .r .given .1) in (
         omega arith,
         omega arith,
-        record { ready = on ready _ _ _ (w .inside) (omega arith) (omega arith) (subst (Arena _) (sym (c .before .before .before .before .put-node .ensures)) (arena-put (Pair _ _ _) (left (c .before .before .before .before .before .before .before .before .before .before .before .below-part .ensures) (c .before .before .before .before .before .before .before .r .given .1)) (room-for ready _ 1 (omega arith) (search needs)) (omega arith, omega arith))) (search needs); some = omega arith },
-        λ a r h. c .before .before .before .before .before .before .before .before .before .before .before .before .before .before .before .before .loop .inv .3 a r (follows-then (c .before .before .before .before .before .before .before .before .before .before .before .before .before .before .before .before .before .before .before .before .args .sign) _ sign (c .before .before .before .before .before .before .before .before .before .before .before .before .before .before .before .before .loop .inv .2 .some) (ready .arena) (was (c .before .before .before .before .before .before .before .before .before .before .before .below-part .ensures) (c .before .before .before .before .before .before .before .r .given .1)) (room-for ready _ 1 (omega arith) (search needs)) (c .before .before .before .before .put-node .ensures)
-            (λ n x z l hz hs ar. by (onward-more (opOf (c .before .before .before .before .before .before .before .before .before .before .before .before .before .before .before .before .before .before .before .before .args .sign)) _ _ n z _ (c .before .repeats .ensures) (not-false _ (c .if2 .left))) (h n x z l hz hs))),
+        record { ready = on ready _ _ _ (w .inside) (omega arith) (omega arith) (subst (Arena _) (sym (at-put-node .put-node .ensures)) (arena-put (Pair _ _ _) (left (at-below-part .below-part .ensures) (at-r .r .given .1)) (room-for ready _ 1 (omega arith) (search needs)) (omega arith, omega arith))) (search needs); some = omega arith },
+        λ a r h. l .inv .3 a r (follows-then (start .args .sign) _ sign (l .inv .2 .some) (ready .arena) (was (at-below-part .below-part .ensures) (at-r .r .given .1)) (room-for ready _ 1 (omega arith) (search needs)) (at-put-node .put-node .ensures)
+            (λ n x z l hz hs ar. by (onward-more (opOf (start .args .sign)) _ _ n z _ (c .before .repeats .ensures) (not-false _ (c .if2 .left))) (h n x z l hz hs))),
       )
 
   more-same-length-3 : more-lts.Need-same-length-3 more-calls more-at more.Post more-Inv-loop more-μ-loop
@@ -582,8 +611,10 @@ module _ (t : ℕ) where
 
   more-returns-3 : more-lts.Need-returns-3 more-calls more-at more.Post more-Inv-loop more-μ-loop
   more-returns-3 c =
-      let start = c .before .before .before .before .before .before in
-      c .before .before .loop .inv .3 _ _ (follows-none (opOf (start .args .sign)) _ _ (sym (c .before .sign-at .ensures) ∙ c .if1 .left) (c .before .before .loop .inv .2 .ready .within) (c .before .before .loop .inv .2 .ready .arena))
+      let at-loop = c .before .before in
+      let start = at-loop .before .before .before .before in
+      let ready = at-loop .loop .inv .2 .ready in
+      at-loop .loop .inv .3 _ _ (follows-none (opOf (start .args .sign)) _ _ (sym (c .before .sign-at .ensures) ∙ c .if1 .left) (ready .within) (ready .arena))
 
   paren-returns : paren-lts.Need-returns paren-calls paren-at paren.Post
   paren-returns c = refuses (paren-full _ _ _ _ (c .if1 .taken))

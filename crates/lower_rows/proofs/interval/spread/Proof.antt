@@ -21,18 +21,25 @@ same-length : tie.Need-same-length
 same-length c = search needs
 
 returns : tie.Need-returns
-returns c = spread-full _ _ _ _ _ _ _ _ (c .before .before .before .before .write-looks .ensures) (c .enum-told .given .1)
+returns c =
+    let at-write-looks = c .before .before .before .before in
+    spread-full _ _ _ _ _ _ _ _ (at-write-looks .write-looks .ensures) (c .enum-told .given .1)
 
 write-gates-requires : tie.Need-write-gates-requires
 write-gates-requires c κs =
-    let R = fits _ _ _ _ _ _ _ _ (c .before .before .next .given .1) (c .before .before .before .before .before .before .write-looks .ensures) in
-    ((omega arith, omega arith), buffer-on (c .before .before .before .before .before .before .before .before .before .pre .1) (R .room) (R .long))
+    let at-write-looks = c .before .before .before .before .before .before in
+    let start = at-write-looks .before .before .before in
+    let R = fits _ _ _ _ _ _ _ _ (c .before .before .next .given .1) (at-write-looks .write-looks .ensures) in
+    ((omega arith, omega arith), buffer-on (start .pre .1) (R .room) (R .long))
 
 same-length-2 : tie.Need-same-length-2
 same-length-2 c = search needs
 
 returns-2 : tie.Need-returns-2
-returns-2 c = spread-then _ _ _ _ _ _ _ _ (c .before .before .before .before .before .before .before .before .before .write-looks .ensures) _ _ _ _ (c .before .before .before .before .before .next .given .1) (c .before .before .write-gates .ensures)
+returns-2 c =
+    let at-next = c .before .before .before .before .before in
+    let at-write-looks = at-next .before .before .before .before in
+    spread-then _ _ _ _ _ _ _ _ (at-write-looks .write-looks .ensures) _ _ _ _ (at-next .next .given .1) (c .before .before .write-gates .ensures)
 
 pub spread-spec : {M : Type 1} → statement M
 spread-spec =

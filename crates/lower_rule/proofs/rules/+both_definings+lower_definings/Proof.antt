@@ -129,25 +129,27 @@ module _ (t : ℕ) where
 
   lower-definings-returns : lower-definings-lts.Need-returns lower-definings-calls lower-definings-at lower-definings.Post lower-definings-Inv-loop lower-definings-μ-loop
   lower-definings-returns c =
+      let start = c .before .before .before .before .before .before .before in
       let l = c .before .before .before .loop in
       let e = sym (c .before .before .node-at .ensures) ∙ c .enum-told .given .1 in
       let d = sym (l .inv .4) ∙ definings-step _ _ (l .inv .3) (omega arith) e in
-      rw (d, l .inv .1, l .inv .2) (all-none _ _ _ (c .before .before .before .before .before .before .before .pre .1 .1 .1 .used-in))
+      rw (d, l .inv .1, l .inv .2) (all-none _ _ _ (start .pre .1 .1 .1 .used-in))
 
   lower-definings-enum-known-x : lower-definings-lts.Need-enum-known-x lower-definings-calls lower-definings-at lower-definings.Post lower-definings-Inv-loop lower-definings-μ-loop
   lower-definings-enum-known-x c = search needs
 
   lower-definings-loop-less : lower-definings-lts.Need-loop-less lower-definings-calls lower-definings-at lower-definings.Post lower-definings-Inv-loop lower-definings-μ-loop
   lower-definings-loop-less c =
-      let l = c .before .before .before .before .loop in
+      let at-loop = c .before .before .before .before in
+      let l = at-loop .loop in
       let e = sym (c .before .before .before .node-at .ensures) ∙ c .before .x .given .1 in
       let R = right-step _ _ (l .inv .3) (omega arith) e in
-      let d = definings-step _ _ (l .inv .3) (omega arith) e in
       omega arith
 
   lower-definings-loop-again : lower-definings-lts.Need-loop-again lower-definings-calls lower-definings-at lower-definings.Post lower-definings-Inv-loop lower-definings-μ-loop
   lower-definings-loop-again c =
-      let l = c .before .before .before .before .loop in
+      let at-loop = c .before .before .before .before in
+      let l = at-loop .loop in
       let e = sym (c .before .before .before .node-at .ensures) ∙ c .before .x .given .1 in
       let R = right-step _ _ (l .inv .3) (omega arith) e in
       let d = definings-step _ _ (l .inv .3) (omega arith) e in
@@ -158,40 +160,52 @@ module _ (t : ℕ) where
 
   lower-definings-both-definings-requires : lower-definings-lts.Need-both-definings-requires lower-definings-calls lower-definings-at lower-definings.Post lower-definings-Inv-loop lower-definings-μ-loop
   lower-definings-both-definings-requires c κs =
-      let l = c .before .before .before .before .before .before .loop in
-      let e = sym (c .before .before .before .before .before .node-at .ensures) ∙ c .before .before .before .x2 .given .1 in
+      let at-node-at = c .before .before .before .before .before in
+      let at-loop = at-node-at .before in
+      let start = at-loop .before .before .before .before in
+      let l = at-loop .loop in
+      let e = sym (at-node-at .node-at .ensures) ∙ c .before .before .before .x2 .given .1 in
       let R = right-step _ _ (l .inv .3) (omega arith) e in
       let d = definings-step _ _ (l .inv .3) (omega arith) e in
-      let given = c .before .before .before .before .before .before .before .before .before .before .pre .1 in
+      let given = start .pre .1 in
       (omega arith, (record { left = arena-fewer _ (omega arith) (l .inv .3); right = arena-fewer _ (omega arith) (l .inv .3) }, (omega (arith, ap length (sym (l .inv .4) ∙ d), ap length (l .inv .1)), rw (l .inv .2) (given .1 .1))))
 
   lower-definings-same-length-3 : lower-definings-lts.Need-same-length-3 lower-definings-calls lower-definings-at lower-definings.Post lower-definings-Inv-loop lower-definings-μ-loop
-  lower-definings-same-length-3 c = omega (arith, ap length (c .before .before .before .before .before .before .before .before .before .before .before .loop .inv .1))
+  lower-definings-same-length-3 c =
+      let at-loop = c .before .before .before .before .before .before .before .before .before .before .before in
+      omega (arith, ap length (at-loop .loop .inv .1))
 
   lower-definings-same-length-4 : lower-definings-lts.Need-same-length-4 lower-definings-calls lower-definings-at lower-definings.Post lower-definings-Inv-loop lower-definings-μ-loop
-  lower-definings-same-length-4 c = omega (arith, ap length (c .before .before .before .before .before .before .before .before .before .before .before .loop .inv .2))
+  lower-definings-same-length-4 c =
+      let at-loop = c .before .before .before .before .before .before .before .before .before .before .before in
+      omega (arith, ap length (at-loop .loop .inv .2))
 
   lower-definings-returns-2 : lower-definings-lts.Need-returns-2 lower-definings-calls lower-definings-at lower-definings.Post lower-definings-Inv-loop lower-definings-μ-loop
   lower-definings-returns-2 c =
-      let l = c .before .before .before .before .before .before .before .before .before .before .before .loop in
-      let e = sym (c .before .before .before .before .before .before .before .before .before .before .node-at .ensures) ∙ c .before .before .before .before .before .before .before .before .x2 .given .1 in
+      let at-both-definings = c .before .before .before .before in
+      let at-x2 = at-both-definings .before .before .before .before in
+      let at-node-at = at-x2 .before .before in
+      let at-loop = at-node-at .before in
+      let l = at-loop .loop in
+      let e = sym (at-node-at .node-at .ensures) ∙ at-x2 .x2 .given .1 in
       let d = sym (l .inv .4) ∙ definings-step _ _ (l .inv .3) (omega arith) e in
-      rw d (rw (l .inv .1, l .inv .2) at (c .before .before .before .before .both-definings .ensures))
+      rw d (rw (l .inv .1, l .inv .2) at (at-both-definings .both-definings .ensures))
 
   lower-definings-enum-known-x-3 : lower-definings-lts.Need-enum-known-x-3 lower-definings-calls lower-definings-at lower-definings.Post lower-definings-Inv-loop lower-definings-μ-loop
   lower-definings-enum-known-x-3 c = search needs
 
   lower-definings-loop-less-2 : lower-definings-lts.Need-loop-less-2 lower-definings-calls lower-definings-at lower-definings.Post lower-definings-Inv-loop lower-definings-μ-loop
   lower-definings-loop-less-2 c =
-      let l = c .before .before .before .before .loop in
+      let at-loop = c .before .before .before .before in
+      let l = at-loop .loop in
       let e = sym (c .before .before .before .node-at .ensures) ∙ c .before .x3 .given .1 in
       let R = right-step _ _ (l .inv .3) (omega arith) e in
-      let d = definings-step _ _ (l .inv .3) (omega arith) e in
       omega arith
 
   lower-definings-loop-again-2 : lower-definings-lts.Need-loop-again-2 lower-definings-calls lower-definings-at lower-definings.Post lower-definings-Inv-loop lower-definings-μ-loop
   lower-definings-loop-again-2 c =
-      let l = c .before .before .before .before .loop in
+      let at-loop = c .before .before .before .before in
+      let l = at-loop .loop in
       let e = sym (c .before .before .before .node-at .ensures) ∙ c .before .x3 .given .1 in
       let R = right-step _ _ (l .inv .3) (omega arith) e in
       let d = definings-step _ _ (l .inv .3) (omega arith) e in
@@ -202,7 +216,8 @@ module _ (t : ℕ) where
 
   lower-definings-sub-own : lower-definings-lts.Need-sub-own lower-definings-calls lower-definings-at lower-definings.Post lower-definings-Inv-loop lower-definings-μ-loop
   lower-definings-sub-own c =
-      let l = c .before .before .before .before .loop in
+      let at-loop = c .before .before .before .before in
+      let l = at-loop .loop in
       let e = sym (c .before .before .before .node-at .ensures) ∙ c .before .x4 .given .1 in
       let R = right-step _ _ (l .inv .3) (omega arith) e in
       let d = sym (l .inv .4) ∙ definings-step _ _ (l .inv .3) (omega arith) e in
@@ -211,12 +226,15 @@ module _ (t : ℕ) where
 
   lower-definings-lower-rule-requires : lower-definings-lts.Need-lower-rule-requires lower-definings-calls lower-definings-at lower-definings.Post lower-definings-Inv-loop lower-definings-μ-loop
   lower-definings-lower-rule-requires c κs =
-      let l = c .before .before .before .before .before .before .loop in
-      let e = sym (c .before .before .before .before .before .node-at .ensures) ∙ c .before .before .before .x4 .given .1 in
+      let at-node-at = c .before .before .before .before .before in
+      let at-loop = at-node-at .before in
+      let start = at-loop .before .before .before .before in
+      let l = at-loop .loop in
+      let e = sym (at-node-at .node-at .ensures) ∙ c .before .before .before .x4 .given .1 in
       let R = right-step _ _ (l .inv .3) (omega arith) e in
       let d = sym (l .inv .4) ∙ definings-step _ _ (l .inv .3) (omega arith) e in
       let z = ap length d in
-      let given = c .before .before .before .before .before .before .before .before .before .before .pre .1 in
+      let given = start .pre .1 in
       (arena-fewer _ (omega arith) (l .inv .3), (omega (arith, ap length (l .inv .1)), rw (l .inv .2) (given .1 .1)))
 
   lower-definings-enum-known-free : lower-definings-lts.Need-enum-known-free lower-definings-calls lower-definings-at lower-definings.Post lower-definings-Inv-loop lower-definings-μ-loop
@@ -226,47 +244,66 @@ module _ (t : ℕ) where
   lower-definings-enum-told-2 c = search needs
 
   lower-definings-same-length-5 : lower-definings-lts.Need-same-length-5 lower-definings-calls lower-definings-at lower-definings.Post lower-definings-Inv-loop lower-definings-μ-loop
-  lower-definings-same-length-5 c = omega (arith, ap length (c .before .before .before .before .before .before .before .before .before .before .before .before .before .loop .inv .1))
+  lower-definings-same-length-5 c =
+      let at-loop = c .before .before .before .before .before .before .before .before .before .before .before .before .before in
+      omega (arith, ap length (at-loop .loop .inv .1))
 
   lower-definings-same-length-6 : lower-definings-lts.Need-same-length-6 lower-definings-calls lower-definings-at lower-definings.Post lower-definings-Inv-loop lower-definings-μ-loop
-  lower-definings-same-length-6 c = omega (arith, ap length (c .before .before .before .before .before .before .before .before .before .before .before .before .before .loop .inv .2))
+  lower-definings-same-length-6 c =
+      let at-loop = c .before .before .before .before .before .before .before .before .before .before .before .before .before in
+      omega (arith, ap length (at-loop .loop .inv .2))
 
   lower-definings-returns-3 : lower-definings-lts.Need-returns-3 lower-definings-calls lower-definings-at lower-definings.Post lower-definings-Inv-loop lower-definings-μ-loop
   lower-definings-returns-3 c =
-      let l = c .before .before .before .before .before .before .before .before .before .before .before .before .before .loop in
-      let e = sym (c .before .before .before .before .before .before .before .before .before .before .before .before .node-at .ensures) ∙ c .before .before .before .before .before .before .before .before .before .before .x4 .given .1 in
-      let R = right-step _ _ (l .inv .3) (omega arith) e in
+      let at-lower-rule = c .before .before .before .before .before .before in
+      let at-x4 = at-lower-rule .before .before .before .before in
+      let at-node-at = at-x4 .before .before in
+      let at-loop = at-node-at .before in
+      let l = at-loop .loop in
+      let e = sym (at-node-at .node-at .ensures) ∙ at-x4 .x4 .given .1 in
       let d = sym (l .inv .4) ∙ definings-step _ _ (l .inv .3) (omega arith) e in
-      let z = ap length d in
-      let own = rw (l .inv .1, l .inv .2) at (c .before .before .before .before .before .before .lower-rule .ensures) in
+      let own = rw (l .inv .1, l .inv .2) at (at-lower-rule .lower-rule .ensures) in
       rw d (all-full (_ ∷ []) _ _ _ _ _ _ own _ (c .enum-told2 .given .1))
 
   lower-definings-both-definings-requires-2 : lower-definings-lts.Need-both-definings-requires-2 lower-definings-calls lower-definings-at lower-definings.Post lower-definings-Inv-loop lower-definings-μ-loop
   lower-definings-both-definings-requires-2 c κs =
-      let l = c .before .before .before .before .before .before .before .before .before .before .before .before .before .before .before .before .loop in
-      let e = sym (c .before .before .before .before .before .before .before .before .before .before .before .before .before .before .before .node-at .ensures) ∙ c .before .before .before .before .before .before .before .before .before .before .before .before .before .x4 .given .1 in
+      let at-lower-rule = c .before .before .before .before .before .before .before .before .before in
+      let at-x4 = at-lower-rule .before .before .before .before in
+      let at-node-at = at-x4 .before .before in
+      let at-loop = at-node-at .before in
+      let start = at-loop .before .before .before .before in
+      let l = at-loop .loop in
+      let e = sym (at-node-at .node-at .ensures) ∙ at-x4 .x4 .given .1 in
       let R = right-step _ _ (l .inv .3) (omega arith) e in
       let d = sym (l .inv .4) ∙ definings-step _ _ (l .inv .3) (omega arith) e in
       let z = ap length d in
-      let given = c .before .before .before .before .before .before .before .before .before .before .before .before .before .before .before .before .before .before .before .before .pre .1 in
-      let W = went-all _ _ _ _ _ _ (rw (l .inv .1, l .inv .2) at (c .before .before .before .before .before .before .before .before .before .lower-rule .ensures)) _ _ (c .before .before .before .free .given .1) in
+      let given = start .pre .1 in
+      let W = went-all _ _ _ _ _ _ (rw (l .inv .1, l .inv .2) at (at-lower-rule .lower-rule .ensures)) _ _ (c .before .before .before .free .given .1) in
       (omega arith, (record { left = arena-fewer _ (omega arith) (l .inv .3); right = arena-fewer _ (omega arith) (l .inv .3) }, (omega (arith, ap length (l .inv .1)), buffer-on (given .1 .1) (W .room) (W .long))))
 
   lower-definings-same-length-7 : lower-definings-lts.Need-same-length-7 lower-definings-calls lower-definings-at lower-definings.Post lower-definings-Inv-loop lower-definings-μ-loop
-  lower-definings-same-length-7 c = omega (arith, ap length (c .before .before .before .before .before .before .before .before .before .before .before .before .before .before .before .before .before .before .before .before .before .loop .inv .1))
+  lower-definings-same-length-7 c =
+      let at-loop = c .before .before .before .before .before .before .before .before .before .before .before .before .before .before .before .before .before .before .before .before .before in
+      omega (arith, ap length (at-loop .loop .inv .1))
 
   lower-definings-same-length-8 : lower-definings-lts.Need-same-length-8 lower-definings-calls lower-definings-at lower-definings.Post lower-definings-Inv-loop lower-definings-μ-loop
-  lower-definings-same-length-8 c = omega (arith, ap length (c .before .before .before .before .before .before .before .before .before .before .before .before .before .before .before .before .before .before .before .before .before .loop .inv .2))
+  lower-definings-same-length-8 c =
+      let at-loop = c .before .before .before .before .before .before .before .before .before .before .before .before .before .before .before .before .before .before .before .before .before in
+      omega (arith, ap length (at-loop .loop .inv .2))
 
   lower-definings-returns-4 : lower-definings-lts.Need-returns-4 lower-definings-calls lower-definings-at lower-definings.Post lower-definings-Inv-loop lower-definings-μ-loop
   lower-definings-returns-4 c =
-      let l = c .before .before .before .before .before .before .before .before .before .before .before .before .before .before .before .before .before .before .before .before .before .loop in
-      let e = sym (c .before .before .before .before .before .before .before .before .before .before .before .before .before .before .before .before .before .before .before .before .node-at .ensures) ∙ c .before .before .before .before .before .before .before .before .before .before .before .before .before .before .before .before .before .before .x4 .given .1 in
-      let R = right-step _ _ (l .inv .3) (omega arith) e in
+      let at-both-definings2 = c .before .before .before .before in
+      let at-free = at-both-definings2 .before .before .before .before in
+      let at-lower-rule = at-free .before .before .before .before .before .before in
+      let at-x4 = at-lower-rule .before .before .before .before in
+      let at-node-at = at-x4 .before .before in
+      let at-loop = at-node-at .before in
+      let l = at-loop .loop in
+      let e = sym (at-node-at .node-at .ensures) ∙ at-x4 .x4 .given .1 in
       let d = sym (l .inv .4) ∙ definings-step _ _ (l .inv .3) (omega arith) e in
-      let z = ap length d in
-      let own = rw (l .inv .1, l .inv .2) at (c .before .before .before .before .before .before .before .before .before .before .before .before .before .before .lower-rule .ensures) in
-      rw d (all-then (_ ∷ []) _ _ _ _ _ _ own _ _ (c .before .before .before .before .before .before .before .before .free .given .1) _ _ (c .before .before .before .before .both-definings2 .ensures))
+      let own = rw (l .inv .1, l .inv .2) at (at-lower-rule .lower-rule .ensures) in
+      rw d (all-then (_ ∷ []) _ _ _ _ _ _ own _ _ (at-free .free .given .1) _ _ (at-both-definings2 .both-definings2 .ensures))
 
 pub +both-definings+lower-definings-spec : {M : Type 1} → statement M
 +both-definings+lower-definings-spec =
