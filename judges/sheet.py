@@ -31,8 +31,8 @@ class Sheet:
 
 
 def define(x, a, b, step):
-    """x <=> A | (B & x@[step,step])"""
-    return ("iff", x, ("or", a, ("and", b, ("always", x, step, step))))
+    """x <=> (A | (B & x))@[step,step]"""
+    return ("iff", x, ("always", ("or", a, ("and", b, x)), step, step))
 
 
 class Rule:

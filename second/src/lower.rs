@@ -44,13 +44,13 @@ pub fn lower(sheet: &Sheet) -> Result<Rows, Refusal> {
     Ok(Rows { nodes, tops })
 }
 
-/// x `<=>` A `|` (B `&` x`@[look,look]`)
+/// x `<=>` (A `|` (B `&` x)) `@[look,look]`
 fn defining_rule(number: usize, hidden: &Hidden) -> Formula {
     let x = Formula::Hidden(number);
     let Hidden { a, b, look } = hidden.clone();
-    let before = Formula::Always(x.clone().into(), look, look);
-    let held = Formula::And(b.into(), before.into());
-    Formula::Iff(x.into(), Formula::Or(a.into(), held.into()).into())
+    let held = Formula::And(b.into(), x.clone().into());
+    let either = Formula::Or(a.into(), held.into());
+    Formula::Iff(x.into(), Formula::Always(either.into(), look, look).into())
 }
 
 struct Lowering {

@@ -173,10 +173,10 @@ impl<'a> Parser<'a> {
         let right = self.formula(depth - 1)?;
         self.expect(b')')?;
         let step = if since { -1 } else { 1 };
-        let before = self.put(Node::Time(true, hidden, step, step));
-        let kept = self.put(Node::Pair(Sign::And, right, before));
+        let kept = self.put(Node::Pair(Sign::And, right, hidden));
         let either = self.put(Node::Pair(Sign::Or, left, kept));
-        self.definings[number] = self.put(Node::Pair(Sign::Iff, hidden, either));
+        let before = self.put(Node::Time(true, either, step, step));
+        self.definings[number] = self.put(Node::Pair(Sign::Iff, hidden, before));
         Ok(hidden)
     }
 

@@ -127,13 +127,13 @@ p9 =
     "at=0\nsignal=a\nvalue=1\nat=0\nsignal=a\nvalue=0\n"
     "answer=0\nrows=1\nfacts=2\nclash=1\nsignal=a\nmarks=x\n"
 
--- P10 window 4, `c<=>since(a,b)`; a true at 1, false at 2 and 3; b true at 2, false at 3: c unsettled, true, true, false.
+-- P10 window 4, `c<=>since(a,b)`; a true at 1, false at 2 and 3; b true at 2, false at 3: c unsettled, unsettled, true, true (E2).
 abbrev p10 : TextCase
 p10 =
     case "window=4\nsignals=3\nsignal=a\nsignal=b\nsignal=c\nrules=1\nrule=c<=>since(a,b)\n"
     ("at=1\nsignal=a\nvalue=1\nat=2\nsignal=a\nvalue=0\nat=3\nsignal=a\nvalue=0\n" ++
     "at=2\nsignal=b\nvalue=1\nat=3\nsignal=b\nvalue=0\n")
-    "answer=0\nrows=22\nfacts=8\nclash=0\nsignal=a\nmarks=?100\nsignal=b\nmarks=??10\nsignal=c\nmarks=?110\n"
+    "answer=0\nrows=22\nfacts=7\nclash=0\nsignal=a\nmarks=?100\nsignal=b\nmarks=??10\nsignal=c\nmarks=??11\n"
 
 -- P1 in both orders of its rules, then P2 to P10.
 abbrev pub textCases : List TextCase

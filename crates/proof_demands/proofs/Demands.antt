@@ -11,12 +11,14 @@ use Rattle.read_bytes.specs.Bytes.{bytes}
 use Rattle.spec_ticks.specs.Ticks.{Small}
 use Rattle.spec_ticks.proofs.Tables.{empty-small}
 use Rattle.spec_tilco.specs.Lists.{total}
-use Rattle.spec_tilco.specs.Formula.{Formula, defining}
+use Rattle.spec_tilco.specs.Formula.{Formula, defining, Sheet}
 use Rattle.spec_tilco.specs.Inference.{Mark, _or_}
 use Rattle.spec_tilco.specs.Lowering.{rowCount}
 use Rattle.spec_tilco.specs.Meaning.{History, value, atOffset, Obeys}
+use Rattle.spec_tilco.specs.Since.{KeptOver, Hides, Inside}
 use Rattle.spec_tilco.specs.Table.{Standing, tableWords, factsOf, ReadMarks, Leads, Answer, Contradiction, Asked}
-use Rattle.spec_tilco.proofs.Values.{always-means, sometime-means, since-means, until-means}
+use Rattle.spec_tilco.proofs.Values.{always-means, sometime-means}
+use Rattle.spec_tilco.proofs.Since.{since-means, until-means, keep-unrolled}
 use Rattle.read_sheet.specs.Sheet.{Contents, meant, sheetText}
 use Rattle.open_sheet.specs.Results.{Result, accepted, refused}
 use Rattle.open_sheet.specs.SheetIn.{blank}
@@ -79,12 +81,15 @@ demand-1 = record {
 
 -- ---- demand 2
 
--- What the signs of time mean: @ at every whole number of the interval, ? at one, and since and until by their recursion (004, section 4.1).
+-- What the signs of time mean: @ at every whole number of the interval, ? at one, since and until by what was or will be a tick away, and so over k
+-- ticks of the window: "A at some earlier tick and B at every tick between, or B at every earlier tick" (E2; 004, section 2.1).
 pub record TimeMeans : Type 0 where
   pub always : (h : History) (f : Formula) (lo n : ℕ) (t : ℤ) → (value h (Formula.time true lo n f) t ≡ true) ↔ ((j : ℕ) → j ≤ n → value h f (atOffset t (lo + j)) ≡ true)
   pub sometime : (h : History) (f : Formula) (lo n : ℕ) (t : ℤ) → (value h (Formula.time false lo n f) t ≡ true) ↔ ((j : ℕ) × (j ≤ n) × (value h f (atOffset t (lo + j)) ≡ true))
-  pub since : (h : History) (x : ℕ) (f g : Formula) (t : ℤ) → value h (defining true x f g) t ≡ true → h x t ≡ value h f t || (value h g t && h x (t -ℤ pos 1))
-  pub until : (h : History) (x : ℕ) (f g : Formula) (t : ℤ) → value h (defining false x f g) t ≡ true → h x t ≡ value h f t || (value h g t && h x (t +ℤ pos 1))
+  pub since : (h : History) (x : ℕ) (f g : Formula) (t : ℤ) → value h (defining true x f g) t ≡ true → h x t ≡ value h f (t -ℤ pos 1) || (value h g (t -ℤ pos 1) && h x (t -ℤ pos 1))
+  pub until : (h : History) (x : ℕ) (f g : Formula) (t : ℤ) → value h (defining false x f g) t ≡ true → h x t ≡ value h f (t +ℤ pos 1) || (value h g (t +ℤ pos 1) && h x (t +ℤ pos 1))
+  pub over-ticks : (s : Sheet) (h : History) → Obeys s h → (b : Bool) (x : ℕ) (f g : Formula) → Hides s b x f g → (t k : ℕ) → Inside b (s .window) t k
+      → (h x (pos t) ≡ true) ↔ KeptOver b h x f g (pos t) k
 
 -- The sheet, the table and the readings of an accepted add, and which marks stand after it.
 pub record Led (s r T U : List ℕ) : Type 0 where
@@ -109,7 +114,7 @@ pub record Demand2 : Type 0 where
 
 pub demand-2 : Demand2
 demand-2 = record {
-  rules-mean = record { always = always-means; sometime = sometime-means; since = since-means; until = until-means };
+  rules-mean = record { always = always-means; sometime = sometime-means; since = since-means; until = until-means; over-ticks = keep-unrolled };
   after-add = led;
   after-calls = λ x i y. last-exactly x i y;
   answered = λ s T x t a. ask-accepts;

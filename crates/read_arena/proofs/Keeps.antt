@@ -37,8 +37,8 @@ keep-rights : (c : ℕ) (b : Bool) (x l r : ℕ) → l < c → r < c → AllChil
 keep-rights c b x l r hl hr = (
   tt,
   (
-    (omega arith, step-right b .0, step-right b .1),
-    ((omega arith, omega arith), ((omega arith, omega arith), ((omega arith, omega arith), ((omega arith, omega arith), tt)))),
+    (omega arith, omega arith),
+    ((omega arith, omega arith), ((omega arith, step-right b .0, step-right b .1), ((omega arith, omega arith), ((omega arith, omega arith), tt)))),
   ),
 )
 
@@ -90,8 +90,8 @@ module _ {a : List ℕ} {c : ℕ} (b : Bool) (x : ℕ) {l r : ℕ} (A : Arena c 
 
 -- Six puts, one after the other, are it.
 pub six-puts : (a : List ℕ) {a₁ a₂ a₃ a₄ a₅ a₆ : List ℕ} (c : ℕ) (b : Bool) (x l r : ℕ) {step : ℕ} → step ≡ pick b 63 65
-    → a₁ ≡ putNode a c (Name x) → a₂ ≡ putNode a₁ (c + 1) (Time true c step 0) → a₃ ≡ putNode a₂ (c + 2) (Pair Sign.And r (c + 1))
-    → a₄ ≡ putNode a₃ (c + 3) (Pair Sign.Or l (c + 2)) → a₅ ≡ putNode a₄ (c + 4) (Pair Sign.Iff c (c + 3))
+    → a₁ ≡ putNode a c (Name x) → a₂ ≡ putNode a₁ (c + 1) (Pair Sign.And r c) → a₃ ≡ putNode a₂ (c + 2) (Pair Sign.Or l (c + 1))
+    → a₄ ≡ putNode a₃ (c + 3) (Time true (c + 2) step 0) → a₅ ≡ putNode a₄ (c + 4) (Pair Sign.Iff c (c + 3))
     → a₆ ≡ putNode a₅ (c + 5) (Keep b l r x) → a₆ ≡ putKeep a c b x l r
 unfolding putKeep putNodes
 six-puts a c b x l r e e₁ e₂ e₃ e₄ e₅ e₆ = rw (e₆, e₅, e₄, e₃, e₂, e₁, e, step-is b) (simp towards-suc)

@@ -71,7 +71,7 @@ putNodes a c (k ∷ ks) = putNodes (putNode a c k) (suc c) ks
 -- own node.
 abbrev pub keepNodes : ℕ → Bool → ℕ → ℕ → ℕ → List Node
 keepNodes c b x l r =
-    Name x ∷ Time true c (stepOf b) 0 ∷ Pair Sign.And r (c + 1) ∷ Pair Sign.Or l (c + 2) ∷ Pair Sign.Iff c (c + 3) ∷ Keep b l r x ∷ []
+    Name x ∷ Pair Sign.And r c ∷ Pair Sign.Or l (c + 1) ∷ Time true (c + 2) (stepOf b) 0 ∷ Pair Sign.Iff c (c + 3) ∷ Keep b l r x ∷ []
 
 -- The buffer with that.
 unfoldable pub putKeep : List ℕ → ℕ → Bool → ℕ → ℕ → ℕ → List ℕ

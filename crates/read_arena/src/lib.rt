@@ -126,7 +126,7 @@ pub fn put_node(arena: &mut [u16], count: usize, node: Node)
 }
 
 // A since or an until with its arguments at left and right, past the first count nodes: first the five nodes of its hidden signal's
-// defining rule, x <=> A | (B & x@[-1,-1]) or with [1,1], then its own node.
+// defining rule, x <=> (A | (B & x))@[-1,-1] or with [1,1], then its own node.
 pub fn put_keep(arena: &mut [u16], count: usize, since: bool, row: u16, left: usize, right: usize)
     requires { ⌜ NodeRoom (now arena) count 6 ⌝ }
     requires { ⌜ (left < count) × (right < count) ⌝ }
@@ -134,9 +134,9 @@ pub fn put_keep(arena: &mut [u16], count: usize, since: bool, row: u16, left: us
 {
     let step = pick_number(since, 63, 65);
     put_node(arena, count, Node::Name(row));
-    put_node(arena, count + 1, Node::Time(true, count, step, 0));
-    put_node(arena, count + 2, Node::Pair(Sign::And, right, count + 1));
-    put_node(arena, count + 3, Node::Pair(Sign::Or, left, count + 2));
+    put_node(arena, count + 1, Node::Pair(Sign::And, right, count));
+    put_node(arena, count + 2, Node::Pair(Sign::Or, left, count + 1));
+    put_node(arena, count + 3, Node::Time(true, count + 2, step, 0));
     put_node(arena, count + 4, Node::Pair(Sign::Iff, count, count + 3));
     put_node(arena, count + 5, Node::Keep(since, left, right, row));
 }

@@ -23,7 +23,8 @@ use Rattle.spec_tilco.proofs.Lists.{all-at, all-of, all-stays, found-ag
 use Rattle.spec_tilco.proofs.Derives.{cut, monotone}
 use Rattle.spec_tilco.proofs.Order.{row-count}
 use Rattle.spec_tilco.proofs.Sound.{signal-part, signal-holds, clash-excludes}
-use Rattle.spec_tilco.proofs.Shuffle.{weight, rules-size, AllIn, values-kept, clash-kept}
+use Rattle.spec_tilco.proofs.Counts.{weight, rules-size}
+use Rattle.spec_tilco.proofs.Shuffle.{AllIn, values-kept, clash-kept}
 use Rattle.spec_tilco.proofs.Demand2.{words-some, marks-tell, added-closed, added-facts}
 
 -- ---- calls one after the other

@@ -5,12 +5,14 @@ pub mod Demand3
 pub mod NotDropped
 pub mod OneWord
 pub mod Values
+pub mod Since
 pub mod Sense
 pub mod Derives
 pub mod Closing
 pub mod Sound
 pub mod Order
 pub mod Relocation
+pub mod Counts
 pub mod Shuffle
 pub mod Lists
 pub mod At

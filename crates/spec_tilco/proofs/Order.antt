@@ -62,7 +62,7 @@ module _ (S : ℕ → ℕ → Type 0) (steps : (b : Bool) → S (stepOf b) 0) wh
     plain-low x (Written.keep b f g) d h s = omega arith
 
     defining-low : (b : Bool) (x : ℕ) (f g : Formula) → x < m → Low f → Low g → Low (defining b x f g)
-    defining-low b x f g h p q s = ((h, (p s, (q s, (steps b, h)))), ((p (not s), (q (not s), (steps b, h))), h))
+    defining-low b x f g h p q s = search (h, p s, q s, p (not s), q (not s), steps b)
 
     abbrev AllWithin : List Formula → Type 0
     AllWithin fs = All (Within S m) (lows fs)

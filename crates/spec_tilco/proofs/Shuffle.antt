@@ -1,22 +1,23 @@
 -- The rows of a sheet's rules are found among those of any sheet that has these rules, in whatever order and however often.
 -- Assumes that every name is declared.
 use mathlib.Core.Path.{_≡_, refl, sym, _∙_, ap, subst}
-use mathlib.Core.Bool.{Bool, true, false, not}
+use mathlib.Core.Bool.{Bool, true}
 use mathlib.Core.List.{List, [], _∷_, _++_, map-append, List·Memᴰ, List·Memᴰ·head, List·Memᴰ·tail, List·Memᴰ·not-nil, List·Memᴰ·append-cases, Memᴰ·append-left, Memᴰ·append-right}
 use mathlib.Core.Logic.{_⊎_, inl, inr}
-use Prim.Native.Nat.{ℕ, suc, _+_, _<_}
+use Prim.Native.Nat.{ℕ, _+_, _<_}
 use native.Mathlib.Nat.{zero-add}
 use native.Mathlib.Omega.{arith}
 use lib.ListN.{replicate, length-replicate}
 use Rattle.spec_tilco.specs.Lists.{All, total, laid}
-use Rattle.spec_tilco.specs.Formula.{Op, And, Or, Implies, Iff, Written, Formula, hiddens, overSignals, defining, definings, spelled, Sheet, signalRows, withRules, Named, Declared}
+use Rattle.spec_tilco.specs.Formula.{Written, hiddens, spelled, Sheet, signalRows, withRules, Named, Declared}
 use Rattle.spec_tilco.specs.Inference.{Node, signal, Program, node, Mark, mark, Marks, One, down-left, down-right, up-left, up-right, look-down, look-up, not-down, not-up, Two, up-both, rest-right, rest-left, Derives, start, top, one, two, Clash}
-use Rattle.spec_tilco.specs.Lowering.{BTL, lit, paired, lowered, size, topOf, rowsOf, rowsAll, topsAll, lows, program}
+use Rattle.spec_tilco.specs.Lowering.{BTL, lowered, size, topOf, rowsOf, rowsAll, topsAll, lows, program}
 use Rattle.spec_tilco.specs.Table.{Leads}
-use Rattle.spec_tilco.proofs.Lists.{total-append, laid-append}
+use Rattle.spec_tilco.proofs.Lists.{laid-append}
 use Rattle.spec_tilco.proofs.At.{At, at-left, at-right, at-append, at-self}
 use Rattle.spec_tilco.proofs.Rows.{length-rowsAll, every-row}
 use Rattle.spec_tilco.proofs.Relocation.{Kept, Slides, rows-kept, tops-kept, rule-ren}
+use Rattle.spec_tilco.proofs.Counts.{weight, rule-size, lowsAll}
 use Rattle.spec_tilco.proofs.Place.{Part, place, Follows, from-zero, here, later, past}
 
 -- ---- programs: what one leads to, another leads to that has its rows
@@ -53,65 +54,6 @@ module _ {P Q : Program} {f : ℕ → ℕ} (F : Carries P Q f) where
   carried g (top {r} i h) = top (F .tops r i) h
   carried g (one r d) = one (one-renamed r) (carried g d)
   carried g (two r d e) = two (two-renamed r) (carried g d) (carried g e)
-
--- ---- how many rows a rule comes to
-
--- With its defining rules; how its hidden signals are numbered makes no difference.
-abbrev pub weight : Written → ℕ
-weight w = total size (lows (spelled w 0))
-
-paired-size : (o : Op) (s : Bool) (f g f′ g′ : Bool → BTL) → ((z : Bool) → size (f z) ≡ size (f′ z)) → ((z : Bool) → size (g z) ≡ size (g′ z)) → size (paired o s f g) ≡ size (paired o s f′ g′)
-paired-size And s f g f′ g′ p q = omega (arith, p s, q s)
-paired-size Or s f g f′ g′ p q = omega (arith, p s, q s)
-paired-size Implies s f g f′ g′ p q = omega (arith, p (not s), q s)
-paired-size Iff s f g f′ g′ p q = omega (arith, p (not s), q s, q (not s), p s)
-
-lit-size : (s : Bool) (x y : ℕ) → size (lit s x) ≡ size (lit s y)
-lit-size true x y = refl
-lit-size false x y = refl
-
-plain-size : (x y : ℕ) (w : Written) (s : Bool) → size (lowered s (overSignals x w)) ≡ size (lowered s (overSignals y w))
-plain-size x y (Written.name z) s = refl
-plain-size x y (Written.neg f) s = plain-size x y f (not s)
-plain-size x y (Written.pair o f g) s =
-    paired-size o s (λ z. lowered z (overSignals x f)) (λ z. lowered z (overSignals (x + hiddens f) g)) (λ z. lowered z (overSignals y f)) (λ z. lowered z (overSignals (y + hiddens f) g))
-    (plain-size x y f) (plain-size (x + hiddens f) (y + hiddens f) g)
-plain-size x y (Written.time u lo n f) s = omega (arith, plain-size x y f s)
-plain-size x y (Written.keep b f g) s = lit-size s x y
-
-defining-size : (b : Bool) (x y : ℕ) (f f′ g g′ : Formula) → ((z : Bool) → size (lowered z f) ≡ size (lowered z f′)) → ((z : Bool) → size (lowered z g) ≡ size (lowered z g′))
-    → size (lowered true (defining b x f g)) ≡ size (lowered true (defining b y f′ g′))
-defining-size b x y f f′ g g′ p q = omega (arith, p true, p false, q true, q false)
-
-lows-size : (fs gs : List Formula) → total size (lows (fs ++ gs)) ≡ total size (lows fs) + total size (lows gs)
-lows-size fs gs = ap (total size) (map-append (lowered true) fs gs) ∙ total-append size (lows fs) (lows gs)
-
-definings-size : (x y : ℕ) (w : Written) → total size (lows (definings x w)) ≡ total size (lows (definings y w))
-definings-size x y (Written.name z) = refl
-definings-size x y (Written.neg f) = definings-size x y f
-definings-size x y (Written.pair o f g) =
-    omega (arith, lows-size (definings x f) (definings (x + hiddens f) g), lows-size (definings y f) (definings (y + hiddens f) g), definings-size x y f, definings-size (x + hiddens f) (y + hiddens f) g)
-definings-size x y (Written.time u lo n f) = definings-size x y f
-definings-size x y (Written.keep b f g) =
-    omega (
-      arith,
-      defining-size b x y (overSignals (suc x) f) (overSignals (suc y) f) (overSignals (suc x + hiddens f) g) (overSignals (suc y + hiddens f) g) (plain-size (suc x) (suc y) f) (plain-size (suc x + hiddens f) (suc y + hiddens f) g),
-      lows-size (definings (suc x) f) (definings (suc x + hiddens f) g),
-      lows-size (definings (suc y) f) (definings (suc y + hiddens f) g),
-      definings-size (suc x) (suc y) f,
-      definings-size (suc x + hiddens f) (suc y + hiddens f) g,
-    )
-
-rule-size : (x : ℕ) (w : Written) → total size (lows (spelled w x)) ≡ weight w
-rule-size x w = omega (arith, plain-size x 0 w true, definings-size x 0 w)
-
--- All that rules are lowered to, their hidden signals numbered from x.
-abbrev pub lowsAll : List Written → ℕ → List BTL
-lowsAll ws x = lows (laid hiddens spelled ws x)
-
-pub rules-size : (x : ℕ) (ws : List Written) → total size (lowsAll ws x) ≡ total weight ws
-rules-size x [] = refl
-rules-size x (w ∷ ws) = omega (arith, lows-size (spelled w x) (laid hiddens spelled ws (x + hiddens w)), rule-size x w, rules-size (x + hiddens w) ws)
 
 -- ---- where a rule of a list has its hidden signals and its rows
 

@@ -1,15 +1,15 @@
--- What formulas mean: and, or, @, ?, since and until, said with "every", "some" and one tick's step.
+-- What formulas mean: and, or, @ and ?, said with "every" and "some".
 -- Assumes nothing.
 use mathlib.Core.Path.{_≡_, refl, sym, _∙_, ap}
 use mathlib.Core.Logic.{_⊎_, inl, inr, _↔_}
-use mathlib.Core.Bool.{Bool, true, false, not, _&&_, _||_}
+use mathlib.Core.Bool.{Bool, true, false, not}
 use Prim.Native.Nat.{ℕ, zero, suc, _+_, _≤_}
 use native.Mathlib.Nat.{add-zero}
 use native.Mathlib.Decide.{decLe}
 use native.Mathlib.Omega.{arith}
-use lib.IntN.{ℤ, pos, negℤ, _+ℤ_, _-ℤ_, +ℤ-assoc}
-use Rattle.spec_tilco.specs.Formula.{Iff, Formula, stepOf, defining}
-use Rattle.spec_tilco.specs.Meaning.{History, atOffset, gateOf, span, opOf, value}
+use lib.IntN.{ℤ}
+use Rattle.spec_tilco.specs.Formula.{Formula}
+use Rattle.spec_tilco.specs.Meaning.{History, atOffset, gateOf, span, value}
 
 -- ---- a gate's value u is both children's; its other value is one child's
 
@@ -51,7 +51,7 @@ other-left true false y h k = refl
 other-left false true y h k = refl
 other-left false false y h k = sym k ∙ h
 
-either-side : (u x y : Bool) → gateOf u x y ≡ not u → (x ≡ not u) ⊎ (y ≡ not u)
+pub either-side : (u x y : Bool) → gateOf u x y ≡ not u → (x ≡ not u) ⊎ (y ≡ not u)
 either-side true true y e = inr e
 either-side true false y e = inl refl
 either-side false true y e = inl refl
@@ -98,29 +98,3 @@ pub sometime-means : (h : History) (f : Formula) (lo n : ℕ) (t : ℤ)
     → (value h (Formula.time false lo n f) t ≡ true) ↔ ((j : ℕ) × (j ≤ n) × (value h f (atOffset t (lo + j)) ≡ true))
 sometime-means h f lo n t =
     (at-some false (λ k. value h f (atOffset t k)) lo n, λ r. of-some false (λ k. value h f (atOffset t k)) lo n (r .0) (r .1) (r .2))
-
--- ---- since and until
-
-iff-same : (x y : Bool) → opOf Iff x y ≡ true → x ≡ y
-iff-same true true h = refl
-iff-same true false h = sym h
-iff-same false true h = h
-iff-same false false h = refl
-
-tick-before : (t : ℤ) → atOffset t 63 ≡ t -ℤ pos 1
-tick-before t = +ℤ-assoc t (pos 63) (negℤ (pos 64))
-
-tick-after : (t : ℤ) → atOffset t 65 ≡ t +ℤ pos 1
-tick-after t = +ℤ-assoc t (pos 65) (negℤ (pos 64))
-
-module _ (h : History) (x : ℕ) (f g : Formula) (t : ℤ) where
-  recursion : (b : Bool) (s : ℤ) → atOffset t (stepOf b) ≡ s → value h (defining b x f g) t ≡ true → h x t ≡ value h f t || (value h g t && h x s)
-  recursion b s e d = iff-same _ _ d ∙ ap (λ (z : ℤ). value h f t || (value h g t && h x z)) e
-
-  -- since(A,B) is A, or B with since(A,B) a tick before.
-  pub since-means : value h (defining true x f g) t ≡ true → h x t ≡ value h f t || (value h g t && h x (t -ℤ pos 1))
-  since-means = recursion true (t -ℤ pos 1) (tick-before t)
-
-  -- until(A,B) is A, or B with until(A,B) a tick after.
-  pub until-means : value h (defining false x f g) t ≡ true → h x t ≡ value h f t || (value h g t && h x (t +ℤ pos 1))
-  until-means = recursion false (t +ℤ pos 1) (tick-after t)

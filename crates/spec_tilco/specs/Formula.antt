@@ -62,18 +62,22 @@ abbrev pub stepOf : Bool → ℕ
 stepOf true = 63
 stepOf false = 65
 
--- "since(A,B) adds the rule x <=> A | (B & x@[-1,-1]); until(A,B) the same with [1,1]" (004, section 4.1).
+-- "since(A,B) adds x <=> (A | (B & x))@[-1,-1], and until the same with [1,1]" (E2; 004, section 2.1).
 abbrev pub defining : Bool → ℕ → Formula → Formula → Formula
-defining b x f g = Formula.pair Iff (sig x) (Formula.pair Or f (Formula.pair And g (Formula.time true (stepOf b) 0 (sig x))))
+defining b x f g = Formula.pair Iff (sig x) (Formula.time true (stepOf b) 0 (Formula.pair Or f (Formula.pair And g (sig x))))
 
--- The defining rules of a rule's hidden signals, each once, in the order written.
+-- The defining rules of a rule's hidden signals, each once, in the order written, where `rule` gives each.
+abbrev pub definingsBy : (Bool → ℕ → Formula → Formula → Formula) → ℕ → Written → List Formula
+definingsBy rule x (Written.name y) = []
+definingsBy rule x (Written.neg f) = definingsBy rule x f
+definingsBy rule x (Written.pair o f g) = definingsBy rule x f ++ definingsBy rule (x + hiddens f) g
+definingsBy rule x (Written.time u lo n f) = definingsBy rule x f
+definingsBy rule x (Written.keep b f g) =
+    rule b x (overSignals (suc x) f) (overSignals (suc x + hiddens f) g) ∷ definingsBy rule (suc x) f ++ definingsBy rule (suc x + hiddens f) g
+
+-- The defining rules of a rule's hidden signals.
 abbrev pub definings : ℕ → Written → List Formula
-definings x (Written.name y) = []
-definings x (Written.neg f) = definings x f
-definings x (Written.pair o f g) = definings x f ++ definings (x + hiddens f) g
-definings x (Written.time u lo n f) = definings x f
-definings x (Written.keep b f g) =
-    defining b x (overSignals (suc x) f) (overSignals (suc x + hiddens f) g) ∷ definings (suc x) f ++ definings (suc x + hiddens f) g
+definings = definingsBy defining
 
 -- "Each rule is followed by the defining rules of its hidden signals."
 abbrev pub spelled : Written → ℕ → List Formula

@@ -2,8 +2,10 @@
 pub mod Lists
 pub mod Formula
 pub mod Meaning
+pub mod Since
 pub mod Inference
 pub mod Lowering
+pub mod Former
 pub mod Table
 pub mod Calls
 pub mod Short

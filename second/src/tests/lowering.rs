@@ -54,15 +54,15 @@ fn looks_come_before_joins() {
 #[test]
 fn a_defining_rule_follows_its_rule() {
     let lowered = rows("a b", &["!since(a,b)", "a"]);
-    // Rows: 0 a, 1 b, 2 x, 3 not x (the rule), then x <=> a | (b & x@[-1,-1]).
-    let truly = [Not(2), Look(2, -1), And(1, 5), Or(0, 6), Or(4, 7)];
+    // Rows: 0 a, 1 b, 2 x, 3 not x (the rule), then x <=> (a | (b & x))@[-1,-1].
+    let truly = [Not(2), And(1, 2), Or(0, 5), Look(6, -1), Or(4, 7)];
     let falsely = [
         Not(0),
         Not(1),
         Not(2),
-        Look(11, -1),
-        Or(10, 12),
-        And(9, 13),
+        Or(10, 11),
+        And(9, 12),
+        Look(13, -1),
         Or(14, 2),
         And(8, 15),
     ];
@@ -75,13 +75,10 @@ fn a_defining_rule_follows_its_rule() {
 fn hidden_signals_outer_before_inner() {
     let lowered = rows("a b", &["since(until(a,b),a)", "until(b,a)"]);
     assert_eq!(&lowered.nodes[..5], [Signal; 5]);
-    let looks: Vec<&Node> = lowered
-        .nodes
-        .iter()
-        .filter(|node| matches!(node, Look(_, _)))
-        .collect();
-    assert_eq!(looks[0], &Look(2, -1));
-    assert_eq!(looks[2], &Look(3, 1));
-    assert_eq!(looks[4], &Look(4, 1));
+    // A defining rule adds 13 rows; the first four are not x, B & x, A or that, and the look.
+    let defined = |first: usize| &lowered.nodes[first..first + 4];
+    assert_eq!(defined(5), [Not(2), And(0, 2), Or(3, 6), Look(7, -1)]);
+    assert_eq!(defined(18), [Not(3), And(1, 3), Or(0, 19), Look(20, 1)]);
+    assert_eq!(defined(31), [Not(4), And(0, 4), Or(1, 32), Look(33, 1)]);
     assert_eq!((lowered.tops[0], lowered.tops[3]), (2, 4));
 }

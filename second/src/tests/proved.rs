@@ -107,5 +107,5 @@ fn p10_since() {
         (3, "b", 0),
     ];
     let listed = settled(&sheet(4, "a b c", &["c<=>since(a,b)"]), &readings(&all));
-    assert_eq!(listed, "facts=8 clash=0 a ?100 b ??10 c ?110");
+    assert_eq!(listed, "facts=7 clash=0 a ?100 b ??10 c ??11");
 }

@@ -15,10 +15,7 @@ add-put-node : tie.Need-add-put-node
 add-put-node c = search needs
 
 put-node-requires-2 : tie.Need-put-node-requires-2
-put-node-requires-2 c κs =
-    let p = c .before .before .before .before .before in
-    let s = picked-right (p .before .before .args .since) (p .pick-number .ensures) in
-    (search needs, (search needs, s .0, s .1))
+put-node-requires-2 c κs = search needs
 
 add-put-node-2 : tie.Need-add-put-node-2
 add-put-node-2 c = search needs
@@ -36,7 +33,10 @@ add-t18-2 : tie.Need-add-t18-2
 add-t18-2 c = search needs
 
 put-node-requires-4 : tie.Need-put-node-requires-4
-put-node-requires-4 c κs = search needs
+put-node-requires-4 c κs =
+    let at-pick-number = c .before .before .before .before .before .before .before .before .before .before .before .before .before in
+    let s = picked-right (at-pick-number .before .before .args .since) (at-pick-number .pick-number .ensures) in
+    (search needs, (search needs, s .0, s .1))
 
 add-put-node-4 : tie.Need-add-put-node-4
 add-put-node-4 c = search needs
