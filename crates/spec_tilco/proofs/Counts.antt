@@ -5,15 +5,12 @@ use mathlib.Core.Bool.{Bool, true, false, not}
 use mathlib.Core.List.{List, [], _∷_, _++_, map-append}
 use Prim.Native.Nat.{ℕ, suc, _+_}
 use native.Mathlib.Omega.{arith}
-use lib.ListN.{length-append, replicate, length-replicate}
 use Rattle.spec_tilco.specs.Lists.{total, laid}
 use Rattle.spec_tilco.specs.Formula.{Op, And, Or, Implies, Iff, Written, Formula, hiddens, overSignals, defining, definingsBy, spelled, Sheet, signalRows}
-use Rattle.spec_tilco.specs.Inference.{signal}
-use Rattle.spec_tilco.specs.Lowering.{BTL, lit, paired, lowered, size, rowsAll, lows, rowCount}
+use Rattle.spec_tilco.specs.Lowering.{BTL, lit, paired, lowered, size, lows, rowCount}
 use Rattle.spec_tilco.specs.Former.{formerDefining, formerFormulas, formerRowCount}
 use Rattle.spec_tilco.proofs.Lists.{total-append}
-use Rattle.spec_tilco.proofs.Rows.{length-rowsAll}
-use Rattle.spec_tilco.proofs.Order.{row-count}
+use Rattle.spec_tilco.proofs.Order.{rows-counted, row-count}
 
 -- A rule's rows, with those of its defining rules.
 abbrev pub weight : Written → ℕ
@@ -111,9 +108,11 @@ rules-size = sizes-by defining defining-size
 
 -- "Row counts stay" (E2): every sheet has as many rows as with the former rule.
 pub row-counts-stay : (s : Sheet) → rowCount s ≡ formerRowCount s
-row-counts-stay s = row-count s ∙ omega (arith, rules-size (s .signals) (s .rules), former)
-  where
-    former : formerRowCount s ≡ signalRows s + total weight (s .rules)
-    former =
-        length-append (replicate (signalRows s) signal) (rowsAll (lows (formerFormulas s)) (signalRows s))
-        ∙ omega (arith, length-replicate (signalRows s) signal, length-rowsAll (lows (formerFormulas s)) (signalRows s), sizes-by formerDefining former-size (s .signals) (s .rules))
+row-counts-stay s =
+    omega (
+      arith,
+      row-count s,
+      rules-size (s .signals) (s .rules),
+      rows-counted (signalRows s) (lows (formerFormulas s)),
+      sizes-by formerDefining former-size (s .signals) (s .rules),
+    )

@@ -6,11 +6,11 @@ use mathlib.Core.List.{List, [], _∷_, _++_, map-append, List·Memᴰ, List·Me
 use mathlib.Core.Logic.{_⊎_, inl, inr}
 use Prim.Native.Nat.{ℕ, zero, suc, _+_, _<_, _≤_}
 use native.Mathlib.Omega.{arith}
-use lib.ListN.{length-append, replicate, length-replicate, getD-replicate, List·getD-append}
+use lib.ListN.{length, length-append, replicate, length-replicate, getD-replicate, List·getD-append}
 use Rattle.spec_tilco.specs.Lists.{All, total, laid}
 use Rattle.spec_tilco.specs.Formula.{Op, And, Or, Implies, Iff, Written, Formula, hiddens, overSignals, stepOf, defining, definings, spelled, Sheet, signalRows, formulas, Named, Spans, Declared}
 use Rattle.spec_tilco.specs.Inference.{Node, signal, notOf, gate, look, node}
-use Rattle.spec_tilco.specs.Lowering.{BTL, lit, join, timed, paired, lowered, size, joined, topOf, rowsAll, topsAll, lows, program, rowCount}
+use Rattle.spec_tilco.specs.Lowering.{BTL, lit, join, timed, paired, lowered, size, joined, topOf, rowsAll, topsAll, assembled, lows, program, rowCount}
 use Rattle.spec_tilco.proofs.Lists.{all-append, all-weaker}
 use Rattle.spec_tilco.proofs.Rows.{Along, Each, all-along, every-row, length-rowsAll}
 
@@ -168,6 +168,10 @@ module _ (S : ℕ → ℕ → Type 0) (m : ℕ) where
   each-within [] b w = tt
   each-within (c ∷ cs) b w = (w .0, each-within cs (b + size c) (w .1))
 
+-- The rows of a program are the signals' and then each formula's.
+pub rows-counted : (m : ℕ) (cs : List BTL) → length (assembled m cs .rows) ≡ m + total size cs
+rows-counted m cs = length-append (replicate m signal) (rowsAll cs m) ∙ omega (arith, length-replicate m signal, length-rowsAll cs m)
+
 module _ (s : Sheet) where
   abbrev m : ℕ
   m = signalRows s
@@ -175,9 +179,8 @@ module _ (s : Sheet) where
   abbrev cs : List BTL
   cs = lows (formulas s)
 
-  -- The rows are the signals' and then each formula's.
   pub row-count : rowCount s ≡ m + total size cs
-  row-count = length-append (replicate m signal) (rowsAll cs m) ∙ omega (arith, length-replicate m signal, length-rowsAll cs m)
+  row-count = rows-counted m cs
 
   -- The first rows are the signals'.
   pub signal-row : (x : ℕ) → x < m → node (program s) x ≡ signal

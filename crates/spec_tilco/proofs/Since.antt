@@ -9,8 +9,8 @@ use native.Mathlib.Nat.{add-zero}
 use native.Mathlib.Decide.{decLe}
 use native.Mathlib.Omega.{arith}
 use lib.IntN.{ℤ, pos, negsuc, negℤ, _+ℤ_, _-ℤ_, +ℤ-assoc, +ℤ-idr, +ℤ-negℤ-cancel}
-use Rattle.spec_tilco.specs.Formula.{Iff, Written, Formula, hiddens, overSignals, stepOf, defining, definings, spelled, Sheet, signalRows}
 use Rattle.spec_tilco.specs.Lists.{total, laid}
+use Rattle.spec_tilco.specs.Formula.{Iff, Written, Formula, hiddens, overSignals, stepOf, defining, definings, spelled, Sheet, signalRows}
 use Rattle.spec_tilco.specs.Meaning.{History, atOffset, opOf, value, Obeys}
 use Rattle.spec_tilco.specs.Since.{away, aOrBAndX, AtEvery, AllAlong, KeptOver, Hides, Inside}
 use Rattle.spec_tilco.proofs.Values.{both-left, both-right, of-both, of-left, of-right, either-side}
