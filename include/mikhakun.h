@@ -5,18 +5,20 @@
  *
  * You owe what the proof assumes of a caller: behind each pointer lies memory of the length given, no two of one call overlap, nobody else
  * writes there during the call, and no pointer is null, also where its length is 0. The texts, the table's words and the numbers may be
- * anything at all. A call needs 64 KB (65,536 bytes) of stack: the deepest sheets that are known take 63,848.
+ * anything at all. A call needs 72 KB (73,728 bytes) of stack: the deepest sheets that are known take 72,040.
  *
- * The table. A sheet of `rows` rows (see mikhakun_check) has a table of 2 * rows words, and words of zeros are the empty one. Row x is that of
- * signal x, numbered from 0 in sheet order; the rows of hidden signals and of the parts of rules follow. Word 2 * r has the ticks at which row
- * r is true, word 2 * r + 1 those at which it is false; bit t, of value 2 to the t, is tick t.
+ * The table. With n the fewest words that have a bit for each tick of the window, (window + 63) / 64, a sheet of `rows` rows (see mikhakun_check)
+ * has a table of 2 * rows * n words, and words of zeros are the empty one. Row x is that of signal x, numbered from 0 in sheet order; the rows of
+ * hidden signals and of the parts of rules follow. The n words from 2 * r * n on have the ticks at which row r is true, the n words after them those
+ * at which it is false. Tick t is bit t % 64, of value 2 to the t % 64, in word t / 64 of the n. So in a window up to 64, word 2 * r has the ticks
+ * at which row r is true, word 2 * r + 1 those at which it is false, and bit t is tick t.
  *
  * An example, with the sheet and the readings in `sheet` and `readings`:
  *
  *     uint64_t rows, fresh, clash, value, place;
  *     uint64_t number = mikhakun_check(sheet, sheet_len, &rows, &place);
  *     if (number != 0) return refused(number, place);
- *     size_t words = 2 * rows;
+ *     size_t words = mikhakun_words(rows, mikhakun_window(sheet));
  *     uint64_t *table = calloc(words, sizeof *table);
  *     number = mikhakun_add(sheet, sheet_len, readings, readings_len, table, words, &fresh, &clash, &place);
  *     if (number != 0) return refused(number, place);
@@ -35,11 +37,12 @@ extern "C" {
 #endif
 
 /* The numbers of refusal. A place is counted in bytes from 0: for 2 to 8 in the sheet, for 11 to 14 in the readings, and else it is 0. Of a line
- * it is the first byte, or the text's length where the line is missing; of a value, a name, an interval or a sign its first byte. */
+ * it is the first byte, or the text's length where the line is missing; of a value, a name, an interval or a sign its first byte. No function here
+ * answers 29: the program `settle` prints it, after 9, for a sheet whose table has over 8,192 words. */
 enum {
     MIKHAKUN_SHEET_TOO_LONG = 1,     /* the sheet is over 32,768 bytes */
     MIKHAKUN_SHEET_LINE = 2,         /* a sheet line is missing, not of its form, out of order or without LF; or bytes follow the last line */
-    MIKHAKUN_OUT_OF_RANGE = 3,       /* window, signals or rules is outside its range: the value */
+    MIKHAKUN_OUT_OF_RANGE = 3,       /* window is outside 1 to 4,096, signals outside 1 to 64 or rules outside 0 to 64: the value */
     MIKHAKUN_SIGNAL_NAME = 4,        /* a signal's name is not of its form, reserved or given twice: the value */
     MIKHAKUN_RULE = 5,               /* a rule's length is outside 1 to 256: the value; or its formula does not fit: what cannot follow */
     MIKHAKUN_NOT_DECLARED = 6,       /* a rule has a name that is not declared: the name */
@@ -51,8 +54,8 @@ enum {
     MIKHAKUN_UNKNOWN_NAME = 12,      /* a reading names no signal of the sheet: the value */
     MIKHAKUN_OUTSIDE_WINDOW = 13,    /* a reading's tick is outside the window: the value */
     MIKHAKUN_NOT_0_OR_1 = 14,        /* a reading's value is a number other than 0 or 1: the value */
-    MIKHAKUN_TABLE_LENGTH = 15,      /* the table's length is not twice the row count */
-    MIKHAKUN_TABLE_MARK = 16,        /* the table has a mark at a tick outside the window */
+    MIKHAKUN_TABLE_LENGTH = 15,      /* the table's length is not 2 * rows * n */
+    MIKHAKUN_TABLE_MARK = 16,        /* the table has a mark at a tick outside the window, in the last of a row's n true or n false words */
     MIKHAKUN_NO_SUCH_CELL = 17       /* ask: the signal or the tick is outside its range */
 };
 
@@ -66,6 +69,20 @@ enum {
 
 /* Checks a sheet: writes how many rows it has. Refusals 1 to 9. */
 uint64_t mikhakun_check(const uint8_t *sheet, size_t sheet_len, uint64_t *rows, uint64_t *place);
+
+/* The window of a sheet, the number in its first line. You owe a sheet that mikhakun_check accepts: this reads up to that line's LF. */
+static inline uint64_t mikhakun_window(const uint8_t *sheet)
+{
+    uint64_t window = 0;
+    for (sheet += sizeof "window=" - 1; *sheet != '\n'; sheet++) window = 10 * window + (uint64_t)(*sheet - '0');
+    return window;
+}
+
+/* The length of a table, 2 * rows * n. */
+static inline uint64_t mikhakun_words(uint64_t rows, uint64_t window)
+{
+    return 2 * rows * ((window + 63) / 64);
+}
 
 /* Adds readings to the table and closes it: it then has exactly what the published inference rules lead to from the sheet, the readings and
  * what it held. Writes how many facts (marks of declared signals) are new, and 1 for a clash, 0 for none. Refusals 1 to 9, 15, 16, 10 to 14, in

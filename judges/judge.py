@@ -19,6 +19,8 @@ from sheet import Rows, Sheet
 
 RULES = pathlib.Path(__file__).with_name("rules.lp")
 MARK = re.compile(r"(true|false)\((\d+),(\d+)\)")
+# Of so many cases the judges are shown wrong answers first: judges/borders, of several words, and an example.
+SHOWN_WRONG = 2
 
 
 class Case:
@@ -28,9 +30,9 @@ class Case:
         case = json.loads(line)
         self.text = f"{case['name']}\n--- sheet.txt\n{case['sheet']}--- readings.txt\n{case['readings']}---\n"
         self.sheet = Sheet(case["sheet"])
-        self.held = marks_of(case["held"])
+        self.held = marks_of(case["held"], self.sheet.words)
         self.given = self.held | set(self.sheet.readings(case["readings"]))
-        self.marks = marks_of(case["table"])
+        self.marks = marks_of(case["table"], self.sheet.words)
         self.clash = case["clash"]
 
     def shown(self):
@@ -38,8 +40,10 @@ class Case:
         return self.text + "".join(f"the lent table has row {row}, tick {tick}, {value}\n" for row, tick, value in sorted(self.held))
 
 
-def marks_of(words):
-    return {(place // 2, tick, place % 2 == 0) for place, word in enumerate(words) for tick in range(64) if word >> tick & 1}
+def marks_of(table, words):
+    """Each row has so many words for its true marks, then as many for its false marks, tick 0 first."""
+    bits = ((place // words, 64 * (place % words) + bit) for place, word in enumerate(table) for bit in range(64) if word >> bit & 1)
+    return {(block // 2, tick, block % 2 == 0) for block, tick in bits}
 
 
 def run(command, text, statuses):
@@ -178,10 +182,12 @@ def objections(case, counts):
 
 
 def must_object(case):
-    """Each judge is shown wrong answers first: a mark taken away, a mark put in where a signal is unsettled, a clash told."""
-    right, free = case.marks, {(0, 0, True)}
-    assert right and not case.clash and not free & right
-    for judge, wrong, clash in [("clingo", right - {min(right)}, 0), ("clingo", right | free, 0), ("clingo", right, 1),
+    """Each judge is shown wrong answers: a mark of the last tick that has one taken away, a mark put in at the window's last tick, where the
+    first signal is unsettled, a clash told."""
+    right, free = case.marks, {(0, case.sheet.window - 1, True)}
+    latest = max(right, key=lambda mark: mark[1])
+    assert not case.clash and not free & right
+    for judge, wrong, clash in [("clingo", right - {latest}, 0), ("clingo", right | free, 0), ("clingo", right, 1),
                                 ("cadical", right | free, 0), ("cadical", right, 1)]:
         case.marks, case.clash = wrong, clash
         if not any(said.startswith(judge) for said in objections(case, Counter())):
@@ -193,9 +199,10 @@ def main():
     counts, failed = Counter(), 0
     for number, line in enumerate(sys.stdin):
         case = Case(line)
-        if number == 0:
+        if number < SHOWN_WRONG:
             must_object(case)
         counts["cases"] += 1
+        counts["of several words"] += case.sheet.words > 1
         counts["marks"] += len(case.marks)
         said = objections(case, counts)
         if said:
@@ -204,7 +211,7 @@ def main():
     for what, count in counts.items():
         print(f"{what}: {count}")
     print(f"{counts['cases'] - failed} passed, {failed} failed")
-    sys.exit(failed > 0 or not counts["cases"])
+    sys.exit(failed > 0 or not counts["of several words"])
 
 
 main()

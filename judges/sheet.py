@@ -10,11 +10,12 @@ TOKEN = re.compile(r"[a-z][a-z0-9]*|<=>|=>|-?[0-9]+|.")
 
 
 class Sheet:
-    """The window, the signals' names, how many signals there are with the hidden ones, and all rules, each followed by its defining rules."""
+    """The window, the words that cover it, the signals' names, how many signals there are with the hidden ones, and all rules, each followed by its defining rules."""
 
     def __init__(self, text):
         lines = text.splitlines()
         self.window = int(lines[0].removeprefix("window="))
+        self.words = (self.window + 63) // 64
         self.names = [line.removeprefix("signal=") for line in lines if line.startswith("signal=")]
         self.signals = len(self.names)
         self.rules = []

@@ -23,12 +23,23 @@ if [ "$(uname -m)" != x86_64 ]; then
   from_debian /lib64/ld-linux-x86-64.so.2 libc6:amd64
 fi
 
+# up_to_date FILE NAME COMMAND..: has the command build the file if it is missing or older than a source.
+up_to_date() {
+  [ ! -f "$1" ] || [ -n "$(find crates crates.txt -newer "$1" | head -n 1)" ] || return 0
+  command -v rt >/dev/null || stop "the Rattle kit is needed to build the $2, and its program rt is not on the path"
+  said=$("${@:3}" 2>&1) || stop "$said"
+}
+
 # Brings the static library up to date: sets `library`.
 library_for_x86_64() {
   library=target/staticlib/libc_api.a
-  [ ! -f "$library" ] || [ -n "$(find crates crates.txt -newer "$library" | head -n 1)" ] || return 0
-  command -v rt >/dev/null || stop "the Rattle kit is needed to build the static library, and its program rt is not on the path"
-  said=$(rt staticlib c_api 2>&1) || stop "$said"
+  up_to_date "$library" "static library" rt staticlib c_api
+}
+
+# Brings the listing program up to date: sets `settle`.
+settle_for_x86_64() {
+  settle=target/bin/settle
+  up_to_date "$settle" "listing program" rt check settle
 }
 
 # Says how Rust is built for x86-64: sets `cargo` and `target`. On another processor a Rust without the std for x86-64 gives way to Debian's.

@@ -104,7 +104,7 @@ fn sentence_at(refusal: Refusal, spot: &Spot<'_>) -> &'static str {
         2 | 11 if spot.past_the_text => "a line is missing here",
         2 => "this line is not of its form, out of order or without LF, or it follows the last line",
         11 => "this line is not of its form or without LF",
-        3 if spot.bytes.starts_with(b"window=") => "the window is 1 to 64 ticks",
+        3 if spot.bytes.starts_with(b"window=") => "the window is 1 to 4,096 ticks",
         3 if spot.bytes.starts_with(b"signals=") => "a sheet has 1 to 64 signals",
         3 if spot.bytes.starts_with(b"rules=") => "a sheet has 0 to 64 rules",
         5 if is_rule_of_wrong_length(spot) => "a rule has 1 to 256 bytes",

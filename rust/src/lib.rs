@@ -62,7 +62,8 @@ pub struct Added {
 ///
 /// ```
 /// assert_eq!(mikhakun::check(b"window=1\nsignals=1\nsignal=a\nrules=0\n"), Ok(1));
-/// assert_eq!(mikhakun::check(b"window=65\n").unwrap_err().number(), 3);
+/// assert_eq!(mikhakun::check(b"window=65\nsignals=1\nsignal=a\nrules=0\n"), Ok(1));
+/// assert_eq!(mikhakun::check(b"window=4097\n").unwrap_err().number(), 3);
 /// ```
 pub fn check(sheet: &[u8]) -> Result<usize, Refusal> {
     let (mut rows, mut place) = (0, 0);

@@ -65,7 +65,7 @@ impl Refusal {
             12 => "no signal of the sheet has this name",
             13 => "the tick is outside the window",
             14 => "the value is a number other than 0 or 1",
-            15 => "the table's length is not twice the sheet's row count",
+            15 => "the table's length is not that of the sheet's rows and window",
             16 => "the table has a mark at a tick outside the window",
             17 => "the signal or the tick asked for is outside its range",
             _ => "there is no refusal of this number",

@@ -73,7 +73,7 @@ fn added(sheet: &[u8], readings: &[u8], table: &mut Table) -> Vec<String> {
 
 #[test]
 fn every_call_has_the_answer_of_the_gate() {
-    let (mut sheet, mut table, mut calls) = (Vec::new(), Table::empty(0), 0);
+    let (mut sheet, mut table, mut calls) = (Vec::new(), Table::empty(0, 0), 0);
     for entry in entries() {
         let answer = match entry.kind() {
             "sheet" => {

@@ -9,7 +9,7 @@ const HEAD: &str = "window=4\nsignals=1\nsignal=a\nrules=1\nrule=";
 
 fn refused_sheet(sheet: &[u8]) -> Refusal {
     let refusal = check(sheet).unwrap_err();
-    let mut table = Table::empty(0);
+    let mut table = Table::empty(0, 0);
     assert_eq!(add(sheet, b"", &mut table), Err(refusal));
     assert_eq!(ask(sheet, &table, 0, 0), Err(refusal));
     refusal
@@ -66,7 +66,7 @@ fn a_sheet_line() {
 
 #[test]
 fn a_number_outside_its_range() {
-    sheet_case(3, "window=65\n", 7, "sheet, line 1, column 8: the window is 1 to 64 ticks (refusal 3)\n    window=65\n           ^");
+    sheet_case(3, "window=4097\n", 7, "sheet, line 1, column 8: the window is 1 to 4,096 ticks (refusal 3)\n    window=4097\n           ^");
     sheet_case(
         3,
         "window=1\nsignals=0\n",
@@ -164,7 +164,7 @@ fn a_readings_line() {
 fn a_table() {
     let rows = check(SHEET).unwrap();
     let mut short = Table::from(vec![0; 2 * rows - 1]);
-    let length = "the table's length is not twice the sheet's row count";
+    let length = "the table's length is not that of the sheet's rows and window";
     placeless(add(SHEET, b"", &mut short).unwrap_err(), 15, length);
     placeless(ask(SHEET, &short, 0, 0).unwrap_err(), 15, length);
     let mut words = vec![0; 2 * rows];

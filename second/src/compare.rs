@@ -3,26 +3,72 @@
 use crate::generate::{case, Call, Case};
 use crate::library::{self, Outcome, UNWRITTEN};
 use crate::operations::{self, Added};
-use crate::text::Refusal;
+use crate::table::block_words;
+use crate::tally::{ended, Tally};
+use crate::text::{sheet, Refusal};
+use std::ops::RangeInclusive;
 use std::process::ExitCode;
 
 /// Words before and after the lent table that no call may change.
 const GUARD: [u64; 2] = [0xA5A5_5A5A_A5A5_5A5A, 0x0123_4567_89AB_CDEF];
 /// How many differing cases are printed in full.
 const MOST_PRINTED: u64 = 5;
-/// From so many cases on, every refusal number must have been seen in so many of them.
+/// From so many cases on, every number and every kind of window must have been seen in so many of them.
 const ENOUGH_CASES: u64 = 20_000;
 const ENOUGH_SEEN: u64 = 50;
 
-/// In how many cases each number was answered.
-type Seen = [u64; 18];
+/// The numbers that a call may answer: 0 and the refusals.
+const NUMBERS: usize = 18;
+/// Kinds of windows, by the words that cover them.
+const WINDOWS: [(&str, RangeInclusive<usize>); 4] = [
+    ("1", 1..=1),
+    ("2", 2..=2),
+    ("3 to 63", 3..=63),
+    ("64", 64..=64),
+];
+
+/// In how many cases each number was answered, and an add with each kind of window was accepted.
+struct Seen {
+    numbers: Tally,
+    windows: Tally,
+}
+
+impl Seen {
+    /// None yet, of so many cases.
+    fn none(cases: u64) -> Self {
+        let least = if cases < ENOUGH_CASES { 0 } else { ENOUGH_SEEN };
+        let numbers = (0..NUMBERS).map(|number| (number.to_string(), least));
+        let windows = WINDOWS.iter().map(|(words, _)| (words.to_string(), least));
+        Seen {
+            numbers: Tally::new(
+                "cases in which each number was answered (0 is acceptance)",
+                numbers,
+            ),
+            windows: Tally::new(
+                "cases in which an add was accepted, by the words that cover the window",
+                windows,
+            ),
+        }
+    }
+
+    /// Counts a case by its answers, and by the window if an add was accepted.
+    fn count(&mut self, answered: [bool; NUMBERS], window: Option<usize>) {
+        for number in (0..NUMBERS).filter(|&number| answered[number]) {
+            self.numbers.met(number);
+        }
+        let words = window.map_or(0, block_words);
+        for kind in (0..WINDOWS.len()).filter(|&kind| WINDOWS[kind].1.contains(&words)) {
+            self.windows.met(kind);
+        }
+    }
+}
 
 pub fn run(count: u64, seed: u64) -> ExitCode {
     if !library::LINKED {
         eprintln!("second: built without the library, so there is nothing to compare with");
         return ExitCode::from(2);
     }
-    let mut seen = [0; 18];
+    let mut seen = Seen::none(count);
     let mut failed = 0;
     for number in 0..count {
         let case = case(seed, number);
@@ -33,35 +79,16 @@ pub fn run(count: u64, seed: u64) -> ExitCode {
             }
         }
     }
-    let rare = print_seen(&seen, count);
-    println!("{} passed, {} failed", count - failed, failed + rare);
-    if failed + rare == 0 {
-        ExitCode::SUCCESS
-    } else {
-        ExitCode::from(1)
-    }
-}
-
-/// Prints the counts; answers how many numbers were seen too seldom.
-fn print_seen(seen: &Seen, count: u64) -> u64 {
-    println!("cases in which each number was answered (0 is acceptance):");
-    let mut rare = 0;
-    for (number, cases) in seen.iter().enumerate() {
-        let too_few = count >= ENOUGH_CASES && *cases < ENOUGH_SEEN;
-        rare += u64::from(too_few);
-        println!(
-            "{number:4} {cases:7}{}",
-            if too_few { "  too few" } else { "" }
-        );
-    }
-    rare
+    let rare = seen.numbers.print() + seen.windows.print();
+    ended(count, failed, rare)
 }
 
 /// Makes the calls of one case on both sides; a difference is answered as a text that can be pasted.
 fn compare(case: &Case, seen: &mut Seen) -> Result<(), String> {
     let mut ours = case.table.clone();
     let mut theirs = [&GUARD[..], &case.table, &GUARD].concat();
-    let mut answered = [false; 18];
+    let mut answered = [false; NUMBERS];
+    let mut window = None;
     for call in &case.calls {
         let before = ours.clone();
         let expected = our_outcome(&case.sheet, call, &mut ours);
@@ -73,10 +100,11 @@ fn compare(case: &Case, seen: &mut Seen) -> Result<(), String> {
             return Err(pasteable(&case.sheet, call, &before, sides));
         }
         answered[expected.answer as usize] = true;
+        if expected.answer == 0 && matches!(call, Call::Add { .. }) {
+            window = sheet::read(&case.sheet).ok().map(|sheet| sheet.window);
+        }
     }
-    for (count, answered) in seen.iter_mut().zip(answered) {
-        *count += u64::from(answered);
-    }
+    seen.count(answered, window);
     Ok(())
 }
 

@@ -2,8 +2,14 @@
 
 use crate::generate::{case, Call, Case};
 use crate::library;
+use crate::operations::read;
+use crate::table::length;
 use std::path::Path;
 use std::process::ExitCode;
+
+/// The judges' time goes with rows times window. Generated cases with more of it than 1,024 rows of 64 ticks are left out, so
+/// windows of thousands of ticks come with few rows only.
+const MOST_CELLS: usize = 1_024 * 64;
 
 /// The folders' cases, then the first `count` generated ones that the library accepts.
 pub fn run(count: u64, seed: u64, folders: &[&str]) -> ExitCode {
@@ -17,10 +23,12 @@ pub fn run(count: u64, seed: u64, folders: &[&str]) -> ExitCode {
         }
     }
     let generated = (0..).filter_map(|number| {
-        line(
-            &format!("case {number} of seed {seed}"),
-            &case(seed, number),
-        )
+        let case = case(seed, number);
+        let (rows, window) = size(&case.sheet);
+        if rows * window > MOST_CELLS {
+            return None;
+        }
+        line(&format!("case {number} of seed {seed}"), &case)
     });
     for line in generated.take(count as usize) {
         println!("{line}");
@@ -28,20 +36,20 @@ pub fn run(count: u64, seed: u64, folders: &[&str]) -> ExitCode {
     ExitCode::SUCCESS
 }
 
+/// How many rows the sheet has, and how many ticks its window; of a refused sheet none.
+fn size(sheet: &[u8]) -> (usize, usize) {
+    read(sheet).map_or((0, 0), |(sheet, rows)| (rows.nodes.len(), sheet.window))
+}
+
 /// The sheet and readings of a folder, added to an empty table.
 fn of_folder(folder: &Path) -> Case {
     let file = |name: &str| std::fs::read(folder.join(name)).unwrap_or_default();
     let sheet = file("sheet.txt");
-    let checked = library::check(&sheet);
-    let rows = if checked.answer == 0 {
-        checked.outputs[0]
-    } else {
-        0
-    };
+    let (rows, window) = size(&sheet);
     let readings = file("readings.txt");
     Case {
         sheet,
-        table: vec![0; 2 * rows as usize],
+        table: vec![0; length(rows, window)],
         calls: vec![Call::Add { readings }],
     }
 }

@@ -24,9 +24,33 @@ impl Marks {
         self.cells[row * self.window + tick][usize::from(value)] = true;
     }
 
+    /// Every mark that is there, as row, tick and value.
+    pub fn all(&self) -> impl Iterator<Item = (usize, usize, bool)> + '_ {
+        let cells = self.cells.iter().enumerate();
+        let marked = cells.filter(|(_, cell)| **cell != [false; 2]);
+        marked.flat_map(|(place, cell)| {
+            let (row, tick) = (place / self.window, place % self.window);
+            let values = [false, true].into_iter();
+            let marked = values.filter(|&value| cell[usize::from(value)]);
+            marked.map(move |value| (row, tick, value))
+        })
+    }
+
     /// Whether some row has both marks at one tick.
     pub fn clash(&self) -> bool {
         self.cells.contains(&[true, true])
+    }
+
+    /// What ask answers for each tick of the row: 0 unsettled, 1 true, 2 false; 3 everywhere if any row clashes.
+    pub fn values(&self, row: usize) -> Vec<u64> {
+        if self.clash() {
+            return vec![3; self.window];
+        }
+        let cells = &self.cells[row * self.window..(row + 1) * self.window];
+        let value = |&[marked_false, marked_true]: &[bool; 2]| {
+            u64::from(marked_true) + 2 * u64::from(marked_false)
+        };
+        cells.iter().map(value).collect()
     }
 
     /// How many marks the first rows have.
@@ -39,21 +63,15 @@ impl Marks {
 /// The least closed marks that hold `start` and every top at every tick.
 pub fn close(rows: &Rows, start: &Marks) -> Marks {
     let mut closing = Closing::new(rows, start.window);
-    for row in 0..rows.nodes.len() {
-        for tick in 0..start.window {
-            for value in [false, true] {
-                if start.has(row, tick, value) {
-                    closing.mark(row, tick, value);
-                }
-            }
-        }
+    for (row, tick, value) in start.all() {
+        closing.mark(row, tick, value);
     }
     for &top in &rows.tops {
         for tick in 0..start.window {
             closing.mark(top, tick, true);
         }
     }
-    while let Some((row, tick)) = closing.waiting.pop() {
+    while let Some((row, tick)) = closing.next() {
         closing.apply(row, tick);
     }
     closing.marks
@@ -62,10 +80,12 @@ pub fn close(rows: &Rows, start: &Marks) -> Marks {
 struct Closing<'a> {
     rows: &'a Rows,
     marks: Marks,
-    /// For each row the nodes that have it as a child.
-    parents: Vec<Vec<usize>>,
-    /// The nodes and ticks at which a rule may have something new to give.
+    /// For each row the nodes that have it as a child, each with the offset at which it looks at the child.
+    parents: Vec<Vec<(usize, i64)>>,
+    /// The nodes and ticks at which a rule may have something new to give, each once.
     waiting: Vec<(usize, usize)>,
+    /// For each row and tick in turn, whether it waits.
+    waits: Vec<bool>,
 }
 
 impl<'a> Closing<'a> {
@@ -74,10 +94,11 @@ impl<'a> Closing<'a> {
         for (row, node) in rows.nodes.iter().enumerate() {
             match *node {
                 Node::Signal => {}
-                Node::Not(child) | Node::Look(child, _) => parents[child].push(row),
+                Node::Not(child) => parents[child].push((row, 0)),
+                Node::Look(child, offset) => parents[child].push((row, offset)),
                 Node::And(left, right) | Node::Or(left, right) => {
-                    parents[left].push(row);
-                    parents[right].push(row);
+                    parents[left].push((row, 0));
+                    parents[right].push((row, 0));
                 }
             }
         }
@@ -87,6 +108,7 @@ impl<'a> Closing<'a> {
             marks,
             parents,
             waiting: vec![],
+            waits: vec![false; rows.nodes.len() * window],
         }
     }
 
@@ -96,16 +118,28 @@ impl<'a> Closing<'a> {
             return;
         }
         self.marks.set(row, tick, value);
-        self.waiting.push((row, tick));
-        for &parent in &self.parents[row] {
-            let there = match self.rows.nodes[parent] {
-                Node::Look(_, offset) => within(tick, -offset, self.marks.window),
-                _ => Some(tick),
-            };
-            if let Some(there) = there {
-                self.waiting.push((parent, there));
+        self.wait(row, tick);
+        for place in 0..self.parents[row].len() {
+            let (parent, offset) = self.parents[row][place];
+            if let Some(there) = within(tick, -offset, self.marks.window) {
+                self.wait(parent, there);
             }
         }
+    }
+
+    fn wait(&mut self, row: usize, tick: usize) {
+        let waits = &mut self.waits[row * self.marks.window + tick];
+        if !*waits {
+            *waits = true;
+            self.waiting.push((row, tick));
+        }
+    }
+
+    /// Takes one of those that wait.
+    fn next(&mut self) -> Option<(usize, usize)> {
+        let (row, tick) = self.waiting.pop()?;
+        self.waits[row * self.marks.window + tick] = false;
+        Some((row, tick))
     }
 
     /// Every rule of this node at this tick.

@@ -1,7 +1,11 @@
 //! The listing of a sheet and its readings after one add to an empty table.
 
-use crate::operations::{add, ask, check, Added};
-use crate::text::{sheet, Refusal};
+use crate::operations::{add, read, Added};
+use crate::table;
+use crate::text::{refuse, Refusal};
+
+/// The most words of a table that is listed.
+pub const MOST_WORDS: usize = 8_192;
 
 pub fn listing(sheet: &[u8], readings: &[u8]) -> String {
     match accepted(sheet, readings) {
@@ -11,19 +15,23 @@ pub fn listing(sheet: &[u8], readings: &[u8]) -> String {
 }
 
 fn accepted(text: &[u8], readings: &[u8]) -> Result<String, Refusal> {
-    let rows = check(text)?;
-    let mut table = vec![0; 2 * rows as usize];
+    let (sheet, rows) = read(text)?;
+    let rows = rows.nodes.len();
+    let words = table::length(rows, sheet.window);
+    if words > MOST_WORDS {
+        return refuse(29, 0);
+    }
+    let mut table = vec![0; words];
     let Added { new_facts, clash } = add(text, readings, &mut table)?;
-    let sheet = sheet::read(text)?;
+    let marks = table::marks_of(&table, rows, sheet.window)?;
     let mut lines = format!("answer=0\nrows={rows}\nfacts={new_facts}\nclash={clash}\n");
     for (signal, name) in sheet.names.iter().enumerate() {
-        let mut marks = String::new();
-        for tick in 0..sheet.window {
-            let value = ask(text, &table, signal as u64, tick as u64)?;
-            marks.push(['?', '1', '0', 'x'][value as usize]);
-        }
-        let name = String::from_utf8_lossy(name);
-        lines += &format!("signal={name}\nmarks={marks}\n");
+        let values = marks.values(signal);
+        let signs = values
+            .iter()
+            .map(|&value| ['?', '1', '0', 'x'][value as usize]);
+        let (name, signs) = (String::from_utf8_lossy(name), signs.collect::<String>());
+        lines += &format!("signal={name}\nmarks={signs}\n");
     }
     Ok(lines)
 }

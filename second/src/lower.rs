@@ -23,7 +23,7 @@ pub struct Rows {
 }
 
 const MOST_HIDDEN: usize = 32;
-const MOST_ROWS: usize = 1024;
+pub const MOST_ROWS: usize = 1024;
 
 pub fn lower(sheet: &Sheet) -> Result<Rows, Refusal> {
     if sheet.hidden.len() > MOST_HIDDEN {

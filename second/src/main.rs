@@ -1,4 +1,5 @@
-//! The second program: `second compare [COUNT] [SEED]`, `second settle FOLDER` and `second export COUNT SEED FOLDER..`.
+//! The second program: `second compare [COUNT] [SEED]`, `second listings COUNT SEED COMMAND..`, `second settle FOLDER` and
+//! `second export COUNT SEED FOLDER..`.
 
 mod compare;
 mod export;
@@ -6,8 +7,11 @@ mod generate;
 mod infer;
 mod library;
 mod listing;
+mod listings;
 mod lower;
 mod operations;
+mod table;
+mod tally;
 #[cfg(test)]
 mod tests;
 mod text;
@@ -15,8 +19,8 @@ mod text;
 use std::path::Path;
 use std::process::ExitCode;
 
-const USAGE: &str =
-    "usage: second compare [COUNT] [SEED] | second settle FOLDER | second export COUNT SEED FOLDER..";
+const USAGE: &str = "usage: second compare [COUNT] [SEED] | second listings COUNT SEED COMMAND.. \
+                     | second settle FOLDER | second export COUNT SEED FOLDER..";
 
 fn main() -> ExitCode {
     let words: Vec<String> = std::env::args().skip(1).collect();
@@ -26,6 +30,11 @@ fn main() -> ExitCode {
         ["compare"] => compare::run(20_000, 1),
         ["compare", count] => with_numbers(count, "1", compare::run),
         ["compare", count, seed] => with_numbers(count, seed, compare::run),
+        ["listings", count, seed, ref command @ ..] if !command.is_empty() => {
+            with_numbers(count, seed, |count, seed| {
+                listings::run(count, seed, command)
+            })
+        }
         ["export", count, seed, ref folders @ ..] => {
             with_numbers(count, seed, |count, seed| export::run(count, seed, folders))
         }

@@ -1,4 +1,4 @@
-/* Checks the shipped example, adds its readings, asks, and is refused, through the static library.
+/* Checks the shipped example, adds its readings, asks, and is refused, through the static library; then the same over windows of several words.
  * Prints what differs from what is wanted, and 'N passed, M failed' at the end. */
 #include "mikhakun.h"
 
@@ -84,7 +84,78 @@ static void clash_is_told(uint64_t *table) {
     same("the contradiction", value, MIKHAKUN_CONTRADICTION);
 }
 
+/* A sheet of such a window whose rule carries a mark of a to b a tick later, or one of b back, and its empty table. */
+typedef struct {
+    char text[80];
+    uint64_t window, row_words, rows, words, *table;
+} Wide;
+
+static Wide wide_sheet(uint64_t window) {
+    Wide wide = {.window = window, .row_words = (window + 63) / 64, .rows = UNWRITTEN};
+    uint64_t place = UNWRITTEN;
+    sprintf(wide.text, "window=%llu\nsignals=2\nsignal=a\nsignal=b\nrules=1\nrule=a=>b@[1,1]\n", (unsigned long long)window);
+    same("check of a wide window", mikhakun_check(bytes(wide.text), strlen(wide.text), &wide.rows, &place), 0);
+    same("the window in the sheet", mikhakun_window(bytes(wide.text)), window);
+    wide.words = mikhakun_words(wide.rows, window);
+    same("words of a table", wide.words, 2 * 5 * wide.row_words);
+    wide.table = calloc(wide.words, sizeof *wide.table);
+    if (wide.table == NULL)
+        exit(2);
+    return wide;
+}
+
+/* Adds a reading to the empty table: it gives one fact more, of row `row` in the words of `value`, at `tick`. */
+static void carries(Wide *wide, const char *reading, uint64_t row, uint64_t value, uint64_t tick) {
+    uint64_t fresh = UNWRITTEN, clash = UNWRITTEN, found = UNWRITTEN, place = UNWRITTEN;
+    memset(wide->table, 0, wide->words * sizeof *wide->table);
+    same("add to a wide table", mikhakun_add(bytes(wide->text), strlen(wide->text), bytes(reading), strlen(reading), wide->table, wide->words, &fresh, &clash, &place), 0);
+    same("facts over a border", fresh, 2);
+    same("clash over a border", clash, 0);
+    uint64_t block = 2 * row + (value == MIKHAKUN_FALSE);
+    same("the word over a border", wide->table[block * wide->row_words + tick / 64], (uint64_t)1 << tick % 64);
+    same("ask over a border", mikhakun_ask(bytes(wide->text), strlen(wide->text), wide->table, wide->words, row, tick, &found, &place), 0);
+    same("value over a border", found, value);
+    same("place over a border", place, UNWRITTEN);
+}
+
+/* Add and ask refuse a table of this length by this number, and it keeps every word. */
+static void table_refused(Wide *wide, uint64_t words, uint64_t number) {
+    uint64_t fresh = UNWRITTEN, clash = UNWRITTEN, value = UNWRITTEN, place = UNWRITTEN;
+    uint64_t *before = malloc(wide->words * sizeof *before);
+    if (before == NULL)
+        exit(2);
+    memcpy(before, wide->table, wide->words * sizeof *before);
+    same("add to a wrong table", mikhakun_add(bytes(wide->text), strlen(wide->text), bytes(""), 0, wide->table, words, &fresh, &clash, &place), number);
+    same("ask a wrong table", mikhakun_ask(bytes(wide->text), strlen(wide->text), wide->table, words, 0, 0, &value, &place), number);
+    same("place of a wrong table", place, 0);
+    same("wrong table unchanged", (uint64_t)memcmp(before, wide->table, wide->words * sizeof *before), 0);
+    free(before);
+}
+
+/* Marks over the first border of words, forward and back; a table as long as a narrow window's; a mark just past the window in a row's last false word. */
+static void wide_window(uint64_t window) {
+    Wide wide = wide_sheet(window);
+    carries(&wide, "at=63\nsignal=a\nvalue=1\n", 1, MIKHAKUN_TRUE, 64);
+    carries(&wide, "at=64\nsignal=b\nvalue=0\n", 0, MIKHAKUN_FALSE, 63);
+    table_refused(&wide, 2 * wide.rows, MIKHAKUN_TABLE_LENGTH);
+    if (window % 64 != 0) {
+        wide.table[2 * 3 * wide.row_words - 1] |= (uint64_t)1 << window % 64;
+        table_refused(&wide, wide.words, MIKHAKUN_TABLE_MARK);
+    }
+    free(wide.table);
+}
+
+/* The window after the widest is refused at its number. */
+static void too_wide(void) {
+    static const char sheet[] = "window=4097\nsignals=1\nsignal=a\nrules=0\n";
+    uint64_t rows = UNWRITTEN, place = UNWRITTEN;
+    same("check of too wide a window", mikhakun_check(bytes(sheet), strlen(sheet), &rows, &place), MIKHAKUN_OUT_OF_RANGE);
+    same("rows of too wide a window", rows, UNWRITTEN);
+    same("place of too wide a window", place, strlen("window="));
+}
+
 int main(void) {
+    static const uint64_t windows[] = {65, 127, 128, 129, 192, 1440, 4095, 4096};
     uint64_t *table = calloc(30, sizeof *table);
     if (table == NULL)
         return 2;
@@ -94,6 +165,9 @@ int main(void) {
     refusals_keep_the_table(table);
     clash_is_told(table);
     free(table);
+    for (size_t i = 0; i < sizeof windows / sizeof *windows; i++)
+        wide_window(windows[i]);
+    too_wide();
     printf("%d passed, %d failed\n", passed, failed);
     return failed != 0;
 }

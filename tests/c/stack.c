@@ -1,5 +1,7 @@
-/* How much stack a call takes: check, add and ask run on a painted stack, on sheets whose one rule is as deep as a rule can be, in many ways.
- * Prints the most that each took, and 'N passed, M failed' at the end: a call passes if it never took more than include/mikhakun.h asks for. */
+/* How much stack a call takes: check, add and ask run on a painted stack, on sheets whose one rule is as deep as a rule can be, in many ways. The rules
+ * that took most are tried again over the widest window, whose table is 64 times as long, and there one with the most rows.
+ * Prints the most that each took, and 'N passed, M failed' at the end: a call passes if it never took more than include/mikhakun.h asks for, the rule
+ * of the most rows if it has them. */
 #define _POSIX_C_SOURCE 200809L
 #include "mikhakun.h"
 
@@ -8,7 +10,7 @@
 #include <string.h>
 #include <ucontext.h>
 
-enum { ASKED = 64 * 1024, STACK = 2 * ASKED, PAINT = 0xA5, LONGEST_RULE = 256, MOST_OPEN = 32, MOST_WORDS = 2 * 1024 };
+enum { ASKED = 72 * 1024, STACK = 2 * ASKED, PAINT = 0xA5, LONGEST_RULE = 256, MOST_OPEN = 32, MOST_ROWS = 1024, NARROW = 64, WIDEST = 4096 };
 
 /* What is put around a rule's core, over and over; what the core is; and what fills the rest of the rule behind it. */
 static const struct { const char *open, *close; } NESTS[] = {
@@ -17,16 +19,19 @@ static const struct { const char *open, *close; } NESTS[] = {
 static const struct { const char *core, *fill; } ENDS[] = {{"a", "&a"}, {"a", "@[0,0]"}, {"since(a,a)", "&a"}};
 #define COUNT(list) (sizeof(list) / sizeof *(list))
 
+/* A signal, four times 127 looks and the 126 gates that join them, and 11 gates: MOST_ROWS rows. */
+static const char MANY_ROWS[] = "a@[-63,63]@[-63,63]@[-63,63]@[-63,63]&a&a&a&a&a&a&a&a&a&a&a";
+
 static uint8_t stack[STACK];
 static ucontext_t outside, inside;
 static char sheet[LONGEST_RULE + 64];
-static uint64_t table[MOST_WORDS], rows, place, fresh, clash, value, number;
+static uint64_t table[2 * MOST_ROWS * (WIDEST / 64)], words, rows, place, fresh, clash, value, number;
 
 static void check(void) { number = mikhakun_check((uint8_t *)sheet, strlen(sheet), &rows, &place); }
-static void add(void) { number = mikhakun_add((uint8_t *)sheet, strlen(sheet), (const uint8_t *)"", 0, table, 2 * rows, &fresh, &clash, &place); }
-static void ask(void) { number = mikhakun_ask((uint8_t *)sheet, strlen(sheet), table, 2 * rows, 0, 0, &value, &place); }
+static void add(void) { number = mikhakun_add((uint8_t *)sheet, strlen(sheet), (const uint8_t *)"", 0, table, words, &fresh, &clash, &place); }
+static void ask(void) { number = mikhakun_ask((uint8_t *)sheet, strlen(sheet), table, words, 0, 0, &value, &place); }
 
-static struct { const char *name; void (*call)(void); size_t most; char rule[LONGEST_RULE + 1]; } calls[] = {
+static struct { const char *name; void (*call)(void); size_t most; int window; char rule[LONGEST_RULE + 1]; } calls[] = {
     {.name = "check", .call = check}, {.name = "add", .call = add}, {.name = "ask", .call = ask},
 };
 
@@ -67,38 +72,42 @@ static int deep_rule(char *rule, size_t outer, size_t depth, size_t inner, size_
     return 1;
 }
 
-/* Makes each call on the sheet of this rule, which is accepted, but for its size. */
-static void try_rule(const char *rule)
+/* Makes each call on the sheet of this rule over this window, which is accepted, but for its size. The table is empty before and after. */
+static void try_rule(const char *rule, int window)
 {
-    sprintf(sheet, "window=64\nsignals=1\nsignal=a\nrules=1\nrule=%s\n", rule);
-    memset(table, 0, sizeof table);
+    sprintf(sheet, "window=%d\nsignals=1\nsignal=a\nrules=1\nrule=%s\n", window, rule);
     rows = 0;
     for (size_t i = 0; i < COUNT(calls); i++) {
         size_t taken = taken_by(calls[i].call);
+        words = mikhakun_words(rows, (uint64_t)window);
         if (number != 0 && number != MIKHAKUN_TOO_LARGE && number != MIKHAKUN_TOO_DEEP) {
             printf("%s of %s: refusal %llu\n0 passed, 1 failed\n", calls[i].name, rule, (unsigned long long)number);
             exit(1);
         }
         if (taken <= calls[i].most) continue;
         calls[i].most = taken;
+        calls[i].window = window;
         strcpy(calls[i].rule, rule);
     }
+    memset(table, 0, words * sizeof *table);
 }
 
 int main(void)
 {
     char rule[LONGEST_RULE + 1];
-    int failed = 0;
     memset(stack, PAINT, sizeof stack);
     for (size_t outer = 0; outer < COUNT(NESTS); outer++)
         for (size_t inner = 0; inner < COUNT(NESTS); inner++)
             for (size_t depth = 0; depth <= MOST_OPEN; depth++)
                 for (size_t end = 0; end < COUNT(ENDS); end++)
-                    if (deep_rule(rule, outer, depth, inner, end)) try_rule(rule);
+                    if (deep_rule(rule, outer, depth, inner, end)) try_rule(rule, NARROW);
+    for (size_t i = 0; i < COUNT(calls); i++) try_rule(strcpy(rule, calls[i].rule), WIDEST);
+    try_rule(MANY_ROWS, WIDEST);
+    int failed = rows != MOST_ROWS;
     for (size_t i = 0; i < COUNT(calls); i++) {
-        printf("%s took %zu bytes of stack at most, with the rule %s\n", calls[i].name, calls[i].most, calls[i].rule);
+        printf("%s took %zu bytes of stack at most, with window=%d and the rule %s\n", calls[i].name, calls[i].most, calls[i].window, calls[i].rule);
         failed += calls[i].most > ASKED;
     }
-    printf("%d passed, %d failed\n", (int)COUNT(calls) - failed, failed);
+    printf("%d passed, %d failed\n", (int)COUNT(calls) + 1 - failed, failed);
     return failed != 0;
 }

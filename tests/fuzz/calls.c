@@ -1,11 +1,12 @@
 /* One input of the fuzzer: a sheet, readings, a lent table and a question. It makes the calls and sees that each keeps what include/mikhakun.h
  * promises: what it may answer, what it writes and what it leaves. The first breach is told in a line and ends the program.
  *
- * The input is the sheet's bytes, a zero byte, the readings' bytes, a zero byte, and then, each a byte: the signal asked for, the tick, by how many
- * words the table is too long, and three for each mark of the table that is lent: where (two bytes) and its tick. What is missing counts as 0.
+ * The input is the sheet's bytes, a zero byte, the readings' bytes, a zero byte, and then, each a byte: the signal asked for, the tick in its word, that
+ * word, by how many words the table is too long, and three for each mark of the table that is lent: its word (two bytes) and its tick there. What is
+ * missing counts as 0. The longest tables take milliseconds to close, so an input in 32 is lent one, by its length; of the others such a sheet is only checked.
  *
  * The library is machine code that no sanitizer has prepared. So each text and table ends or begins where memory that nobody may touch begins
- * or ends, and the calls run above such memory too, on a stack of the 64 KB that a call may take and 2 for what makes it: a step too far in any of them is a crash. */
+ * or ends, and the calls run above such memory too, on a stack of the 72 KB that a call may take and 2 for what makes it: a step too far in any of them is a crash. */
 #define _GNU_SOURCE
 #include <stdio.h>
 #include <stdlib.h>
@@ -15,15 +16,15 @@
 
 #include "../../include/mikhakun.h"
 
-enum { PAGE = 4096, LONGEST_INPUT = 1 << 17, MOST_WORDS = 2 * 1024 + 255, STACK = (64 + 2) * 1024 };
+enum { PAGE = 4096, LONGEST_INPUT = 1 << 17, OFTEN_LENT = 2 * 1024 * 8, MOST_WORDS = 2 * 1024 * 64 + 255, STACK = (72 + 2) * 1024 };
 static const uint64_t UNWRITTEN = 0x5EC02D5EC02D5EC0;
 
 /* What the fuzzer is told beside the blocks of code that were reached: which answers were given, and how large the results were. */
 enum { CHECK = 0, ADD = 20, ASK = 40, ROWS = 60, FRESH = 80, VALUE = 100, KINDS = 120 };
 static uint8_t told[KINDS] __attribute__((section("__libfuzzer_extra_counters")));
 
-/* How many inputs there were, and in how many of them the sheet was accepted, and the add. */
-uint64_t inputs, sheets, adds;
+/* How many inputs there were, and in how many of them the sheet was accepted, the add, and an add to a table of several words a row and value. */
+uint64_t inputs, sheets, adds, wide_adds;
 
 static void must_hold(int holds, const char *what)
 {
@@ -57,7 +58,7 @@ static Area sheet_area, readings_area, table_area, stack_area;
 /* The input, taken apart. */
 typedef struct { const uint8_t *start; size_t len; } Text;
 static Text sheet, readings, rest;
-static int low;
+static int low, any_length;
 static const uint8_t *lent_sheet, *lent_readings;
 
 /* The bytes before the next zero byte, which are taken from `from`. */
@@ -88,6 +89,9 @@ static int bits(uint64_t number)
 /* The table, and a copy of what it held before a call. */
 static uint64_t before[MOST_WORDS], *table;
 static size_t words;
+
+/* An accepted sheet: how many signals it has, its window, and how many words a row has there for each value. */
+static uint64_t signals, window, row_words;
 
 static int table_kept(void) { return memcmp(before, table, 8 * words) == 0; }
 
@@ -150,15 +154,17 @@ static void lend_table(size_t length)
 {
     words = length;
     memset(before, 0, 8 * words);
-    for (size_t at = 3; words != 0 && at + 2 < rest.len; at += 3)
+    for (size_t at = 4; words != 0 && at + 2 < rest.len; at += 3)
         before[(rest.start[at] + 256u * rest.start[at + 1]) % words] |= (uint64_t)1 << (rest.start[at + 2] & 63);
     table = lend(table_area, before, 8 * words, low);
 }
 
+/* Is a row both true and false at one tick? Its false words stand after its true ones. */
 static int clashes(void)
 {
-    for (size_t at = 0; at + 1 < words; at += 2)
-        if (table[at] & table[at + 1]) return 1;
+    for (size_t row = 0; row < words; row += 2 * row_words)
+        for (size_t at = row; at < row + row_words; at++)
+            if (table[at] & table[at + row_words]) return 1;
     return 0;
 }
 
@@ -169,32 +175,37 @@ static uint64_t marks(const uint64_t *from, size_t count)
     return sum;
 }
 
-static int marked_outside(uint64_t window)
+/* Is there a mark past the window, in the last of a row's words for a value? */
+static int marked_outside(void)
 {
-    uint64_t outside = window < 64 ? ~(uint64_t)0 << window : 0;
-    for (size_t at = 0; at < words; at++)
-        if (table[at] & outside) return 1;
+    uint64_t outside = window % 64 == 0 ? 0 : ~(uint64_t)0 << window % 64;
+    for (size_t last = row_words - 1; last < words; last += row_words)
+        if (table[last] & outside) return 1;
     return 0;
 }
+
+static uint64_t signal_asked(void) { return number_at(0); }
+static uint64_t tick_asked(void) { return number_at(1) + 64 * number_at(2); }
 
 /* A refused sheet, or a table of a wrong length: add and ask give that refusal. */
 static void must_be_refused(uint64_t number, uint64_t place)
 {
-    Answer added = add(lent_readings, readings.len), asked = ask(number_at(0), number_at(1));
+    Answer added = add(lent_readings, readings.len), asked = ask(signal_asked(), tick_asked());
     MUST(added.number == number && added.place == place);
     MUST(asked.number == number && asked.place == place);
 }
 
 /* Ask tells what the table's words say. */
-static void must_be_told(uint64_t signals, uint64_t window)
+static void must_be_told(void)
 {
-    uint64_t signal = number_at(0), tick = number_at(1);
+    uint64_t signal = signal_asked(), tick = tick_asked();
     Answer a = ask(signal, tick);
     if (signal >= signals || tick >= window) {
         MUST(a.number == 17);
         return;
     }
-    int holds = table[2 * signal] >> tick & 1, fails = table[2 * signal + 1] >> tick & 1;
+    const uint64_t *word = table + 2 * signal * row_words + tick / 64;
+    int holds = word[0] >> tick % 64 & 1, fails = word[row_words] >> tick % 64 & 1;
     MUST(a.number == 0);
     MUST(a.value == (uint64_t)(clashes() ? MIKHAKUN_CONTRADICTION : holds ? MIKHAKUN_TRUE : fails ? MIKHAKUN_FALSE : MIKHAKUN_UNSETTLED));
     told[VALUE + a.value] = 1;
@@ -209,15 +220,34 @@ static void must_stay(const uint8_t *text, size_t len, uint64_t clash)
 }
 
 /* An accepted add: nothing is taken away or put outside the window, and the answers are those that the words give. */
-static void must_be_closed(Answer added, uint64_t signals, uint64_t window)
+static void must_be_closed(Answer added)
 {
     for (size_t at = 0; at < words; at++) MUST((before[at] & ~table[at]) == 0);
-    MUST(!marked_outside(window));
-    MUST(added.value == marks(table, 2 * signals) - marks(before, 2 * signals));
+    MUST(!marked_outside());
+    MUST(added.value == marks(table, 2 * signals * row_words) - marks(before, 2 * signals * row_words));
     MUST(added.clash == (uint64_t)clashes());
     told[FRESH + bits(added.value)] = 1;
     must_stay(lent_readings, readings.len, added.clash);
     must_stay(lend(readings_area, NULL, 0, low), 0, added.clash);
+}
+
+/* The numbers in an accepted sheet. */
+static void read_numbers(void)
+{
+    char *next;
+    window = strtoul((const char *)sheet.start + strlen("window="), &next, 10);
+    signals = strtoul(next + strlen("\nsignals="), NULL, 10);
+    row_words = window / 64 + (window % 64 != 0);
+    MUST(window >= 1 && window <= 4096);
+    MUST(mikhakun_window(lent_sheet) == window);
+}
+
+/* A table of another length than the sheet's is refused. */
+static void must_have_length(size_t lent, size_t length)
+{
+    if (lent == length) return;
+    lend_table(lent);
+    must_be_refused(15, 0);
 }
 
 static void accepted_sheet(uint64_t rows)
@@ -225,26 +255,25 @@ static void accepted_sheet(uint64_t rows)
     sheets++;
     MUST(rows >= 1 && rows <= 1024);
     told[ROWS + bits(rows)] = 1;
-    char *next;
-    uint64_t window = strtoul((const char *)sheet.start + strlen("window="), &next, 10);
-    uint64_t signals = strtoul(next + strlen("\nsignals="), NULL, 10);
-    uint64_t too_long = rest.len > 2 ? rest.start[2] : 0;
-    if (too_long != 0) {
-        lend_table(2 * rows + too_long);
-        must_be_refused(15, 0);
-    }
-    lend_table(2 * rows);
-    if (marked_outside(window)) {
+    read_numbers();
+    size_t length = mikhakun_words(rows, window), too_long = rest.len > 3 ? rest.start[3] : 0;
+    MUST(length == 2 * rows * row_words);
+    if (length > OFTEN_LENT && !any_length) return;
+    must_have_length(length + too_long, length);
+    must_have_length(2 * rows, length);
+    lend_table(length);
+    if (marked_outside()) {
         must_be_refused(16, 0);
         return;
     }
-    must_be_told(signals, window);
+    must_be_told();
     Answer added = add(lent_readings, readings.len);
     MUST(added.number == 0 || added.number >= 10);
     MUST(added.number != 15 && added.number != 16);
-    if (added.number == 0) must_be_closed(added, signals, window);
+    if (added.number == 0) must_be_closed(added);
     adds += added.number == 0;
-    must_be_told(signals, window);
+    wide_adds += added.number == 0 && row_words > 1;
+    must_be_told();
 }
 
 static ucontext_t outside, inside;
@@ -255,7 +284,7 @@ static void calls(void)
     if (checked.number == 0) {
         accepted_sheet(checked.value);
     } else {
-        lend_table(number_at(2) % MOST_WORDS);
+        lend_table(number_at(3) % OFTEN_LENT);
         must_be_refused(checked.number, checked.place);
     }
 }
@@ -274,6 +303,7 @@ int LLVMFuzzerTestOneInput(const uint8_t *data, size_t size)
     sheet = part(&rest);
     readings = part(&rest);
     low = size % 2;
+    any_length = size / 2 % 32 == 0;
     lent_sheet = lend(sheet_area, sheet.start, sheet.len, low);
     lent_readings = lend(readings_area, readings.start, readings.len, low);
     getcontext(&inside);

@@ -14,7 +14,7 @@
 
 int LLVMFuzzerTestOneInput(const uint8_t *data, size_t size);
 size_t LLVMFuzzerCustomMutator(uint8_t *data, size_t size, size_t most, unsigned seed);
-extern uint64_t inputs, sheets, adds;
+extern uint64_t inputs, sheets, adds, wide_adds;
 
 enum { LONGEST = 80000, HANGS_AFTER = 5 };
 static uint8_t input[LONGEST];
@@ -99,5 +99,5 @@ int main(int count, char **words)
             if (next_below(4) == 0) break;
         }
     }
-    printf("inputs: %lu, with an accepted sheet: %lu, with an accepted add: %lu\n", inputs, sheets, adds);
+    printf("inputs: %lu, with an accepted sheet: %lu, with an accepted add: %lu, of these over 64 ticks: %lu\n", inputs, sheets, adds, wide_adds);
 }

@@ -1,15 +1,18 @@
 //! The rule reader in plain Rust, for comparison. In a folder with sheet.txt and readings.txt:
-//! `baseline` prints the listing; `baseline N [read|check|take|add]` does one operation N times and prints what the last one answered.
+//! `baseline` prints the listing; `baseline N [read|check|take|add]` does one operation N times, prints what the last one answered, and then how many
+//! marks stand in the table.
 mod closing;
 mod formula;
 mod lowering;
 mod operations;
 mod readings;
 mod sheet;
+mod table;
 mod text;
 
-use operations::{add, check, take, Added};
-use text::Refusal;
+use operations::{add, check, empty_table, take, Added};
+use table::{count_marks, Ticks};
+use text::{refuse, Refusal};
 
 /// Hides a value from the compiler, as std::hint::black_box does in younger versions of Rust than Debian's.
 fn black_box<T>(mut value: T) -> T {
@@ -20,9 +23,10 @@ fn black_box<T>(mut value: T) -> T {
 
 /// One sign a tick, or `x` at each if there is a clash.
 fn marks(table: &[u64], signal: usize, window: usize, clash: bool) -> String {
-    let (yes, no) = (table[2 * signal], table[2 * signal + 1]);
+    let ticks = Ticks::of(window);
+    let (yes, no) = table[ticks.block(signal, 0)..ticks.block(signal + 1, 0)].split_at(ticks.words);
     (0..window)
-        .map(|t| match (yes >> t & 1, no >> t & 1) {
+        .map(|t| match (yes[t / 64] >> (t % 64) & 1, no[t / 64] >> (t % 64) & 1) {
             _ if clash => 'x',
             (1, _) => '1',
             (_, 1) => '0',
@@ -33,7 +37,10 @@ fn marks(table: &[u64], signal: usize, window: usize, clash: bool) -> String {
 
 fn listing(text: &[u8], readings: &[u8]) -> Result<String, Refusal> {
     let rows = check(text)?;
-    let mut table = vec![0; 2 * rows];
+    let mut table = empty_table(text)?;
+    if table.len() > 8192 {
+        return refuse(29, 0);
+    }
     let added = add(text, readings, &mut table)?;
     let sheet = sheet::read(text)?;
     let mut out = format!("answer=0\nrows={rows}\nfacts={}\nclash={}\n", added.new, added.clash as u8);
@@ -63,24 +70,29 @@ impl Answer {
     }
 }
 
-/// One operation on the two texts, with an empty table of so many rows where it wants one.
-fn once(operation: &str, text: &[u8], readings: &[u8], rows: usize) -> Result<Answer, Refusal> {
+fn emptied(table: &mut [u64]) -> &mut [u64] {
+    table.fill(0);
+    table
+}
+
+/// One operation on the two texts, with the table emptied first where it takes readings.
+fn once(operation: &str, text: &[u8], readings: &[u8], table: &mut [u64]) -> Result<Answer, Refusal> {
     Ok(match operation {
         "read" => Answer::Rules(black_box(sheet::read(text)?).rules.len()),
         "check" => Answer::Rows(check(text)?),
-        "take" => Answer::Before(black_box(take(text, readings, black_box(&mut vec![0; 2 * rows]))?).before),
-        _ => Answer::Added(add(text, readings, black_box(&mut vec![0; 2 * rows]))?),
+        "take" => Answer::Before(black_box(take(text, readings, emptied(table))?).before),
+        _ => Answer::Added(add(text, readings, emptied(table))?),
     })
 }
 
-/// One operation as often as asked: what the last one answered.
+/// One operation as often as asked: what the last one answered, and how many marks stand in the table then.
 fn runs(text: &[u8], readings: &[u8], times: usize, operation: &str) -> Result<String, Refusal> {
-    let rows = check(text)?;
-    let mut last = Answer::Rows(rows);
+    let mut table = empty_table(text)?;
+    let mut last = Answer::Rows(check(text)?);
     for _ in 0..times {
-        last = black_box(once(operation, black_box(text), black_box(readings), rows)?);
+        last = black_box(once(operation, black_box(text), black_box(readings), black_box(&mut table))?);
     }
-    Ok(last.text())
+    Ok(format!("{}marks={}\n", last.text(), count_marks(&table)))
 }
 
 fn main() {

@@ -3,12 +3,13 @@ use crate::closing::close;
 use crate::lowering::{lower, Program};
 use crate::readings;
 use crate::sheet;
+use crate::table::{count_marks, Ticks};
 use crate::text::{refuse, Refusal};
 
 /// The sheet's rows, the ticks of its window, how many signals it has, and the facts of the table before the readings.
 pub struct Taken {
     pub program: Program,
-    pub inside: u64,
+    pub ticks: Ticks,
     pub signals: usize,
     pub before: usize,
 }
@@ -24,43 +25,58 @@ pub fn check(text: &[u8]) -> Result<usize, Refusal> {
     Ok(lower(&sheet)?.rows.len())
 }
 
-fn facts(table: &[u64], signals: usize) -> usize {
-    table[..2 * signals].iter().map(|w| w.count_ones() as usize).sum()
+/// An empty table for the sheet.
+pub fn empty_table(text: &[u8]) -> Result<Vec<u64>, Refusal> {
+    let sheet = sheet::read(text)?;
+    let rows = lower(&sheet)?.rows.len();
+    Ok(vec![0; Ticks::of(sheet.window).block(rows, 0)])
+}
+
+fn facts(table: &[u64], ticks: Ticks, signals: usize) -> usize {
+    count_marks(&table[..ticks.block(signals, 0)])
 }
 
 /// Takes the readings into the table.
 pub fn take(text: &[u8], readings: &[u8], table: &mut [u64]) -> Result<Taken, Refusal> {
     let sheet = sheet::read(text)?;
     let program = lower(&sheet)?;
-    if table.len() != 2 * program.rows.len() {
+    let ticks = Ticks::of(sheet.window);
+    if table.len() != ticks.block(program.rows.len(), 0) {
         return refuse(15, 0);
     }
-    let inside = u64::MAX >> (64 - sheet.window);
-    if table.iter().any(|w| w & !inside != 0) {
+    let outside = |block: &[u64]| block[ticks.words - 1] & !ticks.last != 0;
+    if table.chunks_exact(ticks.words).any(outside) {
         return refuse(16, 0);
     }
     let marks = readings::read(readings, &sheet.names, sheet.window)?;
     let signals = sheet.names.len();
-    let before = facts(table, signals);
+    let before = facts(table, ticks, signals);
     for mark in marks {
-        table[2 * mark.signal + usize::from(!mark.value)] |= 1 << mark.tick;
+        table[ticks.block(mark.signal, usize::from(!mark.value)) + mark.tick / 64] |= 1 << (mark.tick % 64);
     }
     Ok(Taken {
         program,
-        inside,
+        ticks,
         signals,
         before,
     })
 }
 
+fn clashes((yes, no): (&[u64], &[u64])) -> bool {
+    yes.iter().zip(no).any(|(y, n)| y & n != 0)
+}
+
 /// Takes the readings into the table and closes it.
 pub fn add(text: &[u8], readings: &[u8], table: &mut [u64]) -> Result<Added, Refusal> {
     let taken = take(text, readings, table)?;
+    let ticks = taken.ticks;
     for &top in &taken.program.tops {
-        table[2 * top] |= taken.inside;
+        let (last, others) = table[ticks.block(top, 0)..ticks.block(top, 1)].split_last_mut().unwrap();
+        others.fill(u64::MAX);
+        *last = ticks.last;
     }
-    close(&taken.program.rows, taken.inside, table);
-    let new = facts(table, taken.signals) - taken.before;
-    let clash = table.chunks_exact(2).any(|row| row[0] & row[1] != 0);
+    close(&taken.program.rows, ticks, table);
+    let new = facts(table, ticks, taken.signals) - taken.before;
+    let clash = table.chunks_exact(2 * ticks.words).any(|row| clashes(row.split_at(ticks.words)));
     Ok(Added { new, clash })
 }

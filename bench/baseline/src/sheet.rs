@@ -30,7 +30,7 @@ pub fn read(text: &[u8]) -> Result<Sheet<'_>, Refusal> {
     if text.len() > 32768 {
         return refuse(1, 0);
     }
-    let (window, at) = number_line(text, 0, b"window=", (1, 64), 2, 3)?;
+    let (window, at) = number_line(text, 0, b"window=", (1, 4096), 2, 3)?;
     let (signals, at) = number_line(text, at, b"signals=", (1, 64), 2, 3)?;
     let (names, at) = names(text, signals, at)?;
     let (count, mut at) = number_line(text, at, b"rules=", (0, 64), 2, 3)?;

@@ -1,6 +1,6 @@
 // Runs one operation again and again, so that its instructions can be counted: on the sheet and the readings in the current folder, sheet.txt
 // and readings.txt, as often as the first argument says. The second argument is read (the sheet's text), check (it is lowered too), take (the readings
-// are taken too) or add. Prints what the last run answered.
+// are taken too) or add. Prints what the last run answered, and how many marks stand in the table then.
 mod answers;
 mod reading;
 mod taking;
@@ -11,16 +11,24 @@ use op_add::Adding;
 use op_add::add;
 use op_check::Checking;
 use op_check::check;
+use open_sheet::Opening;
+use open_sheet::open_sheet;
 use reading::read_sheet;
+use run_cases::print_number;
 use run_parts::TEXT;
 use run_parts::clear;
 use run_parts::is_asked;
 use run_parts::read_text;
 use run_parts::times_asked;
 use spec_limits::ROWS;
+use spec_limits::SIGNALS;
+use spec_limits::TOPS;
+use table_facts::count_facts;
 use table_marks::TABLE_WORDS;
+use table_marks::words_of;
 use taking::take;
 ghost use Prim.Native.Nat.{_≤_};
+ghost use lib.ListN.{length};
 ghost use Rattle.table_marks.specs.Sizes.{mostTableWords};
 
 // How far a run goes.
@@ -81,11 +89,27 @@ fn run_times(run: Run, s: &[u8], readings: &[u8], table: &mut [u64], times: usiz
 fn words_for(s: &[u8]) -> usize
     ensures { λ n. ⌜ n ≤ mostTableWords ⌝ }
 {
-    let c = check(s);
-    let Checking::Rows(n) = c else {
-        return 0;
-    };
-    if n <= ROWS { 2 * n } else { 0 }
+    let mut places = [0u64; SIGNALS];
+    let mut rows = [8u64; ROWS];
+    let mut tops = [0u16; TOPS];
+    let o = open_sheet(s, &mut places, &mut rows, &mut tops);
+    match o {
+        Opening::Sheet {
+            window,
+            signals: _,
+            tops: _,
+            count,
+        } => 2 * count * words_of(window),
+        Opening::Refused(_, _) => 0,
+    }
+}
+
+// Prints how many marks stand in a table: the ones in its words.
+fn print_marks(table: &[u64])
+    requires { ⌜ length (now table) ≤ mostTableWords ⌝ }
+{
+    let marks = count_facts(table, 1, table.len() / 2);
+    print_number(b"marks=", marks as u64, b"\n");
 }
 
 // The run that is asked for; an add if none is.
@@ -102,14 +126,22 @@ fn run_asked() -> Run {
     Run::Add
 }
 
+// Does what is asked for with a table, and prints it.
+fn run_table(run: Run, s: &[u8], readings: &[u8], table: &mut [u64], times: usize)
+    requires { ⌜ length (now table) ≤ mostTableWords ⌝ }
+{
+    let answer = run_times(run, s, readings, table, times);
+    print_answer(answer);
+    print_marks(table);
+}
+
 // Does what is asked for with the two texts.
 fn run_texts(s: &[u8], readings: &[u8]) {
     let times = times_asked();
     let run = run_asked();
     let words = words_for(s);
     let mut table = [0u64; TABLE_WORDS];
-    let answer = run_times(run, s, readings, &mut table[..words], times);
-    print_answer(answer);
+    run_table(run, s, readings, &mut table[..words], times);
 }
 
 fn main() {

@@ -7,7 +7,7 @@ use mathlib.Core.List.{List}
 use mathlib.Core.Logic.{_⊎_}
 use Prim.Native.Nat.{ℕ, _+_, _/_, _≤_, _<_}
 use lib.ListN.{length}
-use Rattle.spec_limits.specs.Limits.{mostClosed}
+use Rattle.spec_limits.specs.Limits.{mostTicks}
 use Rattle.spec_tilco.specs.Inference.{Node, look, Program, node, Mark, mark, Marks, Derives, _or_}
 use Rattle.spec_tilco.specs.Table.{words, Stands, Inside}
 use Rattle.table_words.specs.WordTicks.{HasRows, Ticks, Sides, Bits, Tells}
@@ -67,6 +67,6 @@ NodeInfers d r A C W n T T′ changed = (P : Program) → node P r ≡ d → Inf
 -- The table has n words for each value of `count` rows, and they cover the window.
 pub record TableFits (n count W : ℕ) (T : List ℕ) : Type 0 where
   pub some : 1 ≤ W
-  pub most : W ≤ mostClosed
+  pub most : W ≤ mostTicks
   pub words-are : n ≡ words W
   pub long : HasRows n T count

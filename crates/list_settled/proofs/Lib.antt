@@ -1,3 +1,4 @@
 -- The laws, one idea a file.
 pub mod Printing
 pub mod OneListing
+pub mod EmptyTable

@@ -1,4 +1,4 @@
--- Two texts that settle may print for one sheet and readings are one, and so are two outcomes of settle for one buffer.
+-- What settle tells of one sheet, readings and lent table is one, and so are two outcomes of settle for one buffer.
 -- Assumes nothing.
 use mathlib.Core.Path.{_≡_, refl, sym, ap, ap₂, _∙_, subst}
 use mathlib.Core.Bool.{Bool}
@@ -6,24 +6,25 @@ use mathlib.Core.List.{List, [], _∷_, _++_}
 use Prim.Native.Nat.{ℕ, zero, suc, _+_, _<_}
 use native.Mathlib.Omega.{arith}
 use native.Mathlib.Nat.{zero-add}
-use lib.ListN.{length}
+use lib.ListN.{length, take, drop}
 use lib.Seq.{sets}
 use Rattle.read_names.proofs.Names.{names-many}
 use Rattle.spec_tilco.specs.Lowering.{rowCount}
-use Rattle.spec_tilco.specs.Table.{Standing, factsOf, Answer}
+use Rattle.spec_tilco.specs.Table.{Standing, tableWords, factsOf, Answer}
 use Rattle.spec_tilco.proofs.Demand1.{asked-one}
 use Rattle.read_sheet.specs.Sheet.{Contents, meant}
 use Rattle.open_sheet.specs.Results.{Result, accepted, refused}
-use Rattle.spec_operations.specs.Gain.{Gain, gain}
-use Rattle.open_sheet.specs.SheetIn.{sheetIn, namesIn, blank}
+use Rattle.spec_operations.specs.Gain.{gain}
+use Rattle.open_sheet.specs.SheetIn.{sheetIn, namesIn}
 use Rattle.spec_operations.specs.Operations.{Adds}
 use Rattle.open_table.proofs.Tables.{accepted-one, accepted-refused}
-use Rattle.spec_operations.proofs.Determined.{adds-one}
+use Rattle.spec_operations.proofs.Determined.{adds-one, refused-alike}
 use Rattle.list_signals.specs.Signals.{signByte, signs, signalText, signalsText, Answers}
-use Rattle.list_table.specs.Listing.{headText, listingText, refusalText}
-use Rattle.list_settled.specs.Prints.{Prints, PrintedWhole}
-use Rattle.list_settled.specs.Prints.Prints.{no-sheet, not-added, listed}
-use Rattle.list_settled.proofs.Printing.{printed-whole}
+use Rattle.list_table.specs.Listing.{headText, listingText}
+use Rattle.list_settled.specs.Prints.{Lists, Prints, Settles, Written, textOf}
+use Rattle.list_settled.specs.Prints.Lists.{not-added, listed}
+use Rattle.list_settled.specs.Prints.Prints.{no-sheet, no-room, on-table}
+use Rattle.list_settled.proofs.Printing.{prints-most, written}
 
 -- ---- the same answers give the same listing
 
@@ -66,41 +67,54 @@ one-listing s k U clash f g p q =
 
 -- ---- the outcomes
 
-gain-facts : {a b : ℕ} {x y : Bool} → accepted (gain a x) ≡ accepted (gain b y) → x ≡ y
-gain-facts e = cc
+gain-clash : {a b : ℕ} {x y : Bool} → accepted (gain a x) ≡ accepted (gain b y) → x ≡ y
+gain-clash e = cc
 
-same-refusal : {A : Type 0} {n p m q : ℕ} → _≡_ {A = Result A} (refused n p) (refused m q) → refusalText n p ≡ refusalText m q
-same-refusal e = cc
-
-module _ {s r : List ℕ} where
-  -- The outcome for the sheet is the same for contents that are the same.
-  for : {k c : Contents} {U : List ℕ} {a : Result Gain} → sheetIn s ≡ accepted k → sheetIn s ≡ accepted c → Adds s r (blank c) U a → Adds s r (blank k) U a
-  for {k} {c} {U} {a} e f x = subst (λ (z : Contents). Adds s r (blank z) U a) (accepted-one (sym f ∙ e)) x
-
-  pub prints-one : {l v : List ℕ} → Prints s r l → Prints s r v → l ≡ v
-  prints-one (no-sheet e) (no-sheet f) = same-refusal (sym e ∙ f)
-  prints-one (no-sheet e) (not-added f b) = absurd (accepted-refused (sym f ∙ e))
-  prints-one (no-sheet e) (listed f b q) = absurd (accepted-refused (sym f ∙ e))
-  prints-one (not-added e a) (no-sheet f) = absurd (accepted-refused (sym e ∙ f))
-  prints-one (not-added e a) (not-added f b) = same-refusal (adds-one a (for e f b) .1)
-  prints-one (not-added e a) (listed f b q) = absurd (accepted-refused (sym (adds-one a (for e f b) .1)))
-  prints-one (listed e a p) (no-sheet f) = absurd (accepted-refused (sym e ∙ f))
-  prints-one (listed e a p) (not-added f b) = absurd (accepted-refused (adds-one a (for e f b) .1))
-  prints-one (listed {k = k} {U = U} {clash = clash} {f = f} e a p) (listed {k = c} {U = U′} {clash = clash′} {f = g} h b q) =
+module _ {s r T : List ℕ} where
+  lists-one : {U U′ : List ℕ} {a b : Result (List ℕ)} → Lists s r T U a → Lists s r T U′ b → (U ≡ U′) × (a ≡ b)
+  lists-one (not-added x) (not-added y) = (refl, refused-alike (adds-one x y .1))
+  lists-one (not-added x) (listed f y q) = absurd (accepted-refused (sym (adds-one x y .1)))
+  lists-one (listed e x p) (not-added y) = absurd (accepted-refused (adds-one x y .1))
+  lists-one (listed {k = k} {U = U} {clash = clash} {f = f} e x p) (listed {k = c} {U = U′} {clash = clash′} {f = g} h y q) =
       let i : k ≡ c = accepted-one (sym e ∙ h) in
-      let o = adds-one a (for e h b) in
-      let w : AnswersIn k U g = subst (λ (X : List ℕ). AnswersIn k X g) (sym (o .0)) (subst (λ (z : Contents). AnswersIn z U′ g) (sym i) q) in
-      one-listing s k U clash f g p w
-      ∙ ap (λ (X : List ℕ). listingOf s k X clash g) (o .0)
-      ∙ ap (λ (x : Bool). listingOf s k U′ x g) (gain-facts (o .1))
-      ∙ ap (λ (z : Contents). listingOf s z U′ clash′ g) i
+      let o = adds-one x y in
+      let w : AnswersIn k U g = subst (λ (X : List ℕ). AnswersIn k X g) (sym (o .0)) (subst (λ (z : Contents). AnswersIn z U′ g) (sym i) q) in (
+        o .0,
+        ap accepted (
+            one-listing s k U clash f g p w
+            ∙ ap (λ (X : List ℕ). listingOf s k X clash g) (o .0)
+            ∙ ap (λ (x : Bool). listingOf s k U′ x g) (gain-clash (o .1))
+            ∙ ap (λ (z : Contents). listingOf s z U′ clash′ g) i
+            ),
+      )
 
-  -- Two outcomes for one buffer coincide, in the answer and in every byte,
-  pub printed-one : {m m₁ m₂ : List ℕ} {n₁ n₂ : ℕ} → PrintedWhole s r m m₁ n₁ → PrintedWhole s r m m₂ n₂ → (n₁ ≡ n₂) × (m₁ ≡ m₂)
-  printed-one {m} x y =
-      let e = prints-one (x .prints) (y .prints) in
-      (x .long ∙ ap length e ∙ sym (y .long), x .holds ∙ ap (sets m 0) e ∙ sym (y .holds))
+module _ {s r T : List ℕ} where
+  -- What is told and what is left in the lent table,
+  pub prints-one : {U U′ : List ℕ} {a b : Result (List ℕ)} → Prints s r T U a → Prints s r T U′ b → (U ≡ U′) × (a ≡ b)
+  prints-one (no-sheet e) (no-sheet f) = (refl, refused-alike (sym e ∙ f))
+  prints-one (no-sheet e) (no-room f l) = absurd (accepted-refused (sym f ∙ e))
+  prints-one (no-sheet e) (on-table f l y) = absurd (accepted-refused (sym f ∙ e))
+  prints-one (no-room e l) (no-sheet f) = absurd (accepted-refused (sym e ∙ f))
+  prints-one (no-room e l) (no-room f m) = (refl, refl)
+  prints-one (no-room {k} e l) (on-table {k = c} f m y) = let i : k ≡ c = accepted-one (sym e ∙ f) in absurd (omega (arith, subst (λ (z : Contents). length T < tableWords (meant z)) i l))
+  prints-one (on-table e l x) (no-sheet f) = absurd (accepted-refused (sym e ∙ f))
+  prints-one (on-table {k = c} e l x) (no-room {k} f m) = let i : k ≡ c = accepted-one (sym f ∙ e) in absurd (omega (arith, subst (λ (z : Contents). length T < tableWords (meant z)) i m))
+  prints-one (on-table {k = k} {U = U} e l x) (on-table {k = c} {U = U′} {a = b} f m y) =
+      let i : k ≡ c = accepted-one (sym e ∙ f) in
+      let o = lists-one x (subst (λ (z : Contents). Lists s r (take (tableWords (meant z)) T) U′ b) (sym i) y) in
+      (ap₂ (λ (X : List ℕ) (z : Contents). X ++ drop (tableWords (meant z)) T) (o .0) i, o .1)
 
-  -- and there is one for each buffer where there is a text.
-  pub printed-some : {l : List ℕ} → Prints s r l → (m : List ℕ) → PrintedWhole s r m (sets m 0 l) (length l)
-  printed-some {l} p m = printed-whole p (record { next = sym (zero-add (length l)); holds = refl })
+-- so two outcomes for one table and one buffer coincide, in the answer, in every word and in every byte,
+pub printed-one : {s r T U U′ m m₁ m₂ : List ℕ} {n₁ n₂ : ℕ} → Written (Prints s r T U) m m₁ n₁ → Written (Prints s r T U′) m m₂ n₂ → (n₁ ≡ n₂) × (U ≡ U′) × (m₁ ≡ m₂)
+printed-one {m = m} x y =
+    let o = prints-one (x .tells) (y .tells) in
+    let e = ap textOf (o .1) in
+    (x .long ∙ ap length e ∙ sym (y .long), o .0, x .holds ∙ ap (sets m 0) e ∙ sym (y .holds))
+
+-- there is one for each buffer where something is told,
+pub printed-some : {s r T U : List ℕ} {a : Result (List ℕ)} → Prints s r T U a → (m : List ℕ) → Written (Prints s r T U) m (sets m 0 (textOf a)) (length (textOf a))
+printed-some {s} {r} {T} {U} {a} p m = written (Prints s r T U) p (prints-most p) (record { next = sym (zero-add (length (textOf a))); holds = refl })
+
+-- and the listing program prints one text.
+pub settles-one : {s r l v : List ℕ} → Settles s r l → Settles s r v → l ≡ v
+settles-one x y = x .text-is ∙ ap textOf (prints-one (x .prints) (y .prints) .1) ∙ sym (y .text-is)

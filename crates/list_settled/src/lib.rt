@@ -1,4 +1,4 @@
-// One add to an empty table, and its listing. Assumes nothing.
+// One add to a lent table, and its listing. Assumes nothing.
 use list_table::whole::write_listing;
 use list_table::whole::write_refusal;
 use op_add::Adding;
@@ -8,11 +8,11 @@ use open_sheet::open_sheet;
 use spec_limits::ROWS;
 use spec_limits::SIGNALS;
 use spec_limits::TOPS;
-use table_marks::TABLE_WORDS;
+use table_facts::count_facts;
 use table_marks::words_of;
-ghost use Rattle.list_settled.specs.Prints.{Begun, PrintedWhole};
+ghost use Rattle.list_settled.specs.Prints.{Begun, Lists, Prints, Written};
 
-// Adds the readings to the sheet's empty table, and writes the listing.
+// Adds the readings to the sheet's table, and writes the listing.
 fn settle_table(
     s: &[u8],
     places: &[u64],
@@ -22,22 +22,24 @@ fn settle_table(
     table: &mut [u64],
     out: &mut [u8],
 ) -> usize
-    requires { ⌜ Begun (now s) (now places) window count (now table) ⌝ }
-    ensures { λ n. ⌜ PrintedWhole (now (s .entry)) (now (readings .entry)) (now (out .entry)) (now (out .exit)) n ⌝ }
+    requires { ⌜ Begun (now s) (now places) window count ⌝ }
+    ensures { λ n. ⌜ Written (Lists (now (s .entry)) (now (readings .entry)) (now (table .entry)) (now (table .exit))) (now (out .entry)) (now (out .exit)) n ⌝ }
 {
     let a = add(s, readings, table);
     match a {
-        Adding::Added { new, clash } => {
+        Adding::Added { new: _, clash } => {
             let n = words_of(window);
-            write_listing(s, places, window, n, table, count, new, clash, out)
+            let facts = count_facts(table, n, places.len());
+            write_listing(s, places, window, n, table, count, facts, clash, out)
         }
         Adding::Refused(k, p) => write_refusal(k, p, out),
     }
 }
 
-// What settle prints for a sheet and readings, written from the buffer's first place on as far as there is room; its length is answered.
-pub fn settle(s: &[u8], readings: &[u8], out: &mut [u8]) -> usize
-    ensures { λ n. ⌜ PrintedWhole (now (s .entry)) (now (readings .entry)) (now (out .entry)) (now (out .exit)) n ⌝ }
+// What settle prints for a sheet and readings, written from the buffer's first place on as far as there is room; its length is answered. The readings are
+// added to the lent table's first words, as many as the sheet's table has; with fewer words it is refusal 29.
+pub fn settle(s: &[u8], readings: &[u8], table: &mut [u64], out: &mut [u8]) -> usize
+    ensures { λ n. ⌜ Written (Prints (now (s .entry)) (now (readings .entry)) (now (table .entry)) (now (table .exit))) (now (out .entry)) (now (out .exit)) n ⌝ }
 {
     let mut places = [0u64; SIGNALS];
     let mut rows = [8u64; ROWS];
@@ -50,8 +52,10 @@ pub fn settle(s: &[u8], readings: &[u8], out: &mut [u8]) -> usize
             tops: _,
             count,
         } => {
-            let mut table = [0u64; TABLE_WORDS];
             let words = 2 * count * words_of(window);
+            if table.len() < words {
+                return write_refusal(29, 0, out);
+            }
             settle_table(
                 s,
                 &places[..signals],

@@ -1,2 +1,3 @@
--- The laws of the answers.
+-- The laws, one idea a file.
+pub mod WorkLists
 pub mod Outcomes

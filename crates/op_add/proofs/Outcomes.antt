@@ -5,10 +5,8 @@ use mathlib.Core.Bool.{Bool, true}
 use mathlib.Core.List.{List}
 use mathlib.Core.Logic.{_↔_}
 use Prim.Native.Nat.{ℕ, _-_, _*_, _≤_, _<_}
-use native.Mathlib.Nat.{mul-le-mul, le-trans}
 use native.Mathlib.Omega.{arith}
 use lib.ListN.{length, getD}
-use Rattle.spec_limits.specs.Limits.{mostRows}
 use Rattle.read_bytes.specs.Read.Read.{got, refused as unread}
 use Rattle.read_names.specs.Spellings.{namesAt}
 use Rattle.spec_ticks.specs.Ticks.{Small}
@@ -18,14 +16,13 @@ use Rattle.spec_tilco.specs.Table.{words, Stands, facts, factsOf, Added}
 use Rattle.spec_tilco.proofs.Order.{top-is-row}
 use Rattle.spec_tilco.proofs.Demand2.{added-from, added-facts}
 use Rattle.table_marks.specs.Puts.{Puts}
-use Rattle.table_marks.specs.Sizes.{mostWords}
 use Rattle.read_sheet.specs.Sheet.{Contents, meant}
 use Rattle.read_sheet.proofs.Accepted.{sheet-declared}
 use Rattle.read_readings.specs.Readings.{readings}
 use Rattle.read_readings.proofs.Bounds.{readings-within, puts-inside}
 use Rattle.read_readings.proofs.Outcomes.{Accepted-as}
 use Rattle.close_table.specs.Closes.{ClosesWithTops}
-use Rattle.close_list.specs.Items.{ListFits, per}
+use Rattle.close_list.specs.Items.{ListFits}
 use Rattle.close_list.specs.Workable.{Closable}
 use Rattle.close_table.proofs.Outcomes.{closed-added}
 use Rattle.open_sheet.specs.Results.{accepted, refused}
@@ -33,6 +30,7 @@ use Rattle.spec_operations.specs.Gain.{gain}
 use Rattle.open_sheet.specs.OpenedSheet.{OpenedSheet}
 use Rattle.open_table.specs.OpenedTable.{OpenedTable}
 use Rattle.spec_operations.specs.Operations.{Adds}
+use Rattle.op_add.specs.WorkLists.{ListFor}
 use Rattle.spec_operations.specs.Operations.Adds.{not-read, added}
 use Rattle.spec_operations.proofs.Opened.{known, to-contents, some-words, table-inside, some-window, table-length, signals-few}
 
@@ -46,19 +44,16 @@ module _ {s T places B tops : List ℕ} {w t count : ℕ} (h : OpenedTable s T p
   pub readings-refused : (r U : List ℕ) {a p : ℕ} → (readings (namesAt s places) w r ≡ unread a p) × (U ≡ T) → Adds s r T U (refused a p)
   readings-refused r U {a} {p} f = not-read (h .table) (to-contents h n e (λ l v m. readings (namesAt s l) v r ≡ unread a p) (f .0)) (f .1)
 
-  -- A list with a bit for each row, at each of m words, lists every item where a row has no more than m words.
-  list-fits : (m : ℕ) → n ≤ m → (D : List ℕ) → per mostRows * m ≤ length D → ListFits count n D
-  list-fits m f D l =
-      let rows : per count ≤ per mostRows = omega (arith, signals-few h n e .2) in
-      record { most = signals-few h n e .2; long = le-trans (mul-le-mul rows f) l }
+  list-fits : (D : List ℕ) → ListFor (length T) (length D) → ListFits count n D
+  list-fits D f = record { most = signals-few h n e .2; long = f count n (signals-few h n e .2) (some-words h n e .most) (table-length h n e) }
 
   module _ (r T₁ : List ℕ) (a : Accepted-as (readings (namesAt s places) w r) n T T₁) where
-    pub close-asks : (D : List ℕ) → per mostRows * mostWords ≤ length D
+    pub close-asks : (D : List ℕ) → ListFor (length T) (length D)
         → Closable count n w B D T₁ × ((t ≤ length tops) × ((i : ℕ) → i < t → getD tops i 0 < count))
-    close-asks D l = (
+    close-asks D f = (
       record {
         coded = record { program = program (meant c); codes = k .codes };
-        roomy = list-fits mostWords (some-words h n e .widest) D l;
+        roomy = list-fits D f;
         sized = record { some = some-window h n e .0; most = omega (arith, some-window h n e .1); words-are = e; long = omega (arith, table-length h n e, a .puts .size) };
         inside = puts-inside (length (namesAt s places)) w n (readings-within (namesAt s places) w r (some-window h n e .0) (a .all)) (table-inside h n e) (a .puts);
       },

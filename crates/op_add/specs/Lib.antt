@@ -1,2 +1,3 @@
--- The definition that the contract cites.
+-- The definitions that the contracts cite.
 pub mod AddingSays
+pub mod WorkLists

@@ -11,12 +11,19 @@ use table_facts::clash_in;
 use table_facts::count_facts;
 use table_marks::WORDS;
 use table_marks::words_of;
+ghost use lib.ListN.{length};
 ghost use Rattle.op_add.specs.AddingSays.{addingSays};
+ghost use Rattle.op_add.specs.WorkLists.{ListFor};
 ghost use Rattle.open_table.specs.OpenedTable.{OpenedTable};
 ghost use Rattle.spec_operations.specs.Operations.{Adds};
 
-// The words of a list with a bit for each row, at each word of the widest window.
-const ITEM_WORDS: usize = (ROWS + 63) / 64 * WORDS;
+// The words of a list of work with a bit for each row, at each word of the widest window.
+const LONG: usize = (ROWS + 63) / 64 * WORDS;
+
+// A table of at most so many words, and the words of a list for it, however many words a row has there.
+const SMALL: usize = 2 * ROWS;
+
+const SHORT: usize = WORDS;
 
 // How many facts are new, and whether there is a clash; or a refusal's number and place.
 pub enum Adding {
@@ -34,9 +41,11 @@ fn add_opened(
     k: usize,
     window: usize,
     readings: &[u8],
+    todo: &mut [u64],
     table: &mut [u64],
 ) -> Adding
     requires { ⌜ OpenedTable (now s) (now table) (now places) (now rows) (now tops) window k count ⌝ }
+    requires { ⌜ ListFor (length (now table)) (length (now todo)) ⌝ }
     ensures { λ r. ⌜ Adds (now (s .entry)) (now (readings .entry)) (now (table .entry)) (now (table .exit)) (addingSays r) ⌝ }
 {
     let n = words_of(window);
@@ -45,8 +54,7 @@ fn add_opened(
     let r = take_readings(s, places, window, n, readings, table);
     match r {
         Outcome::Accepted => {
-            let mut todo = [0u64; ITEM_WORDS];
-            close_with_tops(rows, count, tops, k, n, window, &mut todo, table);
+            close_with_tops(rows, count, tops, k, n, window, todo, table);
             let after = count_facts(table, n, signals);
             let clash = clash_in(table, count, n);
             let new = after - before;
@@ -56,8 +64,9 @@ fn add_opened(
     }
 }
 
-// Adds the readings: the table has then exactly what the rules lead to. At a refusal it keeps every word.
-pub fn add(s: &[u8], readings: &[u8], table: &mut [u64]) -> Adding
+// add, with a list of work that is long enough for the table.
+fn add_with(s: &[u8], readings: &[u8], todo: &mut [u64], table: &mut [u64]) -> Adding
+    requires { ⌜ ListFor (length (now table)) (length (now todo)) ⌝ }
     ensures { λ r. ⌜ Adds (now (s .entry)) (now (readings .entry)) (now (table .entry)) (now (table .exit)) (addingSays r) ⌝ }
 {
     let mut places = [0u64; SIGNALS];
@@ -79,8 +88,22 @@ pub fn add(s: &[u8], readings: &[u8], table: &mut [u64]) -> Adding
             k,
             window,
             readings,
+            todo,
             table,
         ),
         Opening::Refused(n, p) => Adding::Refused(n, p),
     }
+}
+
+// Adds the readings: the table has then exactly what the rules lead to. At a refusal it keeps every word.
+// Clearing the long list would cost a small sheet more than the rest of its closing.
+pub fn add(s: &[u8], readings: &[u8], table: &mut [u64]) -> Adding
+    ensures { λ r. ⌜ Adds (now (s .entry)) (now (readings .entry)) (now (table .entry)) (now (table .exit)) (addingSays r) ⌝ }
+{
+    if table.len() <= SMALL {
+        let mut todo = [0u64; SHORT];
+        return add_with(s, readings, &mut todo, table);
+    }
+    let mut todo = [0u64; LONG];
+    add_with(s, readings, &mut todo, table)
 }

@@ -18,7 +18,7 @@ use Rattle.spec_tilco.specs.Lists.{total}
 use Rattle.spec_tilco.specs.Formula.{hiddens}
 use Rattle.spec_tilco.specs.Lowering.{rowCount}
 use Rattle.spec_tilco.specs.Table.{words, Stands, tableWords, Inside}
-use Rattle.table_marks.specs.Sizes.{mostWords}
+use Rattle.table_marks.specs.Sizes.{mostWords, mostTableWords}
 use Rattle.read_sheet.specs.Sheet.{Contents, sheetOf, meant}
 use Rattle.read_head.specs.SheetHead.{Sizes}
 use Rattle.read_sheet.proofs.Wholes.{sheet-sizes}
@@ -105,19 +105,25 @@ module _ {s places B tops : List ℕ} {w t count : ℕ} (k : OpenedSheet s place
 -- n words for each value cover a window of w ticks: at least one, and no more than the widest window has.
 pub record RowWords (w n : ℕ) : Type 0 where
   pub some : 1 ≤ n
-  pub widest : n ≤ mostWords
-  pub most : n ≤ 64
+  pub most : n ≤ mostWords
   pub cover : w ≤ 64 * n
 
 pub row-words : {w n : ℕ} → 1 ≤ w → w ≤ mostTicks → n ≡ words w → RowWords w n
 unfolding words
-row-words l h e = record { some = omega arith; widest = omega arith; most = omega arith; cover = omega arith }
+row-words l h e = record { some = omega arith; most = omega arith; cover = omega arith }
 
 -- The words of a table with so many rows can be counted.
-pub table-most : {count n : ℕ} → count ≤ mostRows → n ≤ 64 → 2 * count * n ≤ 2 * mostRows * 64
+pub table-most : {count n : ℕ} → count ≤ mostRows → n ≤ mostWords → 2 * count * n ≤ mostTableWords
 table-most {count} c h = let r : 2 * count ≤ 2 * mostRows = omega arith in mul-le-mul r h
 
 -- ---- the table beside it
+
+-- The words of an opened sheet's table can be counted.
+pub words-most : {s places B tops : List ℕ} {w t count : ℕ} → OpenedSheet s places B tops w t count → (n : ℕ) → n ≡ words w
+    → (w ≤ mostTicks) × (2 * count ≤ 2 * mostRows) × (2 * count * n ≤ mostTableWords)
+words-most y n e =
+    let spread = row-words (window-range y .0) (window-range y .1) e in
+    (window-range y .1, omega (arith, row-range y), table-most (row-range y) (spread .most))
 
 module _ {s places B tops : List ℕ} {w t count : ℕ} (k : OpenedSheet s places B tops w t count) (T : List ℕ) (n : ℕ) (e : n ≡ words w) where
   same-words : 2 * count * n ≡ tableWords (meant (k .contents))

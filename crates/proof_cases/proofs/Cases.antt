@@ -22,9 +22,9 @@ use Rattle.write_lines.specs.LineTexts.{lineText}
 use Rattle.list_signals.specs.Signals.{signs, signalText, signalsText}
 use Rattle.list_table.specs.Listing.{headText, listingText}
 use Rattle.open_sheet.specs.SheetIn.{fits, sheetIn}
-use Rattle.list_settled.proofs.OneListing.{prints-one}
+use Rattle.list_settled.proofs.OneListing.{settles-one}
 use Rattle.proof_cases.specs.Texts.{TextCase, p7, p8, textCases, InHistories, Settled}
-use Rattle.proof_cases.proofs.Tested.{textsPass, passed-prints}
+use Rattle.proof_cases.proofs.Tested.{textsPass, passed-settles}
 use Rattle.proof_cases.proofs.Histories.{ReadAs, p7-read, p8-read, p7-holds, p8-holds, of-read}
 
 -- A case's texts pass the test.
@@ -43,8 +43,8 @@ all-said = (λ k i h o. tt, (λ k i h o. tt, (λ k i h o. tt, (λ k i h o. tt, (
 all-settle : (es : List TextCase) → All Passes es → All InHistories es → All Settled es
 all-settle [] p a = tt
 all-settle (e ∷ es) p a =
-    let i = passed-prints (bytes (e .sheet)) (bytes (e .readings)) (bytes (e .listing)) (p .0) in
-    ((i, λ l o. prints-one o i, a .0), all-settle es (p .1) (a .1))
+    let i = passed-settles (bytes (e .sheet)) (bytes (e .readings)) (bytes (e .listing)) (p .0) in
+    ((i, λ l o. settles-one o i, a .0), all-settle es (p .1) (a .1))
 
 -- P1 (both rule orders) to P10 settle: for its sheet and readings each entry's listing is what is printed, and every history is as said.
 pub cases-settle : All Settled textCases

@@ -161,6 +161,10 @@ module _ (s : Sheet) (R : List Mark) where
     begun f m (inl i) = absurd (none m i)
     begun f m (inr i) = f m i
 
+    -- The table has two words a row.
+    pub two-a-row : tableWords s ≡ 2 * rowCount s
+    two-a-row = table-length s some most
+
     pub added : Added s (blank s) R U
     added = record {
       size = length-is ∙ sym (length-replicate {A = ℕ} (tableWords s) 0);
@@ -171,7 +175,7 @@ module _ (s : Sheet) (R : List Mark) where
 
     pub clash-is : Clash (Standing s U) ↔ T (clashing (s .window) (rowCount s) U)
     clash-is =
-        let found = clash-found (s .window) (rowCount s) U (length-is ∙ table-length s some most) inside in (
+        let found = clash-found (s .window) (rowCount s) U (length-is ∙ two-a-row) inside in (
           λ c. found .0 (clash-in (Standing s U) (Plain U) (λ m. standing-plain m .0) c),
           λ t. clash-in (Plain U) (Standing s U) (λ m. standing-plain m .1) (found .1 t),
         )

@@ -4,10 +4,11 @@ use mathlib.Core.Path.{_≡_, refl, sym, subst}
 use mathlib.Core.Bool.{Bool, true, false, _&&_}
 use mathlib.Core.List.{List}
 use mathlib.Core.Logic.{_↔_}
-use Prim.Native.Nat.{ℕ, _-_, _*_}
+use Prim.Native.Nat.{ℕ, _-_, _*_, _≤_}
 use native.Mathlib.Omega.{arith}
 use lib.Dec.{T}
 use lib.ListN.{length, length-replicate}
+use Rattle.spec_limits.specs.Limits.{mostListedWords}
 use Rattle.spec_ticks.proofs.Tables.{empty-bare, empty-tally}
 use Rattle.read_bytes.specs.Read.{Read}
 use Rattle.read_bytes.specs.Read.Read.{got, refused as unread}
@@ -24,13 +25,14 @@ use Rattle.open_sheet.specs.Results.{Result, accepted, refused}
 use Rattle.spec_operations.specs.Gain.{gain}
 use Rattle.open_sheet.specs.SheetIn.{sheetIn, namesIn, blank}
 use Rattle.open_table.specs.Opens.{Opens}
+use Rattle.open_table.proofs.Tables.{in-sheet}
 use Rattle.open_table.specs.Opens.Opens.{both}
 use Rattle.spec_operations.specs.Operations.{Adds}
 use Rattle.spec_operations.specs.Operations.Adds.{added}
-use Rattle.list_settled.specs.Prints.{Prints}
-use Rattle.list_settled.specs.Prints.Prints.{listed}
+use Rattle.list_settled.specs.Prints.{Settles}
+use Rattle.list_settled.proofs.EmptyTable.{settles-listing}
 use Rattle.proof_cases.proofs.ComputedClosing.{and-left, and-right}
-use Rattle.proof_cases.proofs.Computed.{tableOf, ready, clashing, answersOf, clash-is, asked}
+use Rattle.proof_cases.proofs.Computed.{tableOf, ready, clashing, answersOf, clash-is, asked, two-a-row}
 use Rattle.proof_cases.proofs.Computed as computed
 
 -- The listing of a table that clashes or does not.
@@ -88,18 +90,22 @@ module _ (s r l : List ℕ) where
         let new : factsOf (meant k) U ≡ factsOf (meant k) U - factsOf (meant k) (blank k) = omega arith in
         added opens readings-read (computed.added (meant k) R closes) new (λ e. c .1 (z .0 e), λ i. z .1 (c .0 i))
 
-    prints-read : Prints s r l
-    prints-read = subst (Prints s r) listing-is (listed sheet-read adds (λ x h t u. asked (meant k) R closes x t))
+    -- One word a row and value, and at most 1,024 rows: the table is listed.
+    listed-words : tableWords (meant k) ≤ mostListedWords
+    listed-words = omega (arith, two-a-row (meant k) R closes, in-sheet s sheet-read .rows)
+
+    settles-read : Settles s r l
+    settles-read = subst (Settles s r) listing-is (settles-listing sheet-read listed-words adds (λ x h t u. asked (meant k) R closes x t))
 
   of-readings : (k : Contents) → sheetIn s ≡ accepted k → (X : Read (List Mark)) → readings (namesIn s k) (k .window) r ≡ X
-      → T (readingsPass l (namesIn s k) (meant k) X) → Prints s r l
-  of-readings k i (got R q) j t = prints-read k R q i j t
+      → T (readingsPass l (namesIn s k) (meant k) X) → Settles s r l
+  of-readings k i (got R q) j t = settles-read k R q i j t
   of-readings k i (unread n p) j t = absurd t
 
-  of-sheet : (X : Result Contents) → sheetIn s ≡ X → T (sheetPasses s r l X) → Prints s r l
+  of-sheet : (X : Result Contents) → sheetIn s ≡ X → T (sheetPasses s r l X) → Settles s r l
   of-sheet (accepted k) i t = of-readings k i (readings (namesIn s k) (k .window) r) refl t
   of-sheet (refused n p) i t = absurd t
 
   -- For texts that pass the test, the listing is printed.
-  pub passed-prints : T (textsPass s r l) → Prints s r l
-  passed-prints t = of-sheet (sheetIn s) refl t
+  pub passed-settles : T (textsPass s r l) → Settles s r l
+  passed-settles t = of-sheet (sheetIn s) refl t

@@ -11,7 +11,7 @@ use Rattle.spec_tilco.specs.Meaning.{History, Obeys}
 use Rattle.read_sheet.specs.Sheet.{Contents, meant}
 use Rattle.open_sheet.specs.Results.{accepted}
 use Rattle.open_sheet.specs.SheetIn.{sheetIn}
-use Rattle.list_settled.specs.Prints.{Prints}
+use Rattle.list_settled.specs.Prints.{Settles}
 
 -- What is so in every history, although the listing does not tell it: nothing more; the signal of this number, from 0 in sheet order, is true at this
 -- tick; or that no history exists.
@@ -146,6 +146,6 @@ InHistories e = (k : Contents) → sheetIn (bytes (e .sheet)) ≡ accepted k →
 -- The listing is what `settle` prints for the sheet and the readings, nothing else is, and the histories are as said.
 abbrev pub Settled : TextCase → Type 0
 Settled e =
-    Prints (bytes (e .sheet)) (bytes (e .readings)) (bytes (e .listing))
-    × ((l : List ℕ) → Prints (bytes (e .sheet)) (bytes (e .readings)) l → l ≡ bytes (e .listing))
+    Settles (bytes (e .sheet)) (bytes (e .readings)) (bytes (e .listing))
+    × ((l : List ℕ) → Settles (bytes (e .sheet)) (bytes (e .readings)) l → l ≡ bytes (e .listing))
     × InHistories e

@@ -4,14 +4,16 @@ use mathlib.Core.Path.{_≡_, refl, sym, ap, _∙_, subst}
 use mathlib.Core.Bool.{Bool, true, false, true≢false}
 use mathlib.Core.List.{List, [], _∷_, map}
 use mathlib.Core.Logic.{_⊎_, inl, inr, ⊎-elim, _↔_}
-use Prim.Native.Nat.{ℕ, _-_, _<_}
+use Prim.Native.Nat.{ℕ, _-_, _^_, _<_, _≤_}
 use native.Mathlib.Decide.{ℕ-discrete, decLt}
 use native.Mathlib.Omega.{arith}
-use lib.ListN.{length}
+use lib.ListN.{length, getD, take, length-take, List·getD-eq-default}
+use lib.Seq.{getD-take}
+use Rattle.spec_limits.specs.Limits.{mostListedWords}
 use Rattle.read_bytes.specs.Read.{Read}
 use Rattle.read_bytes.specs.Read.Read.{got, refused as unread}
 use Rattle.read_bytes.proofs.Answers.{not-both}
-use Rattle.spec_ticks.specs.Ticks.{Small}
+use Rattle.spec_ticks.specs.Ticks.{Small, empty}
 use Rattle.spec_ticks.proofs.Tables.{empty-small}
 use Rattle.spec_tilco.specs.Inference.{Mark, mark, Clash}
 use Rattle.spec_tilco.specs.Table.{words, Stands, Standing, tableWords, factsOf, Answer, Unsettled, True, False, Contradiction, Asked, clashes, holds, fails, neither}
@@ -25,8 +27,10 @@ use Rattle.open_table.specs.Opens.Opens.{both, not-the-sheet, not-the-length, n
 use Rattle.spec_operations.specs.Operations.{counted, Adds, Asks}
 use Rattle.spec_operations.specs.Operations.Adds.{not-opened, not-read, added}
 use Rattle.spec_operations.specs.Operations.Asks.{not-opened as not-asked, out-of-range, asked}
-use Rattle.list_settled.specs.Prints.{Prints}
-use Rattle.list_settled.specs.Prints.Prints.{no-sheet, not-added, listed}
+use Rattle.list_settled.specs.Prints.{Prints, Settles, textOf}
+use Rattle.list_settled.specs.Prints.Lists.{listed}
+use Rattle.list_settled.specs.Prints.Prints.{no-sheet, no-room, on-table}
+use Rattle.list_settled.proofs.Printing.{refused-lists}
 use Rattle.proof_demands.specs.Refusals.{SheetAccepted, TakenUp, ReadingsAccepted, SheetRefused}
 use Rattle.proof_demands.specs.Runs.{RunTexts, FromBlank}
 use Rattle.proof_demands.specs.Runs.RunTexts.{done as none, call as next}
@@ -146,14 +150,34 @@ module _ (s T : List ℕ) (x t : ℕ) where
 
 -- ---- settle
 
--- For every sheet and readings there is a text that settle prints.
-pub prints-some : (s r : List ℕ) → (l : List ℕ) × Prints s r l
-prints-some s r = go (sheetIn s) refl
+-- A part of a table of 64-bit words is one.
+small-take : (n : ℕ) (T : List ℕ) → Small 64 T → Small 64 (take n T)
+small-take n T small i = go (decLt i n)
   where
-    of-answer : {k : Contents} {U : List ℕ} → sheetIn s ≡ accepted k → (a : Result Gain) → Adds s r (blank k) U a → (l : List ℕ) × Prints s r l
-    of-answer {k} {U} e (accepted (gain new clash)) x = (_, listed {f = λ y t. asked-some s U y t (words (k .window)) .0} e x (λ y h t i. asked-some s U y t (words (k .window)) .1))
-    of-answer e (refused n p) x = (_, not-added e x)
+    go : Dec (i < n) → getD (take n T) i 0 < 2 ^ 64
+    go (yes l) = omega (arith, getD-take n T i 0 l, small i)
+    go (no l) = let z : getD (take n T) i 0 ≡ 0 = List·getD-eq-default (take n T) 0 (omega (arith, length-take n T)) in omega (arith, z)
 
-    go : (R : Result Contents) → sheetIn s ≡ R → (l : List ℕ) × Prints s r l
-    go (accepted k) e = let x = add-some s r (blank k) (empty-small 64 (tableWords (meant k))) in of-answer e (x .1) (x .2)
-    go (refused n p) e = (_, no-sheet e)
+-- For every sheet, readings and lent table there is what settle tells,
+pub prints-some : (s r T : List ℕ) → Small 64 T → (U : List ℕ) × (a : Result (List ℕ)) × Prints s r T U a
+prints-some s r T small = go (sheetIn s) refl
+  where
+    of-answer : {k : Contents} {U : List ℕ} → sheetIn s ≡ accepted k → tableWords (meant k) ≤ length T → (a : Result Gain) → Adds s r (take (tableWords (meant k)) T) U a
+        → (U : List ℕ) × (a : Result (List ℕ)) × Prints s r T U a
+    of-answer {k} {U} e l (accepted (gain new clash)) x =
+        (_, _, on-table e l (listed {f = λ y t. asked-some s U y t (words (k .window)) .0} e x (λ y h t i. asked-some s U y t (words (k .window)) .1)))
+    of-answer e l (refused n p) x = (_, _, on-table e l (refused-lists x))
+
+    in-room : (k : Contents) → sheetIn s ≡ accepted k → Dec (length T < tableWords (meant k)) → (U : List ℕ) × (a : Result (List ℕ)) × Prints s r T U a
+    in-room k e (yes l) = (T, refused 29 0, no-room e l)
+    in-room k e (no l) = let x = add-some s r (take (tableWords (meant k)) T) (small-take (tableWords (meant k)) T small) in of-answer e (omega arith) (x .1) (x .2)
+
+    go : (R : Result Contents) → sheetIn s ≡ R → (U : List ℕ) × (a : Result (List ℕ)) × Prints s r T U a
+    go (accepted k) e = in-room k e (decLt (length T) (tableWords (meant k)))
+    go (refused n p) e = (T, refused n p, no-sheet e)
+
+-- and so a text that the listing program prints.
+pub settles-some : (s r : List ℕ) → (l : List ℕ) × Settles s r l
+settles-some s r =
+    let x = prints-some s r (empty mostListedWords) (empty-small 64 mostListedWords) in
+    (textOf (x .1), record { after = x .0; told = x .1; prints = x .2; text-is = refl })

@@ -26,7 +26,7 @@ use Rattle.open_sheet.specs.SheetIn.{sheetIn, namesIn, blank}
 use Rattle.open_table.specs.Opens.{Opens}
 use Rattle.spec_operations.specs.Gain.{Gain}
 use Rattle.spec_operations.specs.Operations.{Adds}
-use Rattle.spec_operations.specs.Operations.Adds.{not-opened, not-read}
+use Rattle.list_settled.proofs.Printing.{refused-keeps}
 use Rattle.proof_demands.specs.Refusals.{SheetAccepted, ReadingsAccepted}
 use Rattle.proof_demands.specs.Runs.{RunTexts, newIn}
 use Rattle.proof_demands.specs.Runs.RunTexts.{done, call}
@@ -89,10 +89,6 @@ record Left (s : List ℕ) (parts : List (List ℕ)) (T : List ℕ) (cs : List G
   within : (r : List ℕ) → List·Memᴰ r texts → List·Memᴰ r parts
   each : (r : List ℕ) → List·Memᴰ r parts → List·Memᴰ (given s r) cs → List·Memᴰ r texts
   sum : total newIn answers ≡ total newIn told
-
-refused-keeps : {s r T U : List ℕ} {n p : ℕ} → Adds s r T U (refused n p) → U ≡ T
-refused-keeps (not-opened o e) = e
-refused-keeps (not-read o f e) = e
 
 module _ (s : List ℕ) (k : Contents) (e : sheetIn s ≡ accepted k) (parts : List (List ℕ))
     (right : (r : List ℕ) → List·Memᴰ r parts → (ns : List Mark) × (readings (namesIn s k) (k .window) r ≡ got ns (length r))) where

@@ -25,16 +25,16 @@ use Rattle.open_sheet.specs.SheetIn.{blank}
 use Rattle.spec_operations.specs.Gain.{Gain, gain}
 use Rattle.spec_operations.specs.Operations.{checked, Adds, Asks}
 use Rattle.spec_operations.specs.Operations.Adds.{added}
-use Rattle.list_settled.specs.Prints.{Prints}
-use Rattle.list_settled.proofs.OneListing.{prints-one}
-use Rattle.proof_demands.specs.Refusals.{SheetAccepted, TakenUp, ReadingsAccepted, SheetRefused, AddRefused, AskRefused, Unchanged}
+use Rattle.list_settled.specs.Prints.{Prints, Settles}
+use Rattle.list_settled.proofs.OneListing.{prints-one, settles-one}
+use Rattle.proof_demands.specs.Refusals.{SheetAccepted, TakenUp, ReadingsAccepted, SheetRefused, AddRefused, AskRefused, SettleRefused, Unchanged}
 use Rattle.proof_demands.specs.Runs.{FromBlank, newIn, valued, ReadIn, AgreesWith}
 use Rattle.proof_demands.specs.Cuts.{CutInto, Given, RunCalls, InCalls}
 use Rattle.proof_demands.specs.Shuffles.{Parted, InParts, SaidAlike}
 use Rattle.proof_demands.specs.Listings.{lineOf, signAt, shown}
 use Rattle.spec_operations.proofs.Determined.{adds-one, asks-one}
-use Rattle.proof_demands.proofs.Refusals.{sheet-in, in-sheet-text, readings-in, taken-up, check-accepts, check-refusals, add-refusals, ask-accepts, ask-refusals}
-use Rattle.proof_demands.proofs.Answered.{check-some, add-some, add-accepts, ask-some, calls-some, run-some, prints-some}
+use Rattle.proof_demands.proofs.Refusals.{sheet-in, in-sheet-text, readings-in, taken-up, check-accepts, check-refusals, add-refusals, ask-accepts, ask-refusals, settle-refusals}
+use Rattle.proof_demands.proofs.Answered.{check-some, add-some, add-accepts, ask-some, calls-some, run-some, prints-some, settles-some}
 use Rattle.proof_demands.proofs.LastTable.{last-exactly, news-add-up, by-readings}
 use Rattle.proof_demands.proofs.Cuts.{part-accepted, parts-as-one, parts-add-up}
 use Rattle.proof_demands.proofs.Histories.{value-holds, no-contradiction, no-clash-told}
@@ -53,12 +53,15 @@ pub record Demand1 : Type 0 where
   pub add-no-other : (s r T U U′ : List ℕ) (a a′ : Result Gain) → Adds s r T U a → Adds s r T U′ a′ → (U ≡ U′) × (a ≡ a′)
   pub ask-answers : (s T : List ℕ) (x t : ℕ) → (a : Result Answer) × Asks s T x t a
   pub ask-no-other : (s T : List ℕ) (x t : ℕ) (a a′ : Result Answer) → Asks s T x t a → Asks s T x t a′ → a ≡ a′
-  pub settle-answers : (s r : List ℕ) → (l : List ℕ) × Prints s r l
-  pub settle-no-other : (s r l l′ : List ℕ) → Prints s r l → Prints s r l′ → l ≡ l′
+  pub settle-answers : (s r T : List ℕ) → Small 64 T → (U : List ℕ) × (a : Result (List ℕ)) × Prints s r T U a
+  pub settle-no-other : (s r T U U′ : List ℕ) (a a′ : Result (List ℕ)) → Prints s r T U a → Prints s r T U′ a′ → (U ≡ U′) × (a ≡ a′)
+  pub program-prints : (s r : List ℕ) → (l : List ℕ) × Settles s r l
+  pub program-no-other : (s r l l′ : List ℕ) → Settles s r l → Settles s r l′ → l ≡ l′
   -- "A refusal comes exactly in its listed case, gives its number and place, adds no facts and changes no mark in the table."
   pub check-refuses : (s : List ℕ) (n p : ℕ) → checked s ≡ refused n p ↔ SheetRefused s n p
   pub add-refuses : (s r T U : List ℕ) (n p : ℕ) → Adds s r T U (refused n p) ↔ (AddRefused s r T n p × Unchanged T U)
   pub ask-refuses : (s T : List ℕ) (x t n p : ℕ) → Asks s T x t (refused n p) ↔ AskRefused s T x t n p
+  pub settle-refuses : (s r T U : List ℕ) (n p : ℕ) → Prints s r T U (refused n p) ↔ (SettleRefused s r T n p × Unchanged T U)
   -- And what is accepted is so exactly by 01's lines and limits; ask's answers are in demand 2.
   pub check-accepts : (s : List ℕ) (n : ℕ) → checked s ≡ accepted n ↔ ((k : Contents) × SheetAccepted s k × (n ≡ rowCount (meant k)))
   pub add-accepts : (s r T : List ℕ) → Small 64 T → ((U : List ℕ) × (g : Gain) × Adds s r T U (accepted g)) ↔ ((k : Contents) × (ms : List Mark) × TakenUp s T k × ReadingsAccepted s k r ms)
@@ -71,10 +74,13 @@ demand-1 = record {
   ask-answers = ask-some;
   ask-no-other = λ s T x t a a′ y z. asks-one y z;
   settle-answers = prints-some;
-  settle-no-other = λ s r l l′ x y. prints-one x y;
+  settle-no-other = λ s r T U U′ a a′ x y. prints-one x y;
+  program-prints = settles-some;
+  program-no-other = λ s r l l′ x y. settles-one x y;
   check-refuses = λ s n p. check-refusals s;
   add-refuses = λ s r T U n p. add-refusals;
   ask-refuses = λ s T x t n p. ask-refusals;
+  settle-refuses = λ s r T U n p. settle-refusals;
   check-accepts = λ s n. check-accepts s;
   add-accepts = add-accepts;
 }
@@ -172,8 +178,8 @@ pub record Demand3 : Type 0 where
   -- where no such history exists": after calls of add, refused ones among them,
   pub holds : {s : List ℕ} {k : Contents} {rs : List (List ℕ)} {U : List ℕ} {answers : List (Result Gain)} → FromBlank s k rs U answers
       → (h : History) → Obeys (meant k) h → AgreesWith s k rs h → Holds s U answers h
-  -- and in what settle prints.
-  pub listed : {s r l : List ℕ} {k : Contents} → SheetAccepted s k → Prints s r l → (h : History) → Obeys (meant k) h → AgreesWith s k (r ∷ []) h → ListingHolds l h
+  -- and in what the listing program prints.
+  pub listed : {s r l : List ℕ} {k : Contents} → SheetAccepted s k → Settles s r l → (h : History) → Obeys (meant k) h → AgreesWith s k (r ∷ []) h → ListingHolds l h
 
 pub demand-3 : Demand3
 demand-3 = record {

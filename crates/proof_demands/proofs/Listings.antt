@@ -24,8 +24,8 @@ use Rattle.write_bytes.proofs.Decimals.{digits-one, digits-then}
 use Rattle.write_lines.specs.LineTexts.{lineText}
 use Rattle.list_signals.specs.Signals.{signByte, signs, signalText, signalsText}
 use Rattle.list_table.specs.Listing.{oneIf, headText, listingText, refusalText}
-use Rattle.list_settled.specs.Prints.{Prints}
-use Rattle.list_settled.specs.Prints.Prints.{no-sheet, not-added, listed}
+use Rattle.list_settled.specs.Prints.{Settles}
+use Rattle.list_settled.proofs.EmptyTable.{Shown, refusal, listing, shown as shown-by}
 use Rattle.spec_grammar.proofs.Lines.{in-line-by, in-line-then}
 use Rattle.open_sheet.specs.Results.{accepted}
 use Rattle.open_sheet.specs.SheetIn.{namesIn}
@@ -216,24 +216,28 @@ no-clash n p e = omega (arith, ap length (sym (no-line n p 3 (omega arith)) ∙ 
 -- ---- histories
 
 module _ {s r : List ℕ} {k : Contents} (x : SheetAccepted s k) (h : History) (obeys : Obeys (meant k) h) (agrees : AgreesWith s k (r ∷ []) h) where
-  -- Where settle prints 1 or 0, the history has that value,
-  pub listing-value : {l : List ℕ} → Prints s r l → (y t : ℕ) (v : Bool) → signAt l y t ≡ shown v → h y (pos t) ≡ v
-  listing-value (no-sheet {n} {p} e) y t v z = absurd (no-value n p y t v z)
-  listing-value (not-added {n = n} {p = p} e a) y t v z = absurd (no-value n p y t v z)
-  listing-value (listed {k = c} {U = U} {clash = clash} {f = f} e a q) y t v z =
+  value-shown : {l : List ℕ} → Shown s r l → (y t : ℕ) (v : Bool) → signAt l y t ≡ shown v → h y (pos t) ≡ v
+  value-shown (refusal n p) y t v z = absurd (no-value n p y t v z)
+  value-shown (listing {k = c} {U = U} {clash = clash} {f = f} e a q) y t v z =
       let i : k ≡ c = accepted-one (sym (in-sheet-text s x) ∙ e) in
       let g = signed (namesIn s c) (c .window) (rowCount (meant c)) (factsOf (meant c) U) clash f (names-in-line s (c .places)) y t (shown v) (sign-some v) z in
       let j : y < length (c .places) = omega (arith, g .signal, names-many s (c .places)) in
       let w : Asked (Standing (meant c) U) y t (valued v) = subst (Asked (Standing (meant c) U) y t) (sign-value (f y t) v (g .is)) (q y j t (g .tick)) in
       told-holds (record { sheet = sheet-in s e; run = call a done }) h (subst (λ (d : Contents). Obeys (meant d) h) i obeys) (subst (λ (d : Contents). AgreesWith s d (r ∷ []) h) i agrees) v (j, g .tick) w
 
-  -- and where it prints clash=1, there is none.
-  pub listing-clash : {l : List ℕ} → Prints s r l → lineOf l 3 ≡ bytes "clash=1" → ⊥
+  clash-told : {l : List ℕ} → Shown s r l → lineOf l 3 ≡ bytes "clash=1" → ⊥
   unfolding listingText
-  listing-clash (no-sheet {n} {p} e) z = no-clash n p z
-  listing-clash (not-added {n = n} {p = p} e a) z = no-clash n p z
-  listing-clash (listed {k = c} {U = U} {new = new} {clash = clash} {f = f} e a q) z =
+  clash-told (refusal n p) z = no-clash n p z
+  clash-told (listing {k = c} {U = U} {new = new} {clash = clash} {f = f} e a q) z =
       let i : k ≡ c = accepted-one (sym (in-sheet-text s x) ∙ e) in
       let told : clash ≡ true = clash-shown clash (sym (ap (λ (ls : List (List ℕ)). getD ls 3 []) (head-lines (rowCount (meant c)) (factsOf (meant c) U) clash (signalsText (c .window) f 0 (namesIn s c)))) ∙ z) in
       no-clash-told (record { sheet = sheet-in s e; run = call a done }) h (subst (λ (d : Contents). Obeys (meant d) h) i obeys) (subst (λ (d : Contents). AgreesWith s d (r ∷ []) h) i agrees) new
       (List·Memᴰ·head (ap (λ (b : Bool). accepted (gain new b)) (sym told)))
+
+  -- Where the listing program prints 1 or 0, the history has that value,
+  pub listing-value : {l : List ℕ} → Settles s r l → (y t : ℕ) (v : Bool) → signAt l y t ≡ shown v → h y (pos t) ≡ v
+  listing-value x = value-shown (shown-by x)
+
+  -- and where it prints clash=1, there is none.
+  pub listing-clash : {l : List ℕ} → Settles s r l → lineOf l 3 ≡ bytes "clash=1" → ⊥
+  listing-clash x = clash-told (shown-by x)

@@ -1,4 +1,4 @@
--- What is accepted, and each refusal exactly in its listed case: of the sheet, of the readings, of the sheet and the table, of add and of ask.
+-- What is accepted, and each refusal exactly in its listed case: of the sheet, of the readings, of the sheet and the table, of add, of the listing and of ask.
 -- Assumes nothing.
 use mathlib.Core.Path.{_≡_, refl, sym, ap, subst, _∙_}
 use mathlib.Core.Bool.{Bool, true, false, true≢false}
@@ -8,7 +8,7 @@ use Prim.Native.Nat.{ℕ, _<_, _≤_}
 use native.Mathlib.Decide.{decLt}
 use native.Mathlib.Omega.{arith}
 use borrow.Author.Tests.{le-leb}
-use lib.ListN.{length}
+use lib.ListN.{length, take-append-drop}
 use Rattle.spec_limits.specs.Limits.{mostBytes, mostHidden, mostRows}
 use Rattle.read_bytes.specs.Read.{Read}
 use Rattle.read_bytes.specs.Read.Read.{got, refused as unread}
@@ -18,7 +18,7 @@ use Rattle.spec_tilco.specs.Lists.{total}
 use Rattle.spec_tilco.specs.Formula.{hiddens}
 use Rattle.spec_tilco.specs.Lowering.{rowCount}
 use Rattle.spec_tilco.specs.Inference.{Mark, mark}
-use Rattle.spec_tilco.specs.Table.{words, Stands, Standing, facts, InRange, Answer, Asked}
+use Rattle.spec_tilco.specs.Table.{words, Stands, Standing, tableWords, facts, InRange, Answer, Asked}
 use Rattle.read_sheet.specs.Sheet.{Contents, sheetOf, meant}
 use Rattle.read_sheet.proofs.Wholes.{sheet-long}
 use Rattle.read_readings.specs.Readings.{readings}
@@ -33,13 +33,17 @@ use Rattle.open_table.specs.Opens.Opens.{both, not-the-sheet, not-the-length, n
 use Rattle.spec_operations.specs.Operations.{counted, checked, Adds, Asks}
 use Rattle.spec_operations.specs.Operations.Adds.{not-opened, not-read}
 use Rattle.spec_operations.specs.Operations.Asks.{not-opened as not-asked, out-of-range, asked}
+use Rattle.list_settled.specs.Prints.{Prints}
+use Rattle.list_settled.specs.Prints.Lists.{not-added}
+use Rattle.list_settled.specs.Prints.Prints.{no-sheet, no-room, on-table}
 use Rattle.open_table.proofs.Tables.{accepted-one, accepted-refused, in-sheet}
 use Rattle.open_sheet.proofs.Sheets.{in-refused, in-fits, in-over}
-use Rattle.proof_demands.specs.Refusals.{SheetReads, SheetAccepted, TakenUp, ReadingsAccepted, SheetRefused, TableRefused, AddRefused, AskRefused, Unchanged}
+use Rattle.proof_demands.specs.Refusals.{SheetReads, SheetAccepted, TakenUp, ReadingsAccepted, SheetRefused, TableRefused, AddRefused, AskRefused, SettleRefused, Unchanged}
 use Rattle.proof_demands.specs.Refusals.SheetRefused.{one, two-to-eight, nine}
 use Rattle.proof_demands.specs.Refusals.TableRefused.{of-the-sheet, fifteen, sixteen}
 use Rattle.proof_demands.specs.Refusals.AddRefused.{up-to-sixteen, ten, eleven-to-fourteen}
 use Rattle.proof_demands.specs.Refusals.AskRefused.{up-to-sixteen as up-to-the-table, seventeen}
+use Rattle.proof_demands.specs.Refusals.SettleRefused.{up-to-nine, twenty-nine, ten-to-sixteen}
 use Rattle.spec_operations.proofs.Determined.{refused-alike}
 use Rattle.proof_demands.proofs.Deciding.{inside-told}
 
@@ -196,6 +200,25 @@ module _ {s r T U : List ℕ} where
   -- add's, which keep the table.
   pub add-refusals : {n p : ℕ} → Adds s r T U (refused n p) ↔ (AddRefused s r T n p × Unchanged T U)
   add-refusals = (add-case, λ x. case-add (x .0) (x .1 .words))
+
+-- The listing program's, which keep the lent table.
+settle-case : {s r T U : List ℕ} {n p : ℕ} → Prints s r T U (refused n p) → SettleRefused s r T n p × Unchanged T U
+settle-case {s} (no-sheet e) = (up-to-nine (sheet-case s e), unchanged refl)
+settle-case {s} (no-room e l) = (twenty-nine (sheet-in s e) l, unchanged refl)
+settle-case {s} {T = T} (on-table {k} e l (not-added x)) = (ten-to-sixteen (sheet-in s e) l (add-case x .0), unchanged (take-append-drop (tableWords (meant k)) T))
+
+module _ {s r T U : List ℕ} where
+  case-settle : {n p : ℕ} → SettleRefused s r T n p → U ≡ T → Prints s r T U (refused n p)
+  case-settle {n} {p} x e = subst (λ (X : List ℕ). Prints s r T X (refused n p)) (sym e) (go x)
+    where
+      go : {n p : ℕ} → SettleRefused s r T n p → Prints s r T T (refused n p)
+      go (up-to-nine y) = no-sheet (case-sheet s y)
+      go (twenty-nine y l) = no-room (in-sheet-text s y) l
+      go (ten-to-sixteen {k} {n} {p} y l z) =
+          subst (λ (X : List ℕ). Prints s r T X (refused n p)) (take-append-drop (tableWords (meant k)) T) (on-table (in-sheet-text s y) l (not-added (case-add z refl)))
+
+  pub settle-refusals : {n p : ℕ} → Prints s r T U (refused n p) ↔ (SettleRefused s r T n p × Unchanged T U)
+  settle-refusals = (settle-case, λ x. case-settle (x .0) (x .1 .words))
 
 -- A signal or a tick outside its range.
 out-case : (k : Contents) (x t : ℕ) → (InRange (meant k) (mark x t true) → ⊥) → (length (k .places) ≤ x) ⊎ (k .window ≤ t)

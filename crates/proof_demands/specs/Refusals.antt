@@ -5,7 +5,7 @@ use mathlib.Core.Bool.{Bool}
 use mathlib.Core.List.{List}
 use mathlib.Core.Logic.{_⊎_, _↔_}
 use Prim.Native.Nat.{ℕ, _≤_, _<_}
-use lib.ListN.{length}
+use lib.ListN.{length, take}
 use Rattle.spec_limits.specs.Limits.{mostBytes, mostHidden, mostRows}
 use Rattle.spec_tilco.specs.Lists.{total}
 use Rattle.spec_tilco.specs.Formula.{hiddens}
@@ -68,6 +68,12 @@ pub data AddRefused (s r T : List ℕ) : ℕ → ℕ → Type 0 where
 pub data AskRefused (s T : List ℕ) (x t : ℕ) : ℕ → ℕ → Type 0 where
   up-to-sixteen : {n p : ℕ} → TableRefused s T n p → AskRefused s T x t n p
   seventeen : {k : Contents} → TakenUp s T k → (length (k .places) ≤ x) ⊎ (k .window ≤ t) → AskRefused s T x t 17 0
+
+-- The listing program's: the sheet's, "29, after 9, for a table over" the words that are lent, then add's for the sheet's table.
+pub data SettleRefused (s r T : List ℕ) : ℕ → ℕ → Type 0 where
+  up-to-nine : {n p : ℕ} → SheetRefused s n p → SettleRefused s r T n p
+  twenty-nine : {k : Contents} → SheetAccepted s k → length T < tableWords (meant k) → SettleRefused s r T 29 0
+  ten-to-sixteen : {k : Contents} {n p : ℕ} → SheetAccepted s k → tableWords (meant k) ≤ length T → AddRefused s r (take (tableWords (meant k)) T) n p → SettleRefused s r T n p
 
 -- A refusal "adds no facts and changes no mark in the table": the table keeps every word.
 pub record Unchanged (T U : List ℕ) : Type 0 where

@@ -9,17 +9,17 @@ use native.Mathlib.Omega.{arith}
 use lib.Dec.{eqb}
 use lib.ListN.{length, getD, set}
 use lib.Seq.{take-suc, take-suc-set}
-use Rattle.spec_limits.specs.Limits.{mostClosed}
+use Rattle.spec_limits.specs.Limits.{mostTicks}
 use Rattle.spec_tilco.specs.Inference.{Mark, mark}
 use Rattle.spec_tilco.specs.Lists.{All}
 use Rattle.read_readings.specs.MarkNumbers.{markOf, marksIn}
 
 -- The number of a mark is that mark; b is 1 for true and 0 for false.
-pub number-is : (w x t b : ℕ) {v : Bool} → t < mostClosed → b < 2 → w ≡ b + 2 * (t + mostClosed * x) → eqb b 1 ≡ v → markOf w ≡ mark x t v
+pub number-is : (w x t b : ℕ) {v : Bool} → t < mostTicks → b < 2 → w ≡ b + 2 * (t + mostTicks * x) → eqb b 1 ≡ v → markOf w ≡ mark x t v
 number-is w x t b h l i e =
-    let row : w / (2 * mostClosed) ≡ x = omega arith in
-    let half : w / 2 ≡ t + mostClosed * x = omega arith in
-    let tick : (t + mostClosed * x) % mostClosed ≡ t = omega arith in
+    let row : w / (2 * mostTicks) ≡ x = omega arith in
+    let half : w / 2 ≡ t + mostTicks * x = omega arith in
+    let tick : (t + mostTicks * x) % mostTicks ≡ t = omega arith in
     let value : w % 2 ≡ b = omega arith in
     rw (row, half, tick, value, e)
 

@@ -5,7 +5,7 @@ use mathlib.Core.List.{List, map}
 use Prim.Native.Nat.{ℕ, _+_, _*_, _/_, _%_, _<_, _≤_}
 use lib.Dec.{eqb}
 use lib.ListN.{length, take}
-use Rattle.spec_limits.specs.Limits.{mostClosed, mostReadings, mostSignals}
+use Rattle.spec_limits.specs.Limits.{mostTicks, mostReadings, mostSignals}
 use Rattle.read_lines.specs.declared.Step.{Step}
 use Rattle.read_lines.specs.declared.Step.the-variants.{Got, Refused}
 use Rattle.read_bytes.specs.Read.{Read}
@@ -14,7 +14,7 @@ use Rattle.spec_tilco.specs.Inference.{Mark, mark}
 
 -- The mark that a number is.
 abbrev pub markOf : ℕ → Mark
-markOf w = mark (w / (2 * mostClosed)) (w / 2 % mostClosed) (eqb (w % 2) 1)
+markOf w = mark (w / (2 * mostTicks)) (w / 2 % mostTicks) (eqb (w % 2) 1)
 
 -- The marks that the first k numbers of an array are.
 unfoldable pub marksIn : List ℕ → ℕ → List Mark
@@ -23,7 +23,7 @@ marksIn a k = map markOf (take k a)
 -- Readings can be noted in the array a: their window has ticks, its marks have numbers, and the array has room for every reading of a text.
 pub record CanNote (places : List ℕ) (window : ℕ) (a : List ℕ) : Type 0 where
   pub some : 1 ≤ window
-  pub ticks : window ≤ mostClosed
+  pub ticks : window ≤ mostTicks
   pub signals : length places ≤ mostSignals
   pub room : mostReadings ≤ length a
 

@@ -4,7 +4,7 @@ use mathlib.Core.Path.{_≡_}
 use mathlib.Core.List.{List}
 use Prim.Native.Nat.{ℕ, _*_, _≤_}
 use lib.ListN.{length}
-use Rattle.spec_limits.specs.Limits.{mostClosed, mostSignals}
+use Rattle.spec_limits.specs.Limits.{mostTicks, mostSignals}
 use Rattle.read_bytes.specs.Read.{Read}
 use Rattle.read_bytes.specs.Read.Read.{got, refused}
 use Rattle.spec_tilco.specs.Inference.{Mark}
@@ -15,7 +15,7 @@ use Rattle.read_readings.specs.declared.whole.Outcome.the-variants.{Acce
 -- Readings can be taken into the table T: their window has ticks, which n words cover, and the table has the rows of the signals.
 pub record CanTake (places : List ℕ) (window n : ℕ) (T : List ℕ) : Type 0 where
   pub some : 1 ≤ window
-  pub ticks : window ≤ mostClosed
+  pub ticks : window ≤ mostTicks
   pub covered : window ≤ 64 * n
   pub signals : length places ≤ mostSignals
   pub room : 2 * length places * n ≤ length T

@@ -51,12 +51,12 @@ allRefused (e ∷ es) = isRefused (sheetOf (bytes (e .text))) (e .number) (e .pl
 abbrev before : String
 before = "window=10\nsignals=1\nsignal=a\nrules=1\n"
 
--- No line at all; a leading zero; a window over 64; the next line is missing; a name given twice; a reserved name; an empty rule; a rule that stops short; a name that is not declared; an end over 63; a 33rd ( is open; no lf; bytes after the last line.
+-- No line at all; a leading zero; a window over 4,096; the next line is missing; a name given twice; a reserved name; an empty rule; a rule that stops short; a name that is not declared; an end over 63; a 33rd ( is open; no lf; bytes after the last line.
 abbrev examples : List Example
 examples =
     case "" 2 0 ∷
     case "window=010\n" 2 0 ∷
-    case "window=65\n" 3 7 ∷
+    case "window=4097\n" 3 7 ∷
     case "window=10\n" 2 10 ∷
     case "window=10\nsignals=2\nsignal=a\nsignal=a\n" 4 36 ∷
     case "window=10\nsignals=1\nsignal=since\n" 4 27 ∷

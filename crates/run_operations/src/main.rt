@@ -17,13 +17,13 @@ use run_cases::print;
 use run_cases::print_number;
 use run_cases::print_refusal;
 use run_cases::text_under;
-use table_marks::TABLE_WORDS;
+use spec_limits::LISTED_WORDS;
 use table_marks::Value;
 ghost use mathlib.Core.Path.{_≡_};
 ghost use Prim.Native.Nat.{_<_, _≤_};
 ghost use lib.ListN.{length};
 ghost use Rattle.io.specs.Counts.{Counts};
-ghost use Rattle.table_marks.specs.Sizes.{mostTableWords};
+ghost use Rattle.spec_limits.specs.Limits.{mostListedWords};
 
 // The number with one more decimal digit, as long as it stays below 2^64; a byte that is no digit changes nothing.
 fn with_digit(v: u64, b: u8) -> u64 {
@@ -69,11 +69,11 @@ fn set_word(cases: &[u8], at: usize, words: &mut [u64]) {
 }
 
 // The words that the lines from `from` to `to` give.
-fn words_from(cases: &[u8], from: usize, to: usize) -> [u64; TABLE_WORDS]
+fn words_from(cases: &[u8], from: usize, to: usize) -> [u64; LISTED_WORDS]
     requires { ⌜ to ≤ length (now cases) ⌝ }
-    ensures { λ r. ⌜ mostTableWords ≡ length r ⌝ }
+    ensures { λ r. ⌜ mostListedWords ≡ length r ⌝ }
 {
-    let mut words = [0u64; TABLE_WORDS];
+    let mut words = [0u64; LISTED_WORDS];
     let mut p = from;
     while p < to {
         set_word(cases, p, &mut words);
@@ -82,13 +82,13 @@ fn words_from(cases: &[u8], from: usize, to: usize) -> [u64; TABLE_WORDS]
     words
 }
 
-// How many words the table of the heading at `at` has, as many as the largest table's at the most.
+// How many words the table of the heading at `at` has, at most as many as a table that is listed.
 fn length_at(cases: &[u8], at: usize) -> usize
-    ensures { λ r. ⌜ r ≤ mostTableWords ⌝ }
+    ensures { λ r. ⌜ r ≤ mostListedWords ⌝ }
 {
     let second = next_word(cases, at);
     let n = decimal_at(cases, second) as usize;
-    if n < TABLE_WORDS { n } else { TABLE_WORDS }
+    if n < LISTED_WORDS { n } else { LISTED_WORDS }
 }
 
 // Prints each word that is not 0.
@@ -170,7 +170,7 @@ fn run_operation(cases: &[u8], above: usize, at: usize, words: &mut [u64], used:
 
 // Runs each case.
 fn run_all(cases: &[u8]) {
-    let mut words = [0u64; TABLE_WORDS];
+    let mut words = [0u64; LISTED_WORDS];
     let mut used = 0;
     let mut above = 0;
     let mut at = heading(cases, 0);

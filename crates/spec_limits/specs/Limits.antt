@@ -8,9 +8,9 @@ use Prim.Native.Nat.{ℕ, _+_, _*_}
 abbrev pub mostBytes : ℕ
 mostBytes = 32768
 
--- "Window 1 to 64 ticks."
+-- "Windows grow to 4,096" (E9).
 abbrev pub mostTicks : ℕ
-mostTicks = 64
+mostTicks = 4096
 
 -- "Signals 1 to 64."
 abbrev pub mostSignals : ℕ
@@ -44,6 +44,10 @@ mostHidden = 32
 abbrev pub mostRows : ℕ
 mostRows = 1024
 
+-- "The listing program prints 29, after 9, for a table over 8,192 words" (E9).
+abbrev pub mostListedWords : ℕ
+mostListedWords = 8192
+
 -- ---- our own
 
 -- A rule's formula has at most a node for each of its bytes, of four numbers each.
@@ -65,13 +69,9 @@ mostTops = mostRules + mostHidden
 abbrev pub mostReadings : ℕ
 mostReadings = 1489
 
--- A listing of 64 signals and 64 ticks has no more bytes.
+-- A listing has no more bytes: for each signal its name, a sign a tick and 15 more, and 108 before them.
 abbrev pub mostListed : ℕ
-mostListed = 8192
-
--- A table of so many ticks can be closed.
-abbrev pub mostClosed : ℕ
-mostClosed = 4096
+mostListed = (mostNameBytes + mostTicks + 15) * mostSignals + 108
 
 -- A row's code is kind + kinds * (a + numbers * b): so many kinds, and so many numbers for a.
 abbrev pub codeKinds : ℕ

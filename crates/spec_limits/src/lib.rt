@@ -4,7 +4,7 @@
 pub const BYTES: usize = 32768;
 
 // mostTicks: of a window.
-pub const TICKS: usize = 64;
+pub const TICKS: usize = 4096;
 
 // mostSignals
 pub const SIGNALS: usize = 64;
@@ -30,6 +30,9 @@ pub const HIDDEN: usize = 32;
 // mostRows
 pub const ROWS: usize = 1024;
 
+// mostListedWords: of a table that is listed.
+pub const LISTED_WORDS: usize = 8192;
+
 // arenaNumbers
 pub const ARENA: usize = 4 * RULE_BYTES;
 
@@ -43,10 +46,7 @@ pub const TOPS: usize = RULES + HIDDEN;
 pub const READINGS: usize = 1489;
 
 // mostListed
-pub const LISTED: usize = 8192;
-
-// mostClosed
-pub const CLOSED: usize = 4096;
+pub const LISTED: usize = (NAME_BYTES + TICKS + 15) * SIGNALS + 108;
 
 // codeKinds
 pub const KINDS: u64 = 8;

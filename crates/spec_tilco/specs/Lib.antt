@@ -7,5 +7,6 @@ pub mod Inference
 pub mod Lowering
 pub mod Former
 pub mod Table
+pub mod FormerTable
 pub mod Calls
 pub mod Short

@@ -7,7 +7,7 @@ ghost use mathlib.Core.List.{[], _∷_};
 ghost use mathlib.Core.Logic.{_↔_};
 ghost use Prim.Native.Nat.{_+_, _*_, _^_, _<_, _≤_};
 ghost use lib.ListN.{length};
-ghost use Rattle.spec_limits.specs.Limits.{mostClosed};
+ghost use Rattle.spec_limits.specs.Limits.{mostTicks};
 ghost use Rattle.spec_ticks.specs.Ticks.{block};
 ghost use Rattle.spec_tilco.specs.Inference.{mark, Clash};
 ghost use Rattle.spec_tilco.specs.Table.{words, Stands, Asked};
@@ -22,7 +22,7 @@ pub const TABLE_WORDS: usize = 2 * ROWS * WORDS;
 
 // The words that a row has for each value.
 pub fn words_of(window: usize) -> usize
-    requires { ⌜ window ≤ mostClosed ⌝ }
+    requires { ⌜ window ≤ mostTicks ⌝ }
     ensures { λ n. ⌜ n ≡ words window ⌝ }
 {
     (window + 63) / 64

@@ -9,10 +9,14 @@ pub fn wrong_number(random: &mut Random, draft: &mut Draft) {
         "0", "1", "2", "63", "64", "65", "66", "100", "99999", "65536", "100000", "00", "01",
         "064", "", "-1", "-0", "+1", " 1", "1 ", "a", "6a", "1.0", "\u{663}",
     ];
+    let windows = [
+        "0", "64", "65", "4095", "4096", "4097", "5000", "04096", "40960", "99999",
+    ];
     let value = random.pick(&odd).to_string();
-    match random.below(3) {
+    match random.below(4) {
         0 => draft.window = value,
-        1 => draft.signals = value,
+        1 => draft.window = random.pick(&windows).to_string(),
+        2 => draft.signals = value,
         _ => draft.rules_count = value,
     }
 }

@@ -8,7 +8,14 @@ use super::random::Random;
 /// Rules that make from 1,020 to 1,028 rows in all.
 pub fn rows_near_limit(random: &mut Random) -> Draft {
     let names = names(random, 1, 20);
-    let mut left = random.pick(&[1020, 1023, 1024, 1024, 1025, 1025, 1026, 1028]) - names.len();
+    let rows = random.pick(&[1020, 1023, 1024, 1024, 1025, 1025, 1026, 1028]);
+    let rules = rules_of_rows(random, &names, rows);
+    Draft::new(1 + random.below(64), names, rules)
+}
+
+/// Rules that make so many rows in all, those of the names among them.
+pub fn rules_of_rows(random: &mut Random, names: &[String], rows: usize) -> Vec<String> {
+    let mut left = rows - names.len();
     let mut rules = vec![];
     while left > 0 {
         let name = &names[random.below(names.len())];
@@ -32,7 +39,7 @@ pub fn rows_near_limit(random: &mut Random) -> Draft {
         left -= 2 * more as usize + 1;
     }
     rules.truncate(64);
-    Draft::new(1 + random.below(64), names, rules)
+    rules
 }
 
 /// From 31 to 34 since or until in all.

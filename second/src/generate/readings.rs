@@ -2,6 +2,8 @@
 
 use super::damage::damage;
 use super::random::Random;
+use super::windows;
+use crate::text::LONGEST_TEXT;
 
 /// Readings for a sheet with this window and these names.
 pub fn readings(random: &mut Random, window: usize, names: &[String]) -> Vec<u8> {
@@ -10,7 +12,7 @@ pub fn readings(random: &mut Random, window: usize, names: &[String]) -> Vec<u8>
     for _ in 0..count {
         text.extend(reading(random, window, names).bytes());
     }
-    match random.weighted(&[78, 9, 8, 3]) {
+    match random.weighted(&[76, 9, 8, 3, 2]) {
         0 => {}
         1 => {
             text.extend(wrong_reading(random, window, names).bytes());
@@ -19,7 +21,8 @@ pub fn readings(random: &mut Random, window: usize, names: &[String]) -> Vec<u8>
             }
         }
         2 => damage(random, &mut text),
-        _ => text = longest(random, window, names),
+        3 => text = longest(random, window, names),
+        _ => text = many(random, window, names),
     }
     if random.chance(2) {
         text.extend(reading(random, window, names).bytes());
@@ -32,9 +35,14 @@ fn written(tick: &str, name: &str, value: &str) -> String {
 }
 
 fn reading(random: &mut Random, window: usize, names: &[String]) -> String {
-    let tick = random.below(window).to_string();
+    let value = random.pick(&["0", "1"]);
+    reading_of(random, window, names, value)
+}
+
+fn reading_of(random: &mut Random, window: usize, names: &[String], value: &str) -> String {
+    let tick = windows::tick(random, window).to_string();
     let name = &names[random.below(names.len())];
-    written(&tick, name, random.pick(&["0", "1"]))
+    written(&tick, name, value)
 }
 
 /// A reading with at least one value that is not allowed, most often.
@@ -43,7 +51,8 @@ fn wrong_reading(random: &mut Random, window: usize, names: &[String]) -> String
     let mut name = names[random.below(names.len())].clone();
     let mut value = random.below(2).to_string();
     let numbers = [
-        "2", "3", "10", "64", "99999", "100000", "00", "01", "", "-0", "-1", "a", "1 ", "0\r",
+        "2", "3", "10", "64", "4095", "4096", "4097", "99999", "100000", "00", "01", "", "-0",
+        "-1", "a", "1 ", "0\r",
     ];
     let words = [
         "",
@@ -96,4 +105,17 @@ fn longest(random: &mut Random, window: usize, names: &[String]) -> Vec<u8> {
         text.resize(length, b'a');
     }
     text
+}
+
+/// As many readings of one value as fit, over the whole window.
+fn many(random: &mut Random, window: usize, names: &[String]) -> Vec<u8> {
+    let value = random.pick(&["0", "1"]);
+    let mut text = String::new();
+    loop {
+        let next = reading_of(random, window, names, value);
+        if text.len() + next.len() > LONGEST_TEXT {
+            return text.into_bytes();
+        }
+        text += &next;
+    }
 }

@@ -4,11 +4,11 @@ use super::damage::damage;
 use super::draft::{names, random_rules, Draft};
 use super::formula::{self, Style};
 use super::random::Random;
-use super::{faults, limit_formula, limits};
+use super::{borders, faults, limit_formula, limits, windows};
 
 /// A random sheet; about half are without a fault.
 pub fn sheet(random: &mut Random) -> Vec<u8> {
-    let mut draft = match random.weighted(&[30, 22, 8, 10, 5, 4, 4, 5, 3, 4]) {
+    let mut draft = match random.weighted(&[30, 22, 8, 10, 5, 4, 4, 5, 3, 4, 12]) {
         0 => small(random),
         1 => middle(random),
         2 => large(random),
@@ -18,14 +18,19 @@ pub fn sheet(random: &mut Random) -> Vec<u8> {
         6 => limits::hidden_near_limit(random),
         7 => limits::open_near_limit(random),
         8 => limits::rule_length(random),
-        _ => limits::intervals(random),
+        9 => limits::intervals(random),
+        _ => borders::borders(random),
     };
+    if random.chance(8) {
+        draft.window = windows::longer(random).to_string();
+    }
     match random.weighted(&[66, 5, 5, 3]) {
         0 => {}
         1 => faults::wrong_number(random, &mut draft),
         2 => faults::wrong_name(random, &mut draft),
         _ => faults::undeclared(random, &mut draft),
     }
+    windows::shorten(random, &mut draft);
     let mut text = draft.text();
     match random.weighted(&[74, 22, 4]) {
         0 => {}

@@ -2,7 +2,8 @@
 
 use crate::generate::{case, Call, Case};
 use crate::lower::lower;
-use crate::operations::{add, check};
+use crate::operations::{add, check, read};
+use crate::table::marks_of;
 use crate::text::{sheet, LONGEST_TEXT};
 
 #[test]
@@ -35,6 +36,31 @@ fn hidden_limit_is_met() {
     let accepted = |case: &Case| sheet::read(&case.sheet).is_ok_and(|sheet| lower(&sheet).is_ok());
     assert!(met(|case| hidden(case) == 32 && accepted(case)) > 5);
     assert!(met(|case| hidden(case) == 33) > 5);
+}
+
+#[test]
+fn windows_are_met() {
+    let window = |case: &Case| sheet::read(&case.sheet).map_or(0, |sheet| sheet.window);
+    for wanted in [1, 63, 64, 65, 127, 128, 129, 192, 4_095, 4_096] {
+        assert!(met(|case| window(case) == wanted) > 5, "{wanted}");
+    }
+    assert!(met(|case| (65..=300).contains(&window(case))) > 200);
+    assert!(met(|case| (301..=4_094).contains(&window(case))) > 10);
+}
+
+#[test]
+fn marks_outside_long_windows_are_met() {
+    let refused = |case: &Case, number: u64, window: fn(usize) -> bool| {
+        let Ok((sheet, rows)) = read(&case.sheet) else {
+            return false;
+        };
+        let refusal = marks_of(&case.table, rows.nodes.len(), sheet.window).err();
+        window(sheet.window) && refusal.map(|refusal| refusal.number) == Some(number)
+    };
+    for number in [15, 16] {
+        assert!(met(|case| refused(case, number, |window| window <= 64)) > 20);
+        assert!(met(|case| refused(case, number, |window| window > 64)) > 10);
+    }
 }
 
 /// Whether an accepted sheet has a rule of which this holds.

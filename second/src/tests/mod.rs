@@ -1,10 +1,21 @@
-//! Unit tests: the proved cases, the refusal table, the lowering, the closing and the generator; and how they write texts.
+//! Unit tests: the proved cases, the refusal table, the lowering, the closing, tables of several words and the generator; and how they write
+//! texts.
 
+mod borders;
 mod closing;
 mod generator;
+mod listed;
 mod lowering;
 mod proved;
 mod refusals;
+mod tables;
+
+use crate::text::Refusal;
+
+/// A refusal's number and place, or none.
+fn shown<T>(result: Result<T, Refusal>) -> Option<(u64, u64)> {
+    result.err().map(|refusal| (refusal.number, refusal.place))
+}
 
 /// A sheet of this window, these names (parted by spaces) and these rules.
 fn sheet(window: usize, names: &str, rules: &[&str]) -> String {

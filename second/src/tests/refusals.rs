@@ -1,13 +1,7 @@
 //! The document's table of refusals: number, place and order.
 
-use super::{readings, sheet};
+use super::{readings, sheet, shown};
 use crate::operations::{add, ask, check};
-use crate::text::Refusal;
-
-/// A refusal's number and place, or none.
-fn shown<T>(result: Result<T, Refusal>) -> Option<(u64, u64)> {
-    result.err().map(|refusal| (refusal.number, refusal.place))
-}
 
 fn checked(sheet: &str) -> Option<(u64, u64)> {
     shown(check(sheet.as_bytes()))
@@ -75,9 +69,14 @@ fn ranges() {
     let text = sheet(4, "a", &[]);
     for (window, refusal) in [
         ("0", Some((3, 7))),
-        ("65", Some((3, 7))),
+        ("4097", Some((3, 7))),
+        ("5000", Some((3, 7))),
         ("99999", Some((3, 7))),
+        ("04096", Some((2, 0))),
+        ("1", None),
         ("64", None),
+        ("65", None),
+        ("4096", None),
     ] {
         assert_eq!(
             checked(&text.replace("=4", &format!("={window}"))),

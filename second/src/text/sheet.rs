@@ -3,6 +3,7 @@
 use super::grammar::{self, Formula, Hidden};
 use super::lines::{is_name, Lines};
 use super::{refuse, Refusal, LONGEST_TEXT};
+use std::ops::{Range, RangeInclusive};
 
 /// A sheet as read.
 pub struct Sheet {
@@ -16,9 +17,13 @@ pub struct Sheet {
 /// A rule, and the numbers of the hidden signals written in it.
 pub struct Rule {
     pub formula: Formula,
-    pub hidden: std::ops::Range<usize>,
+    pub hidden: Range<usize>,
 }
 
+/// The most ticks, signals and rules.
+pub const LONGEST_WINDOW: u64 = 4_096;
+const MOST_SIGNALS: u64 = 64;
+const MOST_RULES: u64 = 64;
 const LONGEST_RULE: usize = 256;
 
 pub fn read(text: &[u8]) -> Result<Sheet, Refusal> {
@@ -26,8 +31,8 @@ pub fn read(text: &[u8]) -> Result<Sheet, Refusal> {
         return refuse(1, 0);
     }
     let mut lines = Lines::new(text, 2);
-    let window = amount(&mut lines, "window=", 1)?;
-    let signals = amount(&mut lines, "signals=", 1)?;
+    let window = amount(&mut lines, "window=", 1..=LONGEST_WINDOW)?;
+    let signals = amount(&mut lines, "signals=", 1..=MOST_SIGNALS)?;
     let mut sheet = Sheet {
         window,
         names: vec![],
@@ -37,7 +42,7 @@ pub fn read(text: &[u8]) -> Result<Sheet, Refusal> {
     for _ in 0..signals {
         read_name(&mut lines, &mut sheet)?;
     }
-    let rules = amount(&mut lines, "rules=", 0)?;
+    let rules = amount(&mut lines, "rules=", 0..=MOST_RULES)?;
     for _ in 0..rules {
         read_rule(&mut lines, &mut sheet)?;
     }
@@ -45,10 +50,10 @@ pub fn read(text: &[u8]) -> Result<Sheet, Refusal> {
     Ok(sheet)
 }
 
-/// A line with a number from `least` to 64.
-fn amount(lines: &mut Lines, key: &str, least: u64) -> Result<usize, Refusal> {
+/// A line with a number in this range.
+fn amount(lines: &mut Lines, key: &str, range: RangeInclusive<u64>) -> Result<usize, Refusal> {
     let (number, place) = lines.number(key)?;
-    if number < least || number > 64 {
+    if !range.contains(&number) {
         return refuse(3, place);
     }
     Ok(number as usize)

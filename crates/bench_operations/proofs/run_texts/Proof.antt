@@ -1,6 +1,7 @@
 -- `run_texts` is safe and ends. Assumes nothing.
 use native.Mathlib.Omega.{arith}
 use mathlib.Core.Path.{sym}
+use lib.ListN.{length-take}
 use lib.Seq.{length-take-le}
 use borrow.Author.Needs.{needs}
 use Rattle.bench_operations.proofs.run_texts.Statement.{statement}
@@ -18,14 +19,11 @@ words-for-requires c κs = search needs
 array-borrow-prefix-table : tie.Need-array-borrow-prefix-table
 array-borrow-prefix-table c = search needs
 
-slice-aggregate-run-times : tie.Need-slice-aggregate-run-times
-slice-aggregate-run-times c = sym (length-take-le _ _ (omega arith))
+slice-aggregate-run-table : tie.Need-slice-aggregate-run-table
+slice-aggregate-run-table c = sym (length-take-le _ _ (omega arith))
 
-run-times-requires : tie.Need-run-times-requires
-run-times-requires c κs = search needs
-
-print-answer-requires : tie.Need-print-answer-requires
-print-answer-requires c κs = search needs
+run-table-requires : tie.Need-run-table-requires
+run-table-requires c κs = simp length-take (omega arith)
 
 returns : tie.Need-returns
 returns c = search needs
@@ -38,7 +36,6 @@ run-texts-spec =
     run-asked-requires
     words-for-requires
     array-borrow-prefix-table
-    slice-aggregate-run-times
-    run-times-requires
-    print-answer-requires
+    slice-aggregate-run-table
+    run-table-requires
     returns)

@@ -1,46 +1,15 @@
 -- `add` meets its contract. Assumes nothing.
 use native.Mathlib.Omega.{arith}
-use mathlib.Core.Path.{refl}
-use lib.ListN.{length-take}
-use Rattle.spec_operations.specs.Operations.Adds.{not-opened}
-use Rattle.open_sheet.proofs.Buffers.{fresh}
-use Rattle.open_table.proofs.Tables.{when-opened, when-not-opened}
+use Rattle.op_add.proofs.WorkLists.{short-enough, long-enough}
 use borrow.Author.Needs.{needs}
 use Rattle.op_add.proofs.add.Statement.{statement}
 use Rattle.op_add.proofs.add.Tie as tie
 
-slice-aggregate-open-table : tie.Need-slice-aggregate-open-table
-slice-aggregate-open-table c = search needs
+slice-aggregate-add-with : tie.Need-slice-aggregate-add-with
+slice-aggregate-add-with c = search needs
 
-slice-aggregate-open-table-2 : tie.Need-slice-aggregate-open-table-2
-slice-aggregate-open-table-2 c = search needs
-
-slice-aggregate-open-table-3 : tie.Need-slice-aggregate-open-table-3
-slice-aggregate-open-table-3 c = search needs
-
-open-table-requires : tie.Need-open-table-requires
-open-table-requires c κs = fresh
-
-enum-known-o : tie.Need-enum-known-o
-enum-known-o c = search needs
-
-array-share-prefix-places : tie.Need-array-share-prefix-places
-array-share-prefix-places c = let h = when-opened (c .before .before .before .before .before .before .open-table .ensures) (c .before .o .given .1) in omega (arith, h .0)
-
-slice-aggregate-add-opened : tie.Need-slice-aggregate-add-opened
-slice-aggregate-add-opened c = let h = when-opened (c .before .before .before .before .before .before .before .open-table .ensures) (c .before .before .o .given .1) in simp length-take (omega (arith, h .0))
-
-slice-aggregate-add-opened-2 : tie.Need-slice-aggregate-add-opened-2
-slice-aggregate-add-opened-2 c = search needs
-
-slice-aggregate-add-opened-3 : tie.Need-slice-aggregate-add-opened-3
-slice-aggregate-add-opened-3 c = search needs
-
-add-opened-requires : tie.Need-add-opened-requires
-add-opened-requires c κs = when-opened (c .before .before .before .before .before .before .before .before .before .before .open-table .ensures) (c .before .before .before .before .before .o .given .1) .1
-
-enum-known-o-2 : tie.Need-enum-known-o-2
-enum-known-o-2 c = search needs
+add-with-requires : tie.Need-add-with-requires
+add-with-requires c κs = short-enough _ (omega (arith, c .before .before .if1 .taken))
 
 same-length : tie.Need-same-length
 same-length c = search needs
@@ -48,28 +17,27 @@ same-length c = search needs
 returns : tie.Need-returns
 returns c = search needs
 
+slice-aggregate-add-with-2 : tie.Need-slice-aggregate-add-with-2
+slice-aggregate-add-with-2 c = search needs
+
+add-with-requires-2 : tie.Need-add-with-requires-2
+add-with-requires-2 c κs = long-enough _
+
 same-length-2 : tie.Need-same-length-2
 same-length-2 c = search needs
 
 returns-2 : tie.Need-returns-2
-returns-2 c = not-opened (when-not-opened (c .before .before .before .before .before .before .open-table .ensures) (c .before .o2 .given .1)) refl
+returns-2 c = search needs
 
 pub add-spec : {M : Type 1} → statement M
 add-spec =
     tie.close
     (tie.spec
-    slice-aggregate-open-table
-    slice-aggregate-open-table-2
-    slice-aggregate-open-table-3
-    open-table-requires
-    enum-known-o
-    array-share-prefix-places
-    slice-aggregate-add-opened
-    slice-aggregate-add-opened-2
-    slice-aggregate-add-opened-3
-    add-opened-requires
-    enum-known-o-2
+    slice-aggregate-add-with
+    add-with-requires
     same-length
     returns
+    slice-aggregate-add-with-2
+    add-with-requires-2
     same-length-2
     returns-2)

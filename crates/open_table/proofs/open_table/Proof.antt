@@ -1,10 +1,10 @@
 -- `open_table` meets its contract. Assumes nothing.
 use native.Mathlib.Omega.{arith}
-use mathlib.Core.Path.{sym, _∙_}
+use mathlib.Core.Path.{refl, sym, _∙_}
 use borrow.Author.Tests.{not-true, not-false}
 use Rattle.table_facts.proofs.Clashing.{never}
 use Rattle.open_table.specs.OpenedTable.TableOpens.{ready, refused-at}
-use Rattle.open_table.proofs.Tables.{when-sheet, window-range, row-range, row-words, table-most, wrong-length, outside, within, sheet-refused}
+use Rattle.open_table.proofs.Tables.{when-sheet, window-range, words-most, wrong-length, outside, within, sheet-refused}
 use borrow.Author.Needs.{needs}
 use Rattle.open_table.proofs.open_table.Statement.{statement}
 use Rattle.open_table.proofs.open_table.Tie as tie
@@ -31,16 +31,15 @@ returns : tie.Need-returns
 returns c = sheet-refused _ (c .before .before .before .before .before .before .before .before .open-sheet .ensures) (c .enum-told .given .1)
 
 words-of-requires : tie.Need-words-of-requires
-words-of-requires c κs = let k = when-sheet (c .before .before .before .before .before .before .before .before .before .open-sheet .ensures) (c .before .o .given .1) .1 in omega (arith, window-range k .1)
+words-of-requires c κs = let k = when-sheet (c .before .before .before .before .before .before .before .before .before .open-sheet .ensures) (c .before .o .given .1) .1 in words-most k _ refl .0
 
 mul-if1 : tie.Need-mul-if1
-mul-if1 c = let k = when-sheet (c .before .before .before .before .before .before .before .before .before .before .open-sheet .ensures) (c .before .before .o .given .1) .1 in omega (arith, row-range k)
+mul-if1 c = let k = when-sheet (c .before .before .before .before .before .before .before .before .before .before .open-sheet .ensures) (c .before .before .o .given .1) .1 in omega (arith, words-most k _ refl .1)
 
 mul-if1-2 : tie.Need-mul-if1-2
 mul-if1-2 c =
     let k = when-sheet (c .before .before .before .before .before .before .before .before .before .before .open-sheet .ensures) (c .before .before .o .given .1) .1 in
-    let n = row-words (window-range k .0) (window-range k .1) (c .words-of .ensures) in
-    omega (arith, table-most (row-range k) (n .most))
+    omega (arith, words-most k _ (c .words-of .ensures) .2)
 
 same-length-4 : tie.Need-same-length-4
 same-length-4 c = search needs
@@ -57,8 +56,7 @@ returns-2 c = let k = when-sheet (c .before .before .before .before .before .bef
 inside-window-requires : tie.Need-inside-window-requires
 inside-window-requires c κs =
     let k = when-sheet (c .before .before .before .before .before .before .before .before .before .before .before .open-sheet .ensures) (c .before .before .before .o .given .1) .1 in
-    let n = row-words (window-range k .0) (window-range k .1) (c .before .words-of .ensures) in
-    (c .if1 .left, window-range k .0, c .before .words-of .ensures, omega (arith, table-most (row-range k) (n .most)))
+    (c .if1 .left, window-range k .0, c .before .words-of .ensures, omega (arith, words-most k _ (c .before .words-of .ensures) .2))
 
 same-length-7 : tie.Need-same-length-7
 same-length-7 c = search needs

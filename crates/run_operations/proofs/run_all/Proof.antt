@@ -4,13 +4,13 @@ use native.Mathlib.Omega.{arith}
 use Prim.Native.Nat.{_-_, _≤_}
 use mathlib.Core.Path.{_≡_}
 use lib.ListN.{length}
-use Rattle.table_marks.specs.Sizes.{mostTableWords}
+use Rattle.spec_limits.specs.Limits.{mostListedWords}
 use Rattle.run_cases.proofs.Places.{counted}
 use Rattle.run_operations.proofs.run_all.Statement.{statement}
 use Rattle.run_operations.proofs.run_all.Tie as tie
 
 abbrev Inv-loop : tie.InvT-loop
-Inv-loop cases words₀ used₀ above₀ at₀ t8 t9 words used above at = (above ≤ at) × (at ≤ length cases) × (used ≤ mostTableWords) × (mostTableWords ≡ length words)
+Inv-loop cases words₀ used₀ above₀ at₀ t8 t9 words used above at = (above ≤ at) × (at ≤ length cases) × (used ≤ mostListedWords) × (mostListedWords ≡ length words)
 
 abbrev μ-loop : tie.MeasureT-loop
 μ-loop cases words₀ used₀ above₀ at₀ t8 t9 words used above at = length cases - at

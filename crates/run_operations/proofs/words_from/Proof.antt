@@ -3,12 +3,12 @@ use borrow.Author.Needs.{needs}
 use Prim.Native.Nat.{_-_}
 use mathlib.Core.Path.{_≡_}
 use lib.ListN.{length}
-use Rattle.table_marks.specs.Sizes.{mostTableWords}
+use Rattle.spec_limits.specs.Limits.{mostListedWords}
 use Rattle.run_operations.proofs.words_from.Statement.{statement}
 use Rattle.run_operations.proofs.words_from.Tie as tie
 
 abbrev Inv-loop : tie.InvT-loop
-Inv-loop cases from to words₀ p₀ words p = mostTableWords ≡ length words
+Inv-loop cases from to words₀ p₀ words p = mostListedWords ≡ length words
 
 abbrev μ-loop : tie.MeasureT-loop
 μ-loop cases from to words₀ p₀ words p = length cases - p

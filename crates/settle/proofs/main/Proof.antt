@@ -38,14 +38,17 @@ slice-aggregate-settle-2 c = search needs
 slice-aggregate-settle-3 : tie.Need-slice-aggregate-settle-3
 slice-aggregate-settle-3 c = search needs
 
+slice-aggregate-settle-4 : tie.Need-slice-aggregate-settle-4
+slice-aggregate-settle-4 c = search needs
+
 settle-requires : tie.Need-settle-requires
 settle-requires c κs = search needs
 
 array-share-prefix-out : tie.Need-array-share-prefix-out
-array-share-prefix-out c = omega (arith, c .before .settle .ensures .most)
+array-share-prefix-out c = omega (arith, c .before .before .settle .ensures .most)
 
 slice-aggregate-write-all : tie.Need-slice-aggregate-write-all
-slice-aggregate-write-all c = simp length-take (omega (arith, c .before .before .settle .ensures .most))
+slice-aggregate-write-all c = simp length-take (omega (arith, c .before .before .before .settle .ensures .most))
 
 write-all-requires : tie.Need-write-all-requires
 write-all-requires c κs = search needs
@@ -68,6 +71,7 @@ main-spec =
     array-share-prefix-readings
     slice-aggregate-settle-2
     slice-aggregate-settle-3
+    slice-aggregate-settle-4
     settle-requires
     array-share-prefix-out
     slice-aggregate-write-all

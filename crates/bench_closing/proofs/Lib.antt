@@ -1,2 +1,0 @@
--- The laws.
-pub mod Preparing
