@@ -9,7 +9,7 @@ use Rattle.table_marks.specs.Sizes.{mostWords}
 use Rattle.close_list.specs.Items.{per}
 use Rattle.op_add.specs.WorkLists.{ListFor}
 
--- Up to 64 rows have one word at each word of ticks; more rows have 32 or more in each.
+-- Up to 64 rows take one word of the list for each word of ticks; more rows fill each of its words by half at least.
 few-items : (count n : ℕ) → n ≤ mostWords → 2 * count * n ≤ 2 * mostRows → per count * n ≤ mostWords
 few-items count n h l = go (decLe count 64)
   where

@@ -1,6 +1,8 @@
-// Runs the readers on a table of cases and prints each text with its answer. Assumes nothing of the cases, which are on standard input.
-// A text stands under a heading: `=== sheet` or `=== readings`, then what it shows. Readings are read against the sheet before them.
+// Runs the readers and the listing on a table of cases and prints each text with its answer. Assumes nothing of the cases, which are on standard input.
+// A text stands under a heading: `=== sheet`, `=== readings` or `=== list`, then what it shows. Readings are read against the sheet before them; under
+// `=== list` they are listed with it.
 use libc::STDIN_FILENO;
+use list_settled::settle;
 use op_check::Checking;
 use op_check::check;
 use read_bytes::bytes::starts_at;
@@ -14,6 +16,8 @@ use run_cases::print;
 use run_cases::print_number;
 use run_cases::print_refusal;
 use run_cases::text_under;
+use spec_limits::LISTED;
+use spec_limits::LISTED_WORDS;
 use spec_limits::SIGNALS;
 use table_marks::WORDS;
 ghost use Prim.Native.Nat.{_<_};
@@ -71,6 +75,20 @@ fn run_readings(cases: &[u8], above: usize, at: usize)
     }
 }
 
+// Lists the readings under the heading at `at` with the sheet under that at `above`. The table lent is as long as the listing program's, and empty.
+fn run_list(cases: &[u8], above: usize, at: usize)
+    requires { ⌜ (above < length (now cases)) × (at < length (now cases)) ⌝ }
+{
+    let mut lines = io::large_buffer();
+    let n = text_under(cases, above, &mut lines);
+    let mut buffer = io::large_buffer();
+    let m = text_under(cases, at, &mut buffer);
+    let mut table = [0u64; LISTED_WORDS];
+    let mut out = [0u8; LISTED];
+    let end = settle(&lines[..n], &buffer[..m], &mut table, &mut out);
+    print(&out[..end]);
+}
+
 // Runs each case.
 fn run_all(cases: &[u8]) {
     let mut above = 0;
@@ -82,6 +100,8 @@ fn run_all(cases: &[u8]) {
         if starts_at(cases, at, b"=== sheet") {
             above = at;
             run_sheet(cases, at);
+        } else if starts_at(cases, at, b"=== list") {
+            run_list(cases, above, at);
         } else {
             run_readings(cases, above, at);
         }

@@ -48,7 +48,7 @@ same-length c = search needs
 returns : tie.Need-returns
 returns c =
     let y = when-sheet (c .before .before .before .before .before .before .before .before .before .before .before .before .open-sheet .ensures) (c .before .before .before .before .before .before .before .o .given .1) in
-    prints-no-room (y .1) _ (c .before .before .before .before .before .words-of .ensures) (c .before .before .before .before .if1 .taken) (c .before .before .write-refusal .ensures)
+    prints-no-room (y .1) _ (c .before .before .before .before .before .words-of .ensures) (omega (arith, c .before .before .before .before .if1 .taken)) (c .before .before .write-refusal .ensures)
 
 array-share-prefix-places : tie.Need-array-share-prefix-places
 array-share-prefix-places c =

@@ -2,8 +2,8 @@
 use native.Mathlib.Omega.{arith}
 use lib.ListN.{length-take}
 use borrow.Author.Needs.{needs}
-use Rattle.run_listings.proofs.run_list.Statement.{statement}
-use Rattle.run_listings.proofs.run_list.Tie as tie
+use Rattle.run_texts.proofs.run_list.Statement.{statement}
+use Rattle.run_texts.proofs.run_list.Tie as tie
 
 large-buffer-requires : tie.Need-large-buffer-requires
 large-buffer-requires c κs = search needs
