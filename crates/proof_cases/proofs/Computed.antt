@@ -18,7 +18,7 @@ use Rattle.spec_tilco.specs.Formula.{Sheet}
 use Rattle.spec_tilco.specs.Inference.{Mark, mark, Marks, start, _or_, Clash}
 use Rattle.spec_tilco.specs.Lowering.{program, rowCount}
 use Rattle.spec_tilco.specs.Table.{words, Standing, tableWords, ReadMarks, Leads, Added, Answer, Unsettled, True, False, Contradiction, Asked, clashes, holds, fails, neither}
-use Rattle.spec_tilco.proofs.OneWord.{one-word, table-length, standing-bit}
+use Rattle.spec_tilco.proofs.OneWord.{one-word, as-long-as-before, standing-bit}
 use Rattle.proof_cases.proofs.ComputedClosing.{and-left, and-right, both-so, allOf, allOf-all, someBelow, some-found, found-some, Plain, stands, stands-is, is-stands, closing, closed, closing-derived, inside-word, closed-exactly}
 
 abbrev blank : Sheet → List ℕ
@@ -163,7 +163,7 @@ module _ (s : Sheet) (R : List Mark) where
 
     -- The table has two words a row.
     pub two-a-row : tableWords s ≡ 2 * rowCount s
-    two-a-row = table-length s some most
+    two-a-row = as-long-as-before s some most
 
     pub added : Added s (blank s) R U
     added = record {

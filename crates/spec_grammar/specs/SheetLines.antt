@@ -29,7 +29,7 @@ key (signal w zero places) = bytes "rules="
 key (signal w (suc n) places) = bytes "signal="
 key (rule w places m ws) = bytes "rule="
 
--- "Window 1 to 64 ticks, signals 1 to 64, rules 0 to 64": the least and the greatest number, and what comes after one.
+-- "Windows grow to 4,096" (E9); "Signals 1 to 64, rules 0 to 64": the least and the greatest number, and what comes after one.
 pub data Ranged : Next → ℕ → ℕ → (ℕ → Next) → Type 0 where
   ticks : Ranged window 1 mostTicks signals
   signal-count : {w : ℕ} → Ranged (signals w) 1 mostSignals (λ n. signal w n [])

@@ -12,7 +12,6 @@ use Rattle.spec_ticks.proofs.Bits.{has-below}
 use Rattle.spec_ticks.proofs.Tables.{in-to, in-from}
 use Rattle.spec_tilco.specs.Formula.{Sheet}
 use Rattle.spec_tilco.specs.Inference.{Mark, mark, _or_}
-use Rattle.spec_tilco.specs.Lowering.{rowCount}
 use Rattle.spec_tilco.specs.Table.{words, Stands, Standing, tableWords, ReadMarks, Leads, Added}
 use Rattle.spec_tilco.specs.FormerTable.{FormerStands, formerWords, FormerAdded}
 use Rattle.spec_tilco.proofs.Derives.{monotone}
@@ -32,10 +31,6 @@ module _ (s : Sheet) (some : 1 ≤ s .window) (most : s .window ≤ 64) where
   unfolding words
   one-word = omega arith
 
-  -- "Table length is not twice the row count" (refusal 15).
-  pub table-length : tableWords s ≡ 2 * rowCount s
-  table-length = rw one-word (omega arith)
-
   -- A mark at a tick of a word stands exactly if its bit is set.
   pub standing-bit : (T : List ℕ) (r t i : ℕ) (v : Bool) → t < 64 → i ≡ block r v → Standing s T (mark r t v) ↔ (bit (getD T i 0) t ≡ 1)
   standing-bit T r t i v h e = subst (λ (n : ℕ). Stands n T (mark r t v) ↔ (bit (getD T i 0) t ≡ 1)) (sym one-word) (one-stands T r t i v h e)
@@ -53,7 +48,7 @@ module _ (s : Sheet) (some : 1 ≤ s .window) (most : s .window ≤ 64) where
 
   -- "A window up to 64 gives today's table exactly": as long,
   pub as-long-as-before : tableWords s ≡ formerWords s
-  as-long-as-before = table-length
+  as-long-as-before = rw one-word (omega arith)
 
   -- and word for word what an add made, no other.
   pub added-as-before : (T : List ℕ) (R : List Mark) (U : List ℕ) → Small 64 T → Added s T R U ↔ FormerAdded s T R U

@@ -14,11 +14,11 @@ use Rattle.spec_tilco.specs.Meaning.{History}
 use Rattle.spec_tilco.specs.Lowering.{program, rowCount}
 use Rattle.spec_tilco.specs.Inference.{Mark, mark, Marks, Derives, _or_, Clash}
 
--- The words that a row has for each value: the fewest that cover the window, one up to 64 ticks.
+-- "Each row has the fewest words that cover the window for its true marks, then as many for its false marks" (E9): how many that is.
 unfoldable pub words : ℕ → ℕ
 words W = (W + 63) / 64
 
--- "Word 2r holds row r's true marks and word 2r+1 its false marks; bit t is tick t": the mark stands in a table of n words a row and value.
+-- The mark stands in a table of n words for each row and value, "tick 0 first" (E9).
 abbrev pub Stands : ℕ → List ℕ → Marks
 Stands n T (mark r t v) = MarkAt 64 n T r t v
 
