@@ -73,7 +73,7 @@ shared-slice-read-if2 c =
     let l = c .before .before .loop in
     let o = start .pre in
     let a = start .args in
-    last-in (a .n) (a .n - 1) (l .k) (a .count) (length (a .marks .now)) (l .inv .2) (o .0) (omega arith)
+    omega (arith, last-in (a .n) (a .n - 1) (l .k) (a .count) (length (a .marks .now)) (l .inv .2) (o .0) (omega arith))
 
 shr-if2 : tie.Need-shr-if2 Inv-loop μ-loop
 shr-if2 c = c .before .before .loop .inv .4
