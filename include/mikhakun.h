@@ -38,12 +38,16 @@ extern "C" {
 
 /* The numbers of refusal. A place is counted in bytes from 0: for 2 to 8 in the sheet, for 11 to 14 in the readings, and else it is 0. Of a line
  * it is the first byte, or the text's length where the line is missing; of a value, a name, an interval or a sign its first byte. No function here
- * answers 29: the program `settle` prints it, after 9, for a sheet whose table has over 8,192 words. */
+ * answers 29: the program `settle` prints it, after 9, for a sheet whose table has over 8,192 words.
+ *
+ * A name is a lower-case letter and then lower-case letters or digits, 1 to 16 in all; since and until are reserved. The number at its end, if there
+ * is one, has no leading zero unless it is 0 alone, and is at most 9,999. A name that breaks this can't be declared: aisle02 is 4 in a signal line,
+ * 6 in a rule and 12 in readings. */
 enum {
     MIKHAKUN_SHEET_TOO_LONG = 1,     /* the sheet is over 32,768 bytes */
     MIKHAKUN_SHEET_LINE = 2,         /* a sheet line is missing, not of its form, out of order or without LF; or bytes follow the last line */
     MIKHAKUN_OUT_OF_RANGE = 3,       /* window is outside 1 to 4,096, signals outside 1 to 64 or rules outside 0 to 64: the value */
-    MIKHAKUN_SIGNAL_NAME = 4,        /* a signal's name is not of its form, reserved or given twice: the value */
+    MIKHAKUN_SIGNAL_NAME = 4,        /* a signal's name is not of the form above, reserved or given twice: the value */
     MIKHAKUN_RULE = 5,               /* a rule's length is outside 1 to 256: the value; or its formula does not fit: what cannot follow */
     MIKHAKUN_NOT_DECLARED = 6,       /* a rule has a name that is not declared: the name */
     MIKHAKUN_INTERVAL = 7,           /* an interval has an end outside -63 to 63, or no whole number inside: its opening bracket */

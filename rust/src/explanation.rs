@@ -1,7 +1,8 @@
 //! A refusal told with the line that it is in.
 
+use crate::name::{end_number_fault, is_name_byte, is_reserved, is_spelled};
 use crate::{Refusal, Text};
-use std::fmt;
+use std::{fmt, str};
 
 /// The most bytes of a line that are shown on each side of the place.
 const SIDE: usize = 60;
@@ -58,6 +59,11 @@ impl<'a> Spot<'a> {
         }
     }
 
+    /// The line from the place on.
+    fn rest(&self) -> &'a [u8] {
+        &self.bytes[self.at..]
+    }
+
     /// The line, each byte as one sign, cut to what stands near the place, and how many signs stand before the place.
     fn shown(&self) -> (String, usize) {
         let from = self.at.saturating_sub(SIDE);
@@ -96,10 +102,46 @@ impl<'a> Explanation<'a> {
             None => self.refusal.sentence(),
         }
     }
+
+    /// The name that the sentence is about, where the number at its end is wrong: the place is the name's first byte.
+    ///
+    /// ```
+    /// let sheet = b"window=10\nsignals=1\nsignal=aisle02\nrules=0\n";
+    /// let explanation = mikhakun::check(sheet).unwrap_err().explain(sheet, b"");
+    /// assert_eq!(explanation.name(), Some("aisle02"));
+    /// assert_eq!(explanation.sentence(), "a number at the end of a name has no leading zero");
+    /// assert_eq!(
+    ///     explanation.to_string(),
+    ///     "sheet, line 3, column 8: aisle02: a number at the end of a name has no leading zero (refusal 4)\n\
+    ///      \x20   signal=aisle02\n\
+    ///      \x20          ^"
+    /// );
+    /// ```
+    pub fn name(&self) -> Option<&'a str> {
+        let (name, _) = end_number_fault_at(self.refusal, self.spot.as_ref()?)?;
+        Some(name)
+    }
+}
+
+/// The name at the spot and what is wrong with the number at its end, if the refusal is of a name and that is what is wrong with it.
+fn end_number_fault_at<'a>(refusal: Refusal, spot: &Spot<'a>) -> Option<(&'a str, &'static str)> {
+    let rest = spot.rest();
+    let name = match refusal.number() {
+        4 | 12 => rest,
+        6 => &rest[..rest.iter().take_while(|byte| is_name_byte(byte)).count()],
+        _ => return None,
+    };
+    if !is_spelled(name) {
+        return None;
+    }
+    Some((str::from_utf8(name).ok()?, end_number_fault(name)?))
 }
 
 /// The part of a number's sentence that holds at the spot.
 fn sentence_at(refusal: Refusal, spot: &Spot<'_>) -> &'static str {
+    if let Some((_, fault)) = end_number_fault_at(refusal, spot) {
+        return fault;
+    }
     match refusal.number() {
         2 | 11 if spot.past_the_text => "a line is missing here",
         2 => "this line is not of its form, out of order or without LF, or it follows the last line",
@@ -107,6 +149,9 @@ fn sentence_at(refusal: Refusal, spot: &Spot<'_>) -> &'static str {
         3 if spot.bytes.starts_with(b"window=") => "the window is 1 to 4,096 ticks",
         3 if spot.bytes.starts_with(b"signals=") => "a sheet has 1 to 64 signals",
         3 if spot.bytes.starts_with(b"rules=") => "a sheet has 0 to 64 rules",
+        4 if !is_spelled(spot.rest()) => "a name is a lower-case letter and then lower-case letters or digits, 1 to 16 in all",
+        4 if is_reserved(spot.rest()) => "since and until are reserved",
+        4 => "the name is given twice",
         5 if is_rule_of_wrong_length(spot) => "a rule has 1 to 256 bytes",
         5 if spot.at == spot.bytes.len() => "the rule stops short here",
         5 => "the formula cannot go on with this",
@@ -124,6 +169,9 @@ impl fmt::Display for Explanation<'_> {
         let (sentence, number) = (self.sentence(), self.refusal.number());
         if let Some(spot) = &self.spot {
             write!(f, "{}, line {}, column {}: ", spot.text, spot.line, spot.at + 1)?;
+        }
+        if let Some(name) = self.name() {
+            write!(f, "{name}: ")?;
         }
         write!(f, "{sentence} (refusal {number})")?;
         if let Some((line, before)) = self.spot.as_ref().map(Spot::shown) {

@@ -40,6 +40,7 @@
 
 mod explanation;
 mod ffi;
+mod name;
 mod refusal;
 mod table;
 mod value;

@@ -1,4 +1,4 @@
-//! P1 to P10: what follows from each sheet and its readings, one sign a tick as in the listing.
+//! P1 to P10, and signals that a listing has in another order: what follows from each sheet and its readings, one sign a tick as in the listing.
 
 use mikhakun::{add, ask, check, Added, Table};
 
@@ -32,6 +32,8 @@ const CASES: &[Case] = &[
     Case { name: "P9", window: 1, signals: &["a"], rules: &[], readings: &[(0, "a", 1), (0, "a", 0)], marks: &["x"], new_facts: 2, clash: true },
     Case { name: "P10", window: 4, signals: &["a", "b", "c"], rules: &["c<=>since(a,b)"],
            readings: &[(1, "a", 1), (2, "a", 0), (3, "a", 0), (2, "b", 1), (3, "b", 0)], marks: &["?100", "??10", "??11"], new_facts: 7, clash: false },
+    Case { name: "numbers in sheet order, whatever the names", window: 3, signals: &["aisle10", "aisle2", "aisle"], rules: &["aisle10=>aisle2@[1,1]"],
+           readings: &[(0, "aisle10", 1), (0, "aisle", 0)], marks: &["1??", "?1?", "0??"], new_facts: 3, clash: false },
 ];
 
 impl Case {

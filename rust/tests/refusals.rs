@@ -29,6 +29,12 @@ fn rule_case(number: u64, rule: &str, at: usize, sentence: &str) {
     sheet_case(number, &format!("{HEAD}{rule}\n"), HEAD.len() + at, &explanation);
 }
 
+/// The same of a sheet of one signal, by 4 at its name.
+fn name_case(name: &str, sentence: &str) {
+    let explanation = format!("sheet, line 3, column 8: {sentence} (refusal 4)\n    signal={name}\n           ^");
+    sheet_case(4, &format!("window=1\nsignals=1\nsignal={name}\n"), 26, &explanation);
+}
+
 /// The readings are refused by this number at this place, the explanation is this, and the table keeps every word.
 fn readings_case(number: u64, readings: &str, place: usize, explanation: &str) {
     let mut table = Table::for_sheet(SHEET).unwrap();
@@ -83,21 +89,30 @@ fn a_number_outside_its_range() {
 
 #[test]
 fn a_signal_name() {
-    let sentence = "the signal's name is not of its form, reserved or given twice";
-    for name in ["A", "since", "a2345678901234567"] {
-        sheet_case(
-            4,
-            &format!("window=1\nsignals=1\nsignal={name}\n"),
-            26,
-            &format!("sheet, line 3, column 8: {sentence} (refusal 4)\n    signal={name}\n           ^"),
-        );
+    let form = "a name is a lower-case letter and then lower-case letters or digits, 1 to 16 in all";
+    let zero = "a number at the end of a name has no leading zero";
+    let large = "a number at the end of a name is at most 9,999";
+    for name in ["", "A", "2a", "a_02", "a2345678901234567"] {
+        name_case(name, form);
     }
-    sheet_case(
-        4,
-        "window=1\nsignals=2\nsignal=a\nsignal=a\n",
-        35,
-        &format!("sheet, line 4, column 8: {sentence} (refusal 4)\n    signal=a\n           ^"),
-    );
+    for name in ["since", "until"] {
+        name_case(name, "since and until are reserved");
+    }
+    for name in ["a00", "aisle02", "x1y02", "a010000", "a000000000000000"] {
+        name_case(name, &format!("{name}: {zero}"));
+    }
+    for name in ["aisle10000", "a99999", "a234567890123456"] {
+        name_case(name, &format!("{name}: {large}"));
+    }
+    let twice = "sheet, line 4, column 8: the name is given twice (refusal 4)\n    signal=a\n           ^";
+    sheet_case(4, "window=1\nsignals=2\nsignal=a\nsignal=a\n", 35, twice);
+}
+
+#[test]
+fn a_name_with_a_right_end_number() {
+    for name in ["a", "a0", "a9", "a10", "a9999", "x1y2", "a02b", "a0b0", "a1234567890b9999"] {
+        assert_eq!(check(format!("window=1\nsignals=1\nsignal={name}\nrules=1\nrule={name}\n").as_bytes()), Ok(1), "{name}");
+    }
 }
 
 #[test]
@@ -107,6 +122,10 @@ fn a_rule() {
     rule_case(5, "a=>a=>a", 4, "the formula cannot go on with this");
     rule_case(5, "&a", 0, "the formula cannot go on with this");
     rule_case(6, "a&b", 2, "the name is not declared");
+    rule_case(6, "a&a2|a", 2, "the name is not declared");
+    rule_case(6, "a&a02|a", 2, "a02: a number at the end of a name has no leading zero");
+    rule_case(6, "a=>a10000@[0,1]", 3, "a10000: a number at the end of a name is at most 9,999");
+    rule_case(6, "a2345678901234567", 0, "the name is not declared");
     rule_case(7, "a@[0,64]", 2, "the interval has an end outside -63 to 63, or no whole number inside");
     rule_case(7, "a?(0,1)", 2, "the interval has an end outside -63 to 63, or no whole number inside");
     rule_case(8, &format!("{}a", "!".repeat(33)), 32, "a 33rd ( or ! is open here");
@@ -145,6 +164,18 @@ fn a_readings_line() {
         "at=1\nsignal=go2\nvalue=1\n",
         12,
         "readings, line 2, column 8: no signal of the sheet has this name (refusal 12)\n    signal=go2\n           ^",
+    );
+    readings_case(
+        12,
+        "at=1\nsignal=go010\nvalue=1\n",
+        12,
+        "readings, line 2, column 8: go010: a number at the end of a name has no leading zero (refusal 12)\n    signal=go010\n           ^",
+    );
+    readings_case(
+        12,
+        "at=1\nsignal=go010 \nvalue=1\n",
+        12,
+        "readings, line 2, column 8: no signal of the sheet has this name (refusal 12)\n    signal=go010 \n           ^",
     );
     readings_case(
         13,

@@ -1,5 +1,5 @@
-/* Checks the shipped example, adds its readings, asks, and is refused, through the static library; then the same over windows of several words.
- * Prints what differs from what is wanted, and 'N passed, M failed' at the end. */
+/* Checks the shipped example, adds its readings, asks, and is refused, through the static library; then the same over windows of several words;
+ * then names that end in a number. Prints what differs from what is wanted, and 'N passed, M failed' at the end. */
 #include "mikhakun.h"
 
 #include <stdio.h>
@@ -154,6 +154,32 @@ static void too_wide(void) {
     same("place of too wide a window", place, strlen("window="));
 }
 
+/* Checks a sheet of one signal and one rule: the answer. A refusal writes the place `at` alone, acceptance the row count alone. */
+static uint64_t check_names(const char *signal, const char *rule, uint64_t at) {
+    char sheet[80];
+    uint64_t rows = UNWRITTEN, place = UNWRITTEN;
+    sprintf(sheet, "window=1\nsignals=1\nsignal=%s\nrules=1\nrule=%s\n", signal, rule);
+    uint64_t number = mikhakun_check(bytes(sheet), strlen(sheet), &rows, &place);
+    same(signal, rows, number == 0 ? 1 : UNWRITTEN);
+    same(rule, place, number == 0 ? UNWRITTEN : at);
+    return number;
+}
+
+/* A number at a name's end: without a leading zero and up to 9,999, or refused in a signal line, in a rule and in readings. */
+static void end_numbers(void) {
+    static const char *const right[] = {"a0", "a10", "a9999", "x1y2", "a02b"}, *const wrong[] = {"a00", "aisle02", "a10000", "x1y02"};
+    static const char zero[] = "at=0\nsignal=clear02\nvalue=1\n";
+    uint64_t table[30] = {0}, fresh = UNWRITTEN, clash = UNWRITTEN, place = UNWRITTEN;
+    for (size_t i = 0; i < sizeof right / sizeof *right; i++)
+        same(right[i], check_names(right[i], right[i], UNWRITTEN), 0);
+    for (size_t i = 0; i < sizeof wrong / sizeof *wrong; i++) {
+        same(wrong[i], check_names(wrong[i], wrong[i], strlen("window=1\nsignals=1\nsignal=")), MIKHAKUN_SIGNAL_NAME);
+        same(wrong[i], check_names("a", wrong[i], strlen("window=1\nsignals=1\nsignal=a\nrules=1\nrule=")), MIKHAKUN_NOT_DECLARED);
+    }
+    same("add of clear02", mikhakun_add(bytes(SHEET), strlen(SHEET), bytes(zero), strlen(zero), table, 30, &fresh, &clash, &place), MIKHAKUN_UNKNOWN_NAME);
+    same("place of clear02", place, strlen("at=0\nsignal="));
+}
+
 int main(void) {
     static const uint64_t windows[] = {65, 127, 128, 129, 192, 1440, 4095, 4096};
     uint64_t *table = calloc(30, sizeof *table);
@@ -168,6 +194,7 @@ int main(void) {
     for (size_t i = 0; i < sizeof windows / sizeof *windows; i++)
         wide_window(windows[i]);
     too_wide();
+    end_numbers();
     printf("%d passed, %d failed\n", passed, failed);
     return failed != 0;
 }

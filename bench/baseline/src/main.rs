@@ -12,7 +12,7 @@ mod text;
 
 use operations::{add, check, empty_table, take, Added};
 use table::{count_marks, Ticks};
-use text::{refuse, Refusal};
+use text::{name_key, refuse, Refusal};
 
 /// Hides a value from the compiler, as std::hint::black_box does in younger versions of Rust than Debian's.
 fn black_box<T>(mut value: T) -> T {
@@ -44,8 +44,10 @@ fn listing(text: &[u8], readings: &[u8]) -> Result<String, Refusal> {
     let added = add(text, readings, &mut table)?;
     let sheet = sheet::read(text)?;
     let mut out = format!("answer=0\nrows={rows}\nfacts={}\nclash={}\n", added.new, added.clash as u8);
-    for (i, name) in sheet.names.iter().enumerate() {
-        let name = String::from_utf8_lossy(name);
+    let mut order: Vec<usize> = (0..sheet.names.len()).collect();
+    order.sort_by_key(|&i| name_key(sheet.names[i]));
+    for i in order {
+        let name = String::from_utf8_lossy(sheet.names[i]);
         out += &format!("signal={name}\nmarks={}\n", marks(&table, i, sheet.window, added.clash));
     }
     Ok(out)

@@ -57,9 +57,27 @@ pub fn number_line(
     }
 }
 
-/// A letter, then letters or digits, 1 to 16 in all, and no reserved word.
+/// A name in two: the bytes before the digits at its end, and these.
+fn name_parts(name: &[u8]) -> (&[u8], &[u8]) {
+    name.split_at(name.iter().rposition(|b| !b.is_ascii_digit()).map_or(0, |last| last + 1))
+}
+
+/// By what names are listed: the bytes before the number at the end, then none before a number, then the number.
+pub fn name_key(name: &[u8]) -> (&[u8], Option<usize>) {
+    let (stem, digits) = name_parts(name);
+    (stem, number(digits))
+}
+
+/// Digits at a name's end: none, or a number up to 9,999 with no leading zero.
+fn ends_well(name: &[u8]) -> bool {
+    let (_, digits) = name_parts(name);
+    digits.is_empty() || matches!(number(digits), Some(0..=9999))
+}
+
+/// A letter, then letters or digits, 1 to 16 in all, no reserved word, and digits at the end are an end number.
 pub fn is_name(value: &[u8]) -> bool {
     matches!(value, [b'a'..=b'z', rest @ ..] if rest.len() < 16 && rest.iter().all(|&b| is_name_byte(b)))
         && value != b"since"
         && value != b"until"
+        && ends_well(value)
 }

@@ -86,7 +86,7 @@ module _ (s : List ℕ) (p : ℕ) (key : List ℕ) (form : ℕ) (f : Listed form
   name-numbered content c = then-numbered (line s p key form) (λ v e. wholeName v content e (nameAt s v)) line-numbered (λ v e. go v e (nameAt s v))
     where
       go : (v e : ℕ) (x : NameRead) → Numbered (wholeName v content e x)
-      go v e (word.Name q) = pick-numbered (eqb q e) (got v (e + 1)) (refused content v) tt c
+      go v e (word.Name q n) = pick-numbered (eqb q e) (got v (e + 1)) (refused content v) tt c
       go v e word.Other = c
 
 -- ---- intervals

@@ -2,3 +2,4 @@
 pub mod Printing
 pub mod OneListing
 pub mod EmptyTable
+pub mod InOrder

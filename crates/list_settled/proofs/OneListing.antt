@@ -6,9 +6,10 @@ use mathlib.Core.List.{List, [], _∷_, _++_}
 use Prim.Native.Nat.{ℕ, zero, suc, _+_, _<_}
 use native.Mathlib.Omega.{arith}
 use native.Mathlib.Nat.{zero-add}
-use lib.ListN.{length, take, drop}
+use lib.ListN.{length, getD, take, drop}
 use lib.Seq.{sets}
-use Rattle.read_names.proofs.Names.{names-many}
+use Rattle.spec_tilco.specs.Lists.{All}
+use Rattle.spec_tilco.proofs.Lists.{all-weaker}
 use Rattle.spec_tilco.specs.Lowering.{rowCount}
 use Rattle.spec_tilco.specs.Table.{Standing, tableWords, factsOf, Answer}
 use Rattle.spec_tilco.proofs.Demand1.{asked-one}
@@ -19,6 +20,8 @@ use Rattle.open_sheet.specs.SheetIn.{sheetIn, namesIn}
 use Rattle.spec_operations.specs.Operations.{Adds}
 use Rattle.open_table.proofs.Tables.{accepted-one, accepted-refused}
 use Rattle.spec_operations.proofs.Determined.{adds-one, refused-alike}
+use Rattle.list_order.specs.Order.{inOrder}
+use Rattle.list_order.proofs.Inserting.{order-placed}
 use Rattle.list_signals.specs.Signals.{signByte, signs, signalText, signalsText, Answers}
 use Rattle.list_table.specs.Listing.{headText, listingText}
 use Rattle.list_settled.specs.Prints.{Lists, Prints, Settles, Written, textOf}
@@ -36,15 +39,11 @@ signs-alike f g t (suc n) h =
     ap₂ (λ (x : ℕ) (l : List ℕ). x ∷ l) (ap signByte (subst (λ (i : ℕ). f i ≡ g i) e (h 0 (omega arith))))
     (signs-alike f g (suc t) n (λ i l. let d : t + suc i ≡ suc t + i = omega arith in subst (λ (j : ℕ). f j ≡ g j) d (h (suc i) (omega arith))))
 
-signals-alike : (W : ℕ) (f g : ℕ → ℕ → Answer) (x : ℕ) (names : List (List ℕ)) → ((y : ℕ) → y < length names → (t : ℕ) → t < W → f (x + y) t ≡ g (x + y) t)
-    → signalsText W f x names ≡ signalsText W g x names
+signals-alike : (W : ℕ) (f g : ℕ → ℕ → Answer) (names : List (List ℕ)) (xs : List ℕ) → All (λ x. (t : ℕ) → t < W → f x t ≡ g x t) xs → signalsText W f names xs ≡ signalsText W g names xs
 unfolding signalsText
-signals-alike W f g x [] h = refl
-signals-alike W f g x (name ∷ names) h =
-    let e : x + 0 ≡ x = omega arith in
-    ap₂ (λ (m l : List ℕ). signalText name m ++ l)
-    (signs-alike (f x) (g x) 0 W (λ i l. subst (λ (y : ℕ). f y (0 + i) ≡ g y (0 + i)) e (h 0 (omega arith) (0 + i) (omega arith))))
-    (signals-alike W f g (suc x) names (λ y l t u. let d : x + suc y ≡ suc x + y = omega arith in subst (λ (z : ℕ). f z t ≡ g z t) d (h (suc y) (omega arith) t u)))
+signals-alike W f g names [] h = refl
+signals-alike W f g names (x ∷ xs) h =
+    ap₂ (λ (m l : List ℕ). signalText (getD names x []) m ++ l) (signs-alike (f x) (g x) 0 W (λ i l. h .0 (0 + i) (omega arith))) (signals-alike W f g names xs (h .1))
 
 -- ---- the same table gives the same answers
 
@@ -60,10 +59,8 @@ pub one-listing : (s : List ℕ) (k : Contents) (U : List ℕ) (clash : Bool) (f
 unfolding listingText
 one-listing s k U clash f g p q =
     ap (λ (l : List ℕ). headText (rowCount (meant k)) (factsOf (meant k) U) clash ++ l)
-    (signals-alike (k .window) f g 0 (namesIn s k)
-    (λ y h t u. let e : 0 + y ≡ y = omega arith in
-    let i : 0 + y < length (k .places) = omega (arith, names-many s (k .places)) in
-    asked-one (Standing (meant k) U) (0 + y) t (p (0 + y) i t u) (q (0 + y) i t u)))
+    (signals-alike (k .window) f g (namesIn s k) (inOrder (namesIn s k))
+    (all-weaker (λ x. x < length (k .places)) _ (λ x i t u. asked-one (Standing (meant k) U) x t (p x i t u) (q x i t u)) (inOrder (namesIn s k)) (order-placed s (k .places))))
 
 -- ---- the outcomes
 

@@ -8,16 +8,19 @@ use Prim.Native.Nat.{ℕ, _*_, _^_, _≤_, _<_}
 use native.Mathlib.Nat.{mul-le-mul-right, zero-add}
 use native.Mathlib.Omega.{arith}
 use lib.ListN.{length, take, drop}
-use Rattle.spec_limits.specs.Limits.{mostListed, mostTicks}
+use Rattle.spec_limits.specs.Limits.{mostListed, mostSignals, mostTicks}
 use Rattle.read_names.specs.Spellings.{namesAt}
 use Rattle.read_names.proofs.Names.{names-many}
+use Rattle.spec_tilco.specs.Lists.{All}
+use Rattle.spec_tilco.proofs.Lists.{all-weaker}
 use Rattle.spec_tilco.specs.Inference.{Clash}
 use Rattle.spec_tilco.specs.Lowering.{rowCount}
 use Rattle.spec_tilco.specs.Table.{words, Stands, Standing, tableWords, facts, factsOf, Answer}
 use Rattle.spec_tilco.proofs.Order.{row-count}
 use Rattle.read_sheet.specs.Sheet.{Contents, meant}
 use Rattle.read_sheet.proofs.Wholes.{sheet-head}
-use Rattle.read_head.proofs.ShortNames.{head-names-short}
+use Rattle.read_head.proofs.Heads.{head-past}
+use Rattle.read_head.proofs.DeclaredNames.{head-names}
 use Rattle.write_bytes.specs.Writes.{Wrote, Counted}
 use Rattle.op_add.specs.declared.Adding.{Adding}
 use Rattle.op_add.specs.declared.Adding.the-variants as adding
@@ -42,7 +45,7 @@ use Rattle.list_signals.proofs.Answered.{answers-there}
 listing-fits : (s : List ℕ) {k : Contents} → sheetIn s ≡ accepted k → (rows facts : ℕ) (clash : Bool) (f : ℕ → ℕ → Answer) → length (listingText (namesIn s k) (k .window) rows facts clash f) ≤ mostListed
 listing-fits s {k} e rows facts clash f =
     let z = in-sheet s e in
-    let short = head-names-short s (sheet-head s (z .reads) .2) in
+    let short = head-names s (sheet-head s (z .reads) .2) .short in
     listing-most (namesIn s k) (k .window) rows facts clash f short (omega (arith, names-many s (k .places), z .sizes .signals-high)) (z .sizes .window-high)
 
 -- and so does whatever is told of a table, or of a lent one.
@@ -106,6 +109,15 @@ module _ {s places : List ℕ} {w count : ℕ} (b : Begun s places w count) wher
 
   pub window-most : w ≤ mostTicks
   window-most = omega (arith, b .window-is, known .sizes .window-high)
+
+  -- The names stand in the text, and are at most 64.
+  pub named : All (λ p. p ≤ length s) places
+  named =
+      let h = head-past s (sheet-head s (known .reads) .2) in
+      subst (All (λ p. p ≤ length s)) (sym (b .names-are)) (all-weaker (λ p. p ≤ _) (λ p. p ≤ length s) (λ p l. omega (arith, h .inside)) (k .places) (h .before))
+
+  pub few : length places ≤ mostSignals
+  few = omega (arith, ap length (b .names-are), known .sizes .signals-high)
 
   -- The places of the listing can be counted.
   pub listing-counted : (rows facts : ℕ) (clash : Bool) (f : ℕ → ℕ → Answer) → Counted 0 (listingText (namesAt s places) w rows facts clash f)

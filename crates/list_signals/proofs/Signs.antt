@@ -9,6 +9,7 @@ use native.Mathlib.Numerals.{add-one}
 use native.Mathlib.Omega.{arith}
 use lib.ListN.{length, getD, drop, drop-of-length-le}
 use Rattle.read_names.specs.Spellings.{spellingAt, namesAt}
+use Rattle.read_names.proofs.Names.{names-at}
 use Rattle.read_bytes.proofs.Places.{drop-in}
 use Rattle.spec_tilco.specs.Table.{Stands, Answer, Asked, clashes}
 use Rattle.spec_tilco.proofs.Demand1.{asked-one}
@@ -36,14 +37,16 @@ module _ (f : ℕ → Answer) (t W : ℕ) where
   unfolding signs
   signs-end h = let e : W - t ≡ 0 = omega arith in rw e
 
-module _ (s ps : List ℕ) (W : ℕ) (f : ℕ → ℕ → Answer) (x : ℕ) where
-  pub signals-next : x < length ps → signalsText W f x (namesAt s (drop x ps)) ≡ signalText (spellingAt s (getD ps x 0)) (signs (f x) 0 W) ++ signalsText W f (x + 1) (namesAt s (drop (x + 1) ps))
-  unfolding signalsText namesAt
-  signals-next h = rw (drop-in ps x 0 h, add-one)
+-- The signals xs from the place i on; the next one has a name at a place of the text.
+module _ (s ps xs : List ℕ) (W : ℕ) (f : ℕ → ℕ → Answer) (i : ℕ) where
+  pub signals-next : i < length xs → getD xs i 0 < length ps
+      → signalsText W f (namesAt s ps) (drop i xs) ≡ signalText (spellingAt s (getD ps (getD xs i 0) 0)) (signs (f (getD xs i 0)) 0 W) ++ signalsText W f (namesAt s ps) (drop (i + 1) xs)
+  unfolding signalsText
+  signals-next h k = rw (drop-in xs i 0 h, names-at s ps (getD xs i 0) k)
 
-  pub signals-end : length ps ≤ x → signalsText W f x (namesAt s (drop x ps)) ≡ []
-  unfolding signalsText namesAt
-  signals-end h = rw (drop-of-length-le ps h)
+  pub signals-end : length xs ≤ i → signalsText W f (namesAt s ps) (drop i xs) ≡ []
+  unfolding signalsText
+  signals-end h = rw (drop-of-length-le xs h)
 
 -- A sign written is the sign of the answer.
 pub signed : {x y b : ℕ} {m m₁ : List ℕ} {u : ℕ} → x ≡ y → Wrote (x ∷ []) b m m₁ u → Wrote (y ∷ []) b m m₁ u

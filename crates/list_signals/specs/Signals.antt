@@ -5,7 +5,7 @@ use mathlib.Core.Bool.{Bool, true}
 use mathlib.Core.List.{List, [], _∷_, _++_}
 use mathlib.Core.Logic.{_↔_}
 use Prim.Native.Nat.{ℕ, zero, suc, _*_, _<_, _≤_}
-use lib.ListN.{length}
+use lib.ListN.{length, getD}
 use Rattle.read_bytes.specs.Bytes.{byte, bytes}
 use Rattle.spec_tilco.specs.Inference.{Marks, Clash}
 use Rattle.spec_tilco.specs.Table.{Stands, Answer, Unsettled, True, False, Contradiction, Asked}
@@ -27,10 +27,10 @@ signs f t (suc n) = signByte (f t) ∷ signs f (suc t) n
 unfoldable pub signalText : List ℕ → List ℕ → List ℕ
 signalText name marks = lineText (bytes "signal=") name ++ lineText (bytes "marks=") marks
 
--- The signals of these names, which are numbered from x on.
-unfoldable pub signalsText : ℕ → (ℕ → ℕ → Answer) → ℕ → List (List ℕ) → List ℕ
-signalsText W f x [] = []
-signalsText W f x (name ∷ names) = signalText name (signs (f x) 0 W) ++ signalsText W f (suc x) names
+-- The signals with these numbers, one after the other, each with its name.
+unfoldable pub signalsText : ℕ → (ℕ → ℕ → Answer) → List (List ℕ) → List ℕ → List ℕ
+signalsText W f names [] = []
+signalsText W f names (x ∷ xs) = signalText (getD names x []) (signs (f x) 0 W) ++ signalsText W f names xs
 
 -- A table T of n words a row and value can be listed for k signals: it has their rows, its words cover the window, and clash says whether a row clashes.
 pub record Listable (k W n : ℕ) (T : List ℕ) (clash : Bool) : Type 0 where

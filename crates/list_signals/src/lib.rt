@@ -6,10 +6,11 @@ use write_bytes::push;
 use write_bytes::push_text;
 use write_lines::write_name_line;
 ghost use mathlib.Core.Path.{_≡_};
-ghost use Prim.Native.Nat.{ℕ, _+_};
+ghost use Prim.Native.Nat.{ℕ, _+_, _<_};
 ghost use lib.ListN.{length};
 ghost use Rattle.read_bytes.specs.Bytes.{bytes};
 ghost use Rattle.read_names.specs.Spellings.{spellingAt, namesAt};
+ghost use Rattle.spec_tilco.specs.Lists.{All};
 ghost use Rattle.spec_tilco.specs.Table.{Stands, Answer, Asked};
 ghost use Rattle.write_bytes.specs.Writes.{Counted, Wrote};
 ghost use Rattle.write_lines.specs.LineTexts.{lineText};
@@ -89,10 +90,11 @@ fn write_signal(
     write_marks_line(table, n, signal, window, clash, out, marks)
 }
 
-// The lines of every signal, whose names stand at these places of the text.
+// The lines of the signals with these numbers. The signals' names stand at these places of the text.
 pub fn write_signals(
     s: &[u8],
     places: &[u64],
+    signals: &[u64],
     window: usize,
     n: usize,
     table: &[u64],
@@ -100,15 +102,16 @@ pub fn write_signals(
     out: &mut [u8],
     used: usize,
 ) -> usize
-    requires { ⌜ Listable (length (now places)) window n (now table) clash × ((f : ℕ → ℕ → Answer) → Counted used (signalsText window f 0 (namesAt (now s) (now places)))) ⌝ }
-    ensures { λ r. ⌜ ((f : ℕ → ℕ → Answer) → Answers (Stands n (now (table .entry))) (length (now (places .entry))) window f → Wrote (signalsText window f 0 (namesAt (now (s .entry)) (now (places .entry)))) used (now (out .entry)) (now (out .exit)) r) ⌝ }
+    requires { ⌜ Listable (length (now places)) window n (now table) clash × All (λ x. x < length (now places)) (now signals) × ((f : ℕ → ℕ → Answer) → Counted used (signalsText window f (namesAt (now s) (now places)) (now signals))) ⌝ }
+    ensures { λ r. ⌜ ((f : ℕ → ℕ → Answer) → Answers (Stands n (now (table .entry))) (length (now (places .entry))) window f → Wrote (signalsText window f (namesAt (now (s .entry)) (now (places .entry))) (now (signals .entry))) used (now (out .entry)) (now (out .exit)) r) ⌝ }
 {
     let mut at = used;
-    let mut x = 0;
-    while x < places.len() {
+    let mut i = 0;
+    while i < signals.len() {
+        let x = signals[i] as usize;
         let name = places[x] as usize;
         at = write_signal(s, name, table, n, x, window, clash, out, at);
-        x += 1;
+        i += 1;
     }
     at
 }

@@ -2,9 +2,9 @@
 -- Assumes nothing.
 use mathlib.Core.Bool.{Bool}
 use mathlib.Core.List.{List, [], _∷_, _++_}
-use Prim.Native.Nat.{ℕ, suc, _+_, _*_, _≤_}
+use Prim.Native.Nat.{ℕ, _+_, _*_, _<_, _≤_}
 use native.Mathlib.Omega.{arith}
-use lib.ListN.{length, length-append}
+use lib.ListN.{length, getD, length-append}
 use Rattle.spec_limits.specs.Limits.{mostTicks, mostSignals, mostNameBytes, mostListed}
 use Rattle.read_bytes.specs.Bytes.{bytes}
 use Rattle.spec_tilco.specs.Lists.{All}
@@ -12,6 +12,9 @@ use Rattle.spec_tilco.specs.Table.{Answer}
 use Rattle.write_bytes.specs.Writes.{Wrote, Counted, decimalText}
 use Rattle.write_bytes.proofs.Decimals.{decimal-few}
 use Rattle.write_lines.specs.LineTexts.{numberText}
+use Rattle.spec_tilco.proofs.Lists.{all-nth}
+use Rattle.list_order.specs.Order.{inOrder}
+use Rattle.list_order.proofs.Sorting.{order-long, order-within}
 use Rattle.list_signals.specs.Signals.{signs, signalText, signalsText}
 use Rattle.list_signals.proofs.Lengths.{line-length, signs-length, signal-length}
 use Rattle.list_table.specs.Listing.{oneIf, headText, listingText, refusalText}
@@ -27,15 +30,17 @@ pub number-ends : (key : List ℕ) (n : ℕ) {b : ℕ} {m m₁ : List ℕ} {u : 
 number-ends key n w = omega (arith, number-most key n)
 
 -- A signal's lines have its name, a sign a tick, and 15 bytes more.
-signals-most : (W : ℕ) (f : ℕ → ℕ → Answer) (x : ℕ) (names : List (List ℕ)) → W ≤ mostTicks → All (λ w. length w ≤ mostNameBytes) names → length (signalsText W f x names) ≤ (mostNameBytes + mostTicks + 15) * length names
+signals-most : (W : ℕ) (f : ℕ → ℕ → Answer) (names : List (List ℕ)) (xs : List ℕ) → W ≤ mostTicks → All (λ w. length w ≤ mostNameBytes) names → All (λ x. x < length names) xs
+    → length (signalsText W f names xs) ≤ (mostNameBytes + mostTicks + 15) * length xs
 unfolding signalsText
-signals-most W f x [] h a = omega arith
-signals-most W f x (name ∷ names) h a =
+signals-most W f names [] h a b = omega arith
+signals-most W f names (x ∷ xs) h a b =
+    let name = getD names x [] in
     let l = signal-length name (signs (f x) 0 W) in
     let k = signs-length (f x) 0 W in
-    let i = signals-most W f (suc x) names h (a .1) in
-    let s = a .0 in
-    omega (arith, length-append (signalText name (signs (f x) 0 W)) (signalsText W f (suc x) names))
+    let i = signals-most W f names xs h a (b .1) in
+    let s = all-nth (λ w. length w ≤ mostNameBytes) [] names x a (b .0) in
+    omega (arith, length-append (signalText name (signs (f x) 0 W)) (signalsText W f names xs))
 
 head-most : (rows facts : ℕ) (clash : Bool) → length (headText rows facts clash) ≤ 108
 unfolding headText
@@ -57,8 +62,8 @@ pub listing-most : (names : List (List ℕ)) (W rows facts : ℕ) (clash : Bool)
 unfolding listingText
 listing-most names W rows facts clash f a n w =
     let h = head-most rows facts clash in
-    let l = signals-most W f 0 names w a in
-    omega (arith, length-append (headText rows facts clash) (signalsText W f 0 names))
+    let l = signals-most W f names (inOrder names) w a (order-within names) in
+    omega (arith, length-append (headText rows facts clash) (signalsText W f names (inOrder names)), order-long names)
 
 -- and so does a refusal's.
 pub refusal-most : (number place : ℕ) → length (refusalText number place) ≤ mostListed

@@ -6,6 +6,7 @@ use Prim.Native.Nat.{ℕ}
 use Rattle.read_bytes.specs.Bytes.{bytes}
 use Rattle.spec_tilco.specs.Table.{Answer}
 use Rattle.write_lines.specs.LineTexts.{numberText}
+use Rattle.list_order.specs.Order.{inOrder}
 use Rattle.list_signals.specs.Signals.{signalsText}
 
 -- "Clash is 0 or 1."
@@ -19,9 +20,9 @@ headText rows facts clash =
     numberText (bytes "answer=") 0
     ++ (numberText (bytes "rows=") rows ++ (numberText (bytes "facts=") facts ++ numberText (bytes "clash=") (oneIf clash)))
 
--- The listing: the head, and each signal in sheet order.
+-- The listing: the head, and each signal in the order of the names (E8).
 unfoldable pub listingText : List (List ℕ) → ℕ → ℕ → ℕ → Bool → (ℕ → ℕ → Answer) → List ℕ
-listingText names W rows facts clash f = headText rows facts clash ++ signalsText W f 0 names
+listingText names W rows facts clash f = headText rows facts clash ++ signalsText W f names (inOrder names)
 
 -- "A refusal prints `answer=` and `place=` only."
 unfoldable pub refusalText : ℕ → ℕ → List ℕ

@@ -5,9 +5,10 @@ use mathlib.Core.List.{List, [], _∷_}
 use lib.Count.{ones, onesIn}
 use lib.Dec.{T}
 use Rattle.spec_ticks.specs.Ticks.{bit, tally}
-use Rattle.read_bytes.specs.Bytes.{bytes, peek, classOf, nameByte, starts, run, runAt, runEnd}
+use Rattle.read_bytes.specs.Bytes.{bytes, peek, classOf, nameByte, starts, run, runAt, runEnd, every}
+use Rattle.read_names.specs.EndNumbers.{endDigits, stem, isEndNumber, numberOf, wellEnded}
 use Rattle.read_names.specs.Spellings.{namesAt, sameText, findName, isSpelled, nameAt}
-use Rattle.read_bytes.specs.Numbers.{digits, number}
+use Rattle.read_bytes.specs.Numbers.{decimal, digits, number}
 use Rattle.read_lines.specs.Lines.{inLine, line, numberLine, rangedLine, nameLine, inTurn, upTo}
 use Rattle.spec_tilco.specs.Lists.{All}
 use Rattle.spec_tilco.specs.Table.{words}
@@ -19,6 +20,7 @@ use Rattle.read_reading.specs.OneReading.{knownLine, reading}
 use Rattle.read_readings.specs.Readings.{readings}
 use Rattle.write_bytes.specs.Writes.{lastDigits, decimalText}
 use Rattle.write_lines.specs.LineTexts.{lineText}
+use Rattle.list_order.specs.Order.{compareBytes, nameBefore, insert, orderFrom}
 use Rattle.list_signals.specs.Signals.{signs, signalText, signalsText}
 use Rattle.list_table.specs.Listing.{headText, listingText}
 use Rattle.open_sheet.specs.SheetIn.{fits, sheetIn}
@@ -34,7 +36,7 @@ Passes e = T (textsPass (bytes (e .sheet)) (bytes (e .readings)) (bytes (e .list
 -- By computation: each sheet and its readings are read, the table is closed, and its listing is the one expected. P7's and P8's sheets are read as
 -- their second halves want them.
 computed : All Passes textCases × ReadAs p7-read (sheetIn (bytes (p7 .sheet))) × ReadAs p8-read (sheetIn (bytes (p8 .sheet)))
-unfolding ones onesIn bit tally words peek classOf nameByte starts run runAt runEnd namesAt sameText findName isSpelled nameAt digits number inLine line numberLine rangedLine nameLine inTurn upTo signed endAt spanOf endAfter closeAt commaAt interval declared times timedPart more level second sinceUntil nameOrKeep plainPartIn inside plainPart rule signalLine head ruleTo ruleLine rules sheetOf knownLine reading readings lastDigits decimalText lineText signs signalText signalsText headText listingText fits sheetIn
+unfolding ones onesIn bit tally words peek classOf nameByte starts run runAt runEnd namesAt sameText findName isSpelled every endDigits decimal isEndNumber numberOf wellEnded nameAt digits number inLine line numberLine rangedLine nameLine inTurn upTo signed endAt spanOf endAfter closeAt commaAt interval declared times timedPart more level second sinceUntil nameOrKeep plainPartIn inside plainPart rule signalLine head ruleTo ruleLine rules sheetOf knownLine reading readings lastDigits decimalText lineText stem compareBytes nameBefore insert orderFrom signs signalText signalsText headText listingText fits sheetIn
 computed = ((tt, (tt, (tt, (tt, (tt, (tt, (tt, (tt, (tt, (tt, (tt, tt))))))))))), refl, refl)
 
 all-said : All InHistories textCases

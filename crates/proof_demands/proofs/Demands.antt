@@ -6,7 +6,7 @@ use mathlib.Core.List.{List, [], _∷_, List·Memᴰ, List·Permᴰ}
 use mathlib.Core.Logic.{_↔_, _⊎_}
 use Prim.Native.Nat.{ℕ, _+_, _≤_, _<_}
 use lib.IntN.{ℤ, pos, _+ℤ_, _-ℤ_}
-use lib.ListN.{length}
+use lib.ListN.{length, getD}
 use Rattle.read_bytes.specs.Bytes.{bytes}
 use Rattle.spec_ticks.specs.Ticks.{Small}
 use Rattle.spec_ticks.proofs.Tables.{empty-small}
@@ -21,7 +21,7 @@ use Rattle.spec_tilco.proofs.Values.{always-means, sometime-means}
 use Rattle.spec_tilco.proofs.Since.{since-means, until-means, keep-unrolled}
 use Rattle.read_sheet.specs.Sheet.{Contents, meant, sheetText}
 use Rattle.open_sheet.specs.Results.{Result, accepted, refused}
-use Rattle.open_sheet.specs.SheetIn.{blank}
+use Rattle.open_sheet.specs.SheetIn.{blank, namesIn}
 use Rattle.spec_operations.specs.Gain.{Gain, gain}
 use Rattle.spec_operations.specs.Operations.{checked, Adds, Asks}
 use Rattle.spec_operations.specs.Operations.Adds.{added}
@@ -31,7 +31,7 @@ use Rattle.proof_demands.specs.Refusals.{SheetAccepted, TakenUp, Reading
 use Rattle.proof_demands.specs.Runs.{FromBlank, newIn, valued, ReadIn, AgreesWith}
 use Rattle.proof_demands.specs.Cuts.{CutInto, Given, RunCalls, InCalls}
 use Rattle.proof_demands.specs.Shuffles.{Parted, InParts, SaidAlike}
-use Rattle.proof_demands.specs.Listings.{lineOf, signAt, shown}
+use Rattle.proof_demands.specs.Listings.{lineOf, Names, signUnder, shown}
 use Rattle.spec_operations.proofs.Determined.{adds-one, asks-one}
 use Rattle.proof_demands.proofs.Refusals.{sheet-in, in-sheet-text, readings-in, taken-up, check-accepts, check-refusals, add-refusals, ask-accepts, ask-refusals, settle-refusals}
 use Rattle.proof_demands.proofs.Answered.{check-some, add-some, add-accepts, ask-some, calls-some, run-some, prints-some, settles-some}
@@ -150,9 +150,9 @@ pub record Holds (s U : List ℕ) (answers : List (Result Gain)) (h : History) :
   pub no-contradiction : (x t : ℕ) → Asks s U x t (accepted Contradiction) → ⊥
   pub no-clash : (new : ℕ) → List·Memᴰ (accepted (gain new true)) answers → ⊥
 
--- What the listing l shows is so in the history.
-pub record ListingHolds (l : List ℕ) (h : History) : Type 0 where
-  pub values : (x t : ℕ) (v : Bool) → signAt l x t ≡ shown v → h x (pos t) ≡ v
+-- What the listing l shows under the names of the signals is so in the history.
+pub record ListingHolds (names : List (List ℕ)) (l : List ℕ) (h : History) : Type 0 where
+  pub values : (i x t : ℕ) (v : Bool) → x < length names → Names l i (getD names x []) → signUnder l i t ≡ shown v → h x (pos t) ≡ v
   pub no-clash : lineOf l 3 ≡ bytes "clash=1" → ⊥
 
 pub record Demand3 : Type 0 where
@@ -179,7 +179,7 @@ pub record Demand3 : Type 0 where
   pub holds : {s : List ℕ} {k : Contents} {rs : List (List ℕ)} {U : List ℕ} {answers : List (Result Gain)} → FromBlank s k rs U answers
       → (h : History) → Obeys (meant k) h → AgreesWith s k rs h → Holds s U answers h
   -- and in what the listing program prints.
-  pub listed : {s r l : List ℕ} {k : Contents} → SheetAccepted s k → Settles s r l → (h : History) → Obeys (meant k) h → AgreesWith s k (r ∷ []) h → ListingHolds l h
+  pub listed : {s r l : List ℕ} {k : Contents} → SheetAccepted s k → Settles s r l → (h : History) → Obeys (meant k) h → AgreesWith s k (r ∷ []) h → ListingHolds (namesIn s k) l h
 
 pub demand-3 : Demand3
 demand-3 = record {

@@ -7,9 +7,10 @@ use mathlib.Core.Logic.{inl, inr, ⊎-elim}
 use Prim.Native.Nat.{ℕ, _-_}
 use native.Mathlib.Omega.{arith}
 use Rattle.read_bytes.specs.Read.Read.{got}
-use Rattle.read_bytes.specs.Bytes.{bytes, peek, classOf, nameByte, starts, run, runAt, runEnd}
+use Rattle.read_bytes.specs.Bytes.{bytes, peek, classOf, nameByte, starts, run, runAt, runEnd, every}
+use Rattle.read_names.specs.EndNumbers.{endDigits, isEndNumber, numberOf, wellEnded}
 use Rattle.read_names.specs.Spellings.{namesAt, sameText, findName, isSpelled, nameAt}
-use Rattle.read_bytes.specs.Numbers.{digits, number}
+use Rattle.read_bytes.specs.Numbers.{decimal, digits, number}
 use Rattle.read_lines.specs.Lines.{inLine, line, numberLine, rangedLine, nameLine, inTurn, upTo}
 use Rattle.read_bytes.proofs.Answers.{not-both, same-value}
 use Rattle.spec_ticks.proofs.Tables.{empty-bare}
@@ -52,18 +53,18 @@ abbrev pub false-text : List ℕ
 false-text = bytes "at=0\nsignal=a\nvalue=0\n"
 
 reads : sheetOf sheet-text ≡ got sheet 36
-unfolding peek classOf nameByte starts run runAt runEnd namesAt sameText findName isSpelled nameAt digits number inLine line numberLine rangedLine nameLine inTurn signalLine head ruleTo ruleLine rules sheetOf
+unfolding peek classOf nameByte starts run runAt runEnd namesAt sameText findName isSpelled every endDigits decimal isEndNumber numberOf wellEnded nameAt digits number inLine line numberLine rangedLine nameLine inTurn signalLine head ruleTo ruleLine rules sheetOf
 reads = refl
 
 pub sheet-accepted : sheetIn sheet-text ≡ accepted sheet
 sheet-accepted = in-fits sheet-text reads (omega arith) (omega arith)
 
 pub true-read : readings (namesIn sheet-text sheet) 1 true-text ≡ got (mark 0 0 true ∷ []) 22
-unfolding peek classOf nameByte starts run runAt runEnd namesAt sameText findName isSpelled nameAt digits number inLine line numberLine rangedLine nameLine upTo knownLine reading readings
+unfolding peek classOf nameByte starts run runAt runEnd namesAt sameText findName isSpelled every endDigits decimal isEndNumber numberOf wellEnded nameAt digits number inLine line numberLine rangedLine nameLine upTo knownLine reading readings
 true-read = refl
 
 pub false-read : readings (namesIn sheet-text sheet) 1 false-text ≡ got (mark 0 0 false ∷ []) 22
-unfolding peek classOf nameByte starts run runAt runEnd namesAt sameText findName isSpelled nameAt digits number inLine line numberLine rangedLine nameLine upTo knownLine reading readings
+unfolding peek classOf nameByte starts run runAt runEnd namesAt sameText findName isSpelled every endDigits decimal isEndNumber numberOf wellEnded nameAt digits number inLine line numberLine rangedLine nameLine upTo knownLine reading readings
 false-read = refl
 
 -- What an add of the first readings to the table without a mark has to make of it.

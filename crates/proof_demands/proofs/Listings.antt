@@ -3,7 +3,7 @@
 use mathlib.Core.Path.{_≡_, refl, sym, ap, subst, _∙_}
 use mathlib.Core.Bool.{Bool, true, false, true≢false}
 use mathlib.Core.List.{List, [], _∷_, _++_, append-nil, append-assoc, List·Memᴰ·head}
-use Prim.Native.Nat.{ℕ, zero, suc, _+_, _*_, _/_, _%_, _<_, _≤_}
+use Prim.Native.Nat.{ℕ, zero, suc, _+_, _/_, _%_, _<_, _≤_}
 use native.Mathlib.Decide.{decLt}
 use native.Mathlib.Nat.{zero-add}
 use native.Mathlib.Omega.{arith}
@@ -15,6 +15,7 @@ use Rattle.read_bytes.specs.Bytes.{byte, bytes, nameByte, run, runAt, InLine}
 use Rattle.read_names.specs.Spellings.{namesAt}
 use Rattle.read_names.proofs.Names.{names-many}
 use Rattle.spec_tilco.specs.Lists.{All}
+use Rattle.spec_tilco.proofs.Lists.{all-nth}
 use Rattle.spec_tilco.specs.Meaning.{History, Obeys}
 use Rattle.spec_tilco.specs.Lowering.{rowCount}
 use Rattle.spec_tilco.specs.Table.{Standing, factsOf, Answer, Unsettled, True, False, Contradiction, Asked}
@@ -22,9 +23,12 @@ use Rattle.read_sheet.specs.Sheet.{Contents, meant}
 use Rattle.write_bytes.specs.Writes.{lastDigits, decimalText}
 use Rattle.write_bytes.proofs.Decimals.{digits-one, digits-then}
 use Rattle.write_lines.specs.LineTexts.{lineText}
+use Rattle.list_order.specs.Order.{inOrder}
+use Rattle.list_order.proofs.Sorting.{order-within}
 use Rattle.list_signals.specs.Signals.{signByte, signs, signalText, signalsText}
 use Rattle.list_table.specs.Listing.{oneIf, headText, listingText, refusalText}
 use Rattle.list_settled.specs.Prints.{Settles}
+use Rattle.list_settled.proofs.InOrder.{names-declarable}
 use Rattle.list_settled.proofs.EmptyTable.{Shown, refusal, listing, shown as shown-by}
 use Rattle.spec_grammar.proofs.Lines.{in-line-by, in-line-then}
 use Rattle.open_sheet.specs.Results.{accepted}
@@ -34,7 +38,7 @@ use Rattle.spec_operations.specs.Gain.{gain}
 use Rattle.proof_demands.specs.Refusals.{SheetAccepted}
 use Rattle.proof_demands.specs.Runs.{AgreesWith, valued}
 use Rattle.proof_demands.specs.Runs.RunTexts.{done, call}
-use Rattle.proof_demands.specs.Listings.{linesOf, lineOf, signAt, shown}
+use Rattle.proof_demands.specs.Listings.{linesOf, lineOf, Names, signUnder, shown}
 use Rattle.proof_demands.proofs.Refusals.{sheet-in, in-sheet-text}
 use Rattle.proof_demands.proofs.Histories.{told-holds, no-clash-told}
 
@@ -110,29 +114,6 @@ signal-lines name m l h k =
     let b = line-first (bytes "marks=") m l (in-line-by (bytes "marks=") refl) k in
     rw (append-assoc, a, b)
 
--- The second line of each signal is its marks,
-marks-line : (W : ℕ) (f : ℕ → ℕ → Answer) (y : ℕ) (names : List (List ℕ)) → All InLine names → (x : ℕ) → x < length names
-    → getD (linesOf (signalsText W f y names)) (suc (x + x)) [] ≡ bytes "marks=" ++ signs (f (y + x)) 0 W
-unfolding signalsText
-marks-line W f y [] h x l = absurd (omega arith)
-marks-line W f y (name ∷ names) h x l =
-    rw (signal-lines name (signs (f y) 0 W) (signalsText W f (suc y) names) (h .0) (signs-in-line (f y) 0 W)) (go x l (marks-line W f (suc y) names (h .1)))
-  where
-    go : (x : ℕ) → x < suc (length names) → ((x : ℕ) → x < length names → getD (linesOf (signalsText W f (suc y) names)) (suc (x + x)) [] ≡ bytes "marks=" ++ signs (f (suc y + x)) 0 W)
-        → getD ((bytes "signal=" ++ name) ∷ (bytes "marks=" ++ signs (f y) 0 W) ∷ linesOf (signalsText W f (suc y) names)) (suc (x + x)) [] ≡ bytes "marks=" ++ signs (f (y + x)) 0 W
-    go zero l k = let z : y + 0 ≡ y = omega arith in rw z
-    go (suc x) l k =
-        let z : suc x + suc x ≡ suc (suc (x + x)) = omega arith in
-        let w : suc y + x ≡ y + suc x = omega arith in
-        rw (z, k x (omega arith), w)
-
--- and past the last signal there is no line.
-lines-many : (W : ℕ) (f : ℕ → ℕ → Answer) (y : ℕ) (names : List (List ℕ)) → All InLine names → length (linesOf (signalsText W f y names)) ≡ 2 * length names
-unfolding linesOf signalsText
-lines-many W f y [] h = refl
-lines-many W f y (name ∷ names) h =
-    ap length (signal-lines name (signs (f y) 0 W) (signalsText W f (suc y) names) (h .0) (signs-in-line (f y) 0 W)) ∙ omega (arith, lines-many W f (suc y) names (h .1))
-
 -- ---- its signs
 
 sign-there : (f : ℕ → Answer) (t n i : ℕ) → i < n → getD (signs f t n) i 0 ≡ signByte (f (t + i))
@@ -147,31 +128,69 @@ no-sign f t zero i h = refl
 no-sign f t (suc n) zero h = absurd (omega arith)
 no-sign f t (suc n) (suc i) h = no-sign f (suc t) n i (omega arith)
 
--- A sign that is shown is that of an answer.
-record Signed (k W : ℕ) (f : ℕ → ℕ → Answer) (x t b : ℕ) : Type 0 where
-  signal : x < k
+-- A sign that is shown under a name is that of an answer to a signal with that name.
+record Signed (names : List (List ℕ)) (W : ℕ) (f : ℕ → ℕ → Answer) (w : List ℕ) (t b : ℕ) : Type 0 where
+  signal : ℕ
+  within : signal < length names
+  called : getD names signal [] ≡ w
   tick : t < W
-  is : signByte (f x t) ≡ b
+  is : signByte (f signal t) ≡ b
 
-signed : (names : List (List ℕ)) (W rows facts : ℕ) (clash : Bool) (f : ℕ → ℕ → Answer) → All InLine names → (x t b : ℕ) → 0 < b → signAt (listingText names W rows facts clash f) x t ≡ b → Signed (length names) W f x t b
-unfolding listingText
-signed names W rows facts clash f h x t b some e = go (decLt x (length names)) (decLt t W)
+-- A line with another first byte names no signal.
+other-line : (b : ℕ) (l w : List ℕ) → (b ≡ byte "s" → ⊥) → b ∷ l ≡ bytes "signal=" ++ w → ⊥
+other-line b l w n e = n (ap (λ (v : List ℕ). getD v 0 0) e)
+
+-- The sign at a tick after `marks=`.
+marked : (names : List (List ℕ)) (W : ℕ) (f : ℕ → ℕ → Answer) (x : ℕ) (w : List ℕ) (t b : ℕ) → x < length names → getD names x [] ≡ w → 0 < b
+    → getD (bytes "marks=" ++ signs (f x) 0 W) (length (bytes "marks=") + t) 0 ≡ b → Signed names W f w t b
+marked names W f x w t b h called some e = go (decLt t W)
   where
-    five : 5 + 2 * x ≡ suc (suc (suc (suc (suc (x + x)))))
-    five = omega arith
+    sign-is : getD (signs (f x) 0 W) t 0 ≡ b
+    sign-is = sym (getD-append-add (bytes "marks=") (signs (f x) 0 W) t 0) ∙ e
 
-    line-is : lineOf (listingText names W rows facts clash f) (5 + 2 * x) ≡ getD (linesOf (signalsText W f 0 names)) (suc (x + x)) []
-    line-is = rw (five, head-lines rows facts clash (signalsText W f 0 names))
+    go : Dec (t < W) → Signed names W f w t b
+    go (yes j) = record { signal = x; within = h; called = called; tick = j; is = sym (rw (zero-add t) at (sign-there (f x) 0 W t j)) ∙ sign-is }
+    go (no j) = absurd (omega (arith, sign-is, no-sign (f x) 0 W t (omega arith)))
 
-    sign-is : x < length names → b ≡ getD (signs (f x) 0 W) t 0
-    sign-is l = sym e ∙ ap (λ (v : List ℕ). getD v (length (bytes "marks=") + t) 0) (line-is ∙ rw (zero-add x) at (marks-line W f 0 names h x l)) ∙ getD-append-add (bytes "marks=") (signs (f x) 0 W) t 0
+same-called : (w v : List ℕ) → bytes "signal=" ++ w ≡ bytes "signal=" ++ v → w ≡ v
+same-called w v e = ap (drop 7) e
 
-    go : Dec (x < length names) → Dec (t < W) → Signed (length names) W f x t b
-    go (yes i) (yes j) = record { signal = i; tick = j; is = sym (rw (zero-add t) at (sign-there (f x) 0 W t j)) ∙ sym (sign-is i) }
-    go (yes i) (no j) = absurd (omega (arith, sign-is i, no-sign (f x) 0 W t (omega arith)))
-    go (no i) d =
-        let z : getD (linesOf (signalsText W f 0 names)) (suc (x + x)) [] ≡ [] = List·getD-eq-default (linesOf (signalsText W f 0 names)) [] (omega (arith, lines-many W f 0 names h)) in
-        absurd (omega (arith, sym e ∙ ap (λ (v : List ℕ). getD v (length (bytes "marks=") + t) 0) (line-is ∙ z)))
+-- What the lines ls show under a name is so.
+abbrev Told : List (List ℕ) → ℕ → (ℕ → ℕ → Answer) → List (List ℕ) → Type 0
+Told names W f ls = (i t b : ℕ) (w : List ℕ) → 0 < b → getD ls i [] ≡ bytes "signal=" ++ w → getD (getD ls (suc i) []) (length (bytes "marks=") + t) 0 ≡ b → Signed names W f w t b
+
+-- The two lines of a signal, before others.
+told-more : (names : List (List ℕ)) (W : ℕ) (f : ℕ → ℕ → Answer) (x : ℕ) (ls : List (List ℕ)) → x < length names → Told names W f ls
+    → Told names W f ((bytes "signal=" ++ getD names x []) ∷ (bytes "marks=" ++ signs (f x) 0 W) ∷ ls)
+told-more names W f x ls h k zero t b w some e g = marked names W f x w t b h (same-called (getD names x []) w e) some g
+told-more names W f x ls h k (suc zero) t b w some e g = absurd (other-line (byte "m") _ w (λ z. omega arith) e)
+told-more names W f x ls h k (suc (suc i)) t b w some e g = k i t b w some e g
+
+-- All signals' lines.
+signals-told : (names : List (List ℕ)) (W : ℕ) (f : ℕ → ℕ → Answer) → All InLine names → (xs : List ℕ) → All (λ x. x < length names) xs → Told names W f (linesOf (signalsText W f names xs))
+unfolding signalsText linesOf
+signals-told names W f h [] a = λ i t b w some e g. absurd (omega (arith, ap length e))
+signals-told names W f h (x ∷ xs) a =
+    rw (signal-lines (getD names x []) (signs (f x) 0 W) (signalsText W f names xs) (all-nth InLine [] names x h (a .0)) (signs-in-line (f x) 0 W))
+    (told-more names W f x (linesOf (signalsText W f names xs)) (a .0) (signals-told names W f h xs (a .1)))
+
+signed : (names : List (List ℕ)) (W rows facts : ℕ) (clash : Bool) (f : ℕ → ℕ → Answer) → All InLine names → (i t b : ℕ) (w : List ℕ) → 0 < b
+    → Names (listingText names W rows facts clash f) i w → signUnder (listingText names W rows facts clash f) i t ≡ b → Signed names W f w t b
+unfolding listingText
+signed names W rows facts clash f h i t b w some e g =
+    let n : i + 1 ≡ suc i = omega arith in
+    let head = head-lines rows facts clash (signalsText W f names (inOrder names)) in
+    go i (rw head at e) (rw (head, n) at g)
+  where
+    lines : List (List ℕ)
+    lines = (bytes "answer=" ++ decimalText 0) ∷ (bytes "rows=" ++ decimalText rows) ∷ (bytes "facts=" ++ decimalText facts) ∷ (bytes "clash=" ++ decimalText (oneIf clash)) ∷ linesOf (signalsText W f names (inOrder names))
+
+    go : (i : ℕ) → getD lines i [] ≡ bytes "signal=" ++ w → getD (getD lines (suc i) []) (length (bytes "marks=") + t) 0 ≡ b → Signed names W f w t b
+    go zero e g = absurd (other-line (byte "a") _ w (λ z. omega arith) e)
+    go (suc zero) e g = absurd (other-line (byte "r") _ w (λ z. omega arith) e)
+    go (suc (suc zero)) e g = absurd (other-line (byte "f") _ w (λ z. omega arith) e)
+    go (suc (suc (suc zero))) e g = absurd (other-line (byte "c") _ w (λ z. omega arith) e)
+    go (suc (suc (suc (suc i)))) e g = signals-told names W f h (inOrder names) (order-within names) i t b w some e g
 
 -- A value's sign is no other answer's.
 sign-value : (a : Answer) (v : Bool) → signByte a ≡ shown v → a ≡ valued v
@@ -206,9 +225,14 @@ refusal-lines n p =
 no-line : (n p i : ℕ) → 2 ≤ i → lineOf (refusalText n p) i ≡ []
 no-line n p i h = List·getD-eq-default (linesOf (refusalText n p)) [] (omega (arith, ap length (refusal-lines n p)))
 
--- So a refusal shows no value and no clash.
-no-value : (n p y t : ℕ) (v : Bool) → signAt (refusalText n p) y t ≡ shown v → ⊥
-no-value n p y t v e = omega (arith, sign-some v, sym e ∙ ap (λ (w : List ℕ). getD w (length (bytes "marks=") + t) 0) (no-line n p (5 + 2 * y) (omega arith)))
+-- So a refusal names no signal, and shows no clash.
+no-name : (n p i : ℕ) (w : List ℕ) → Names (refusalText n p) i w → ⊥
+no-name n p i w e = go i (rw (refusal-lines n p) at e)
+  where
+    go : (i : ℕ) → getD ((bytes "answer=" ++ decimalText n) ∷ (bytes "place=" ++ decimalText p) ∷ []) i [] ≡ bytes "signal=" ++ w → ⊥
+    go zero e = other-line (byte "a") _ w (λ z. omega arith) e
+    go (suc zero) e = other-line (byte "p") _ w (λ z. omega arith) e
+    go (suc (suc i)) e = omega (arith, ap length e)
 
 no-clash : (n p : ℕ) → lineOf (refusalText n p) 3 ≡ bytes "clash=1" → ⊥
 no-clash n p e = omega (arith, ap length (sym (no-line n p 3 (omega arith)) ∙ e))
@@ -216,26 +240,31 @@ no-clash n p e = omega (arith, ap length (sym (no-line n p 3 (omega arith)) ∙ 
 -- ---- histories
 
 module _ {s r : List ℕ} {k : Contents} (x : SheetAccepted s k) (h : History) (obeys : Obeys (meant k) h) (agrees : AgreesWith s k (r ∷ []) h) where
-  value-shown : {l : List ℕ} → Shown s r l → (y t : ℕ) (v : Bool) → signAt l y t ≡ shown v → h y (pos t) ≡ v
-  value-shown (refusal n p) y t v z = absurd (no-value n p y t v z)
-  value-shown (listing {k = c} {U = U} {clash = clash} {f = f} e a q) y t v z =
-      let i : k ≡ c = accepted-one (sym (in-sheet-text s x) ∙ e) in
-      let g = signed (namesIn s c) (c .window) (rowCount (meant c)) (factsOf (meant c) U) clash f (names-in-line s (c .places)) y t (shown v) (sign-some v) z in
-      let j : y < length (c .places) = omega (arith, g .signal, names-many s (c .places)) in
-      let w : Asked (Standing (meant c) U) y t (valued v) = subst (Asked (Standing (meant c) U) y t) (sign-value (f y t) v (g .is)) (q y j t (g .tick)) in
-      told-holds (record { sheet = sheet-in s e; run = call a done }) h (subst (λ (d : Contents). Obeys (meant d) h) i obeys) (subst (λ (d : Contents). AgreesWith s d (r ∷ []) h) i agrees) v (j, g .tick) w
+  value-shown : {l : List ℕ} → Shown s r l → (i y t : ℕ) (v : Bool) → y < length (namesIn s k) → Names l i (getD (namesIn s k) y []) → signUnder l i t ≡ shown v → h y (pos t) ≡ v
+  value-shown (refusal n p) i y t v l w z = absurd (no-name n p i (getD (namesIn s k) y []) w)
+  value-shown (listing {k = c} {U = U} {clash = clash} {f = f} e a q) i y t v l w z =
+      let same : k ≡ c = accepted-one (sym (in-sheet-text s x) ∙ e) in
+      let names = namesIn s c in
+      let text = listingText names (c .window) (rowCount (meant c)) (factsOf (meant c) U) clash f in
+      let m = subst (λ (d : Contents). y < length (namesIn s d)) same l in
+      let g = signed names (c .window) (rowCount (meant c)) (factsOf (meant c) U) clash f (names-in-line s (c .places)) i t (shown v) (getD names y []) (sign-some v) (subst (λ (d : Contents). Names text i (getD (namesIn s d) y [])) same w) z in
+      let one : g .signal ≡ y = names-declarable s e .differ (g .signal) y (g .within) m (g .called) in
+      let j : y < length (c .places) = omega (arith, m, names-many s (c .places)) in
+      let told : signByte (f y t) ≡ shown v = subst (λ (u : ℕ). signByte (f u t) ≡ shown v) one (g .is) in
+      let w : Asked (Standing (meant c) U) y t (valued v) = subst (Asked (Standing (meant c) U) y t) (sign-value (f y t) v told) (q y j t (g .tick)) in
+      told-holds (record { sheet = sheet-in s e; run = call a done }) h (subst (λ (d : Contents). Obeys (meant d) h) same obeys) (subst (λ (d : Contents). AgreesWith s d (r ∷ []) h) same agrees) v (j, g .tick) w
 
   clash-told : {l : List ℕ} → Shown s r l → lineOf l 3 ≡ bytes "clash=1" → ⊥
   unfolding listingText
   clash-told (refusal n p) z = no-clash n p z
   clash-told (listing {k = c} {U = U} {new = new} {clash = clash} {f = f} e a q) z =
       let i : k ≡ c = accepted-one (sym (in-sheet-text s x) ∙ e) in
-      let told : clash ≡ true = clash-shown clash (sym (ap (λ (ls : List (List ℕ)). getD ls 3 []) (head-lines (rowCount (meant c)) (factsOf (meant c) U) clash (signalsText (c .window) f 0 (namesIn s c)))) ∙ z) in
+      let told : clash ≡ true = clash-shown clash (sym (ap (λ (ls : List (List ℕ)). getD ls 3 []) (head-lines (rowCount (meant c)) (factsOf (meant c) U) clash (signalsText (c .window) f (namesIn s c) (inOrder (namesIn s c))))) ∙ z) in
       no-clash-told (record { sheet = sheet-in s e; run = call a done }) h (subst (λ (d : Contents). Obeys (meant d) h) i obeys) (subst (λ (d : Contents). AgreesWith s d (r ∷ []) h) i agrees) new
       (List·Memᴰ·head (ap (λ (b : Bool). accepted (gain new b)) (sym told)))
 
-  -- Where the listing program prints 1 or 0, the history has that value,
-  pub listing-value : {l : List ℕ} → Settles s r l → (y t : ℕ) (v : Bool) → signAt l y t ≡ shown v → h y (pos t) ≡ v
+  -- Where the listing program prints 1 or 0 under a signal's name, the history has that value,
+  pub listing-value : {l : List ℕ} → Settles s r l → (i y t : ℕ) (v : Bool) → y < length (namesIn s k) → Names l i (getD (namesIn s k) y []) → signUnder l i t ≡ shown v → h y (pos t) ≡ v
   listing-value x = value-shown (shown-by x)
 
   -- and where it prints clash=1, there is none.

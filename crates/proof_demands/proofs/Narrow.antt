@@ -8,14 +8,14 @@ use native.Mathlib.Omega.{arith}
 use lib.Dec.{eqb}
 use lib.ListN.{length, drop, length-append, length-drop}
 use lib.Seq.{drop-append-le}
+use Rattle.read_names.specs.declared.EndNumber.{EndNumber}
 use Rattle.read_names.specs.declared.NameRead.the-variants.{Name}
 use Rattle.read_bytes.specs.declared.numbers.Number.the-variants.{Value}
 use Rattle.read_bytes.specs.Read.Read.{got}
-use Rattle.read_bytes.specs.Bytes.{bytes, byte, peek, between, digit, nameByte, run, runAt, runEnd}
+use Rattle.read_bytes.specs.Bytes.{bytes, byte, peek, between, digit, nameByte, run, runAt, runEnd, every}
 use Rattle.read_names.specs.Spellings.{spellingEnd, isSpelled, nameAt}
 use Rattle.read_bytes.specs.Numbers.{digits, number}
 use Rattle.read_lines.specs.Lines.{inLine, lineEnd, line, numberLine, rangedLine, nameLine}
-use Rattle.read_bytes.proofs.Runs.{every}
 use Rattle.read_names.proofs.Spelling.{is-word}
 use Rattle.read_names.proofs.Names.{named, name-reach}
 use Rattle.read_bytes.proofs.Values.{digits-reach, number-reach}
@@ -49,7 +49,7 @@ module _ (r x : List ℕ) where
   isWord-narrow : (p : ℕ) (w : List ℕ) → every nameByte w ≡ true → spellingEnd (r ++ x) p < length r → isSpelled r p w ≡ isSpelled (r ++ x) p w
   isWord-narrow p w all h = rw (is-word r p w all, is-word (r ++ x) p w all, runAt-narrow nameByte p h)
 
-  nameAt-narrow : (p : ℕ) {q : ℕ} → nameAt (r ++ x) p ≡ Name q → q < length r → nameAt r p ≡ Name q
+  nameAt-narrow : (p : ℕ) {q : ℕ} {n : EndNumber} → nameAt (r ++ x) p ≡ Name q n → q < length r → nameAt r p ≡ Name q n
   unfolding nameAt every nameByte
   nameAt-narrow p e h =
       let n = named (r ++ x) p e in

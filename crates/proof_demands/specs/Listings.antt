@@ -1,8 +1,9 @@
 -- What a listing shows, read off its bytes (01, "The listing program").
 -- Assumes nothing. l is the listing's text.
+use mathlib.Core.Path.{_≡_}
 use mathlib.Core.Bool.{Bool, true, false}
-use mathlib.Core.List.{List, [], _∷_}
-use Prim.Native.Nat.{ℕ, _+_, _*_}
+use mathlib.Core.List.{List, [], _∷_, _++_}
+use Prim.Native.Nat.{ℕ, _+_}
 use lib.Dec.{eqb}
 use lib.ListN.{length, getD}
 use Rattle.read_bytes.specs.Bytes.{byte, bytes, pick}
@@ -21,9 +22,13 @@ linesOf (b ∷ l) = pick (eqb b (byte "\n")) (λ _. [] ∷ linesOf l) (onFirst b
 abbrev pub lineOf : List ℕ → ℕ → List ℕ
 lineOf l i = getD (linesOf l) i []
 
--- The sign that is printed for signal x at tick t: after `marks=`, one sign a tick.
-abbrev pub signAt : List ℕ → ℕ → ℕ → ℕ
-signAt l x t = getD (lineOf l (5 + 2 * x)) (length (bytes "marks=") + t) 0
+-- The line i of a listing names the signal that is called w.
+abbrev pub Names : List ℕ → ℕ → List ℕ → Type 0
+Names l i w = lineOf l i ≡ bytes "signal=" ++ w
+
+-- The sign that is printed at tick t under line i: in the next line after `marks=`, one sign a tick.
+abbrev pub signUnder : List ℕ → ℕ → ℕ → ℕ
+signUnder l i t = getD (lineOf l (i + 1)) (length (bytes "marks=") + t) 0
 
 -- The sign of a value: `1` or `0`.
 abbrev pub shown : Bool → ℕ

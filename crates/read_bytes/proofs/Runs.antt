@@ -1,13 +1,13 @@
 -- Runs of bytes that pass a test: byte by byte, where they end, and that they are a part of the text.
 -- Assumes nothing.
 use mathlib.Core.Path.{_≡_, refl, ap, _∙_}
-use mathlib.Core.Bool.{Bool, true, false, _&&_}
+use mathlib.Core.Bool.{Bool, true, false, and-eq-true-iff}
 use mathlib.Core.List.{List, [], _∷_}
-use Prim.Native.Nat.{ℕ, _+_, _-_, _<_, _≤_}
+use Prim.Native.Nat.{ℕ, zero, suc, _+_, _-_, _<_, _≤_}
 use native.Mathlib.Omega.{arith}
 use lib.ListN.{length, getD, take, drop, drop-of-length-le, length-drop}
 use lib.Seq.{drop-drop, getD-drop, getD-take}
-use Rattle.read_bytes.specs.Bytes.{peek, pick, run, runAt, runEnd}
+use Rattle.read_bytes.specs.Bytes.{peek, pick, run, runAt, runEnd, every}
 use Rattle.read_bytes.proofs.Places.{Reach, drop-in, peek-in}
 
 module _ (P : ℕ → Bool) (s : List ℕ) (p : ℕ) where
@@ -37,10 +37,12 @@ module _ (P : ℕ → Bool) (s : List ℕ) (p : ℕ) where
   unfolding runEnd
   end-past h = omega (arith, ap length (run-past h))
 
--- Every byte of a text passes the test.
-unfoldable pub every : (ℕ → Bool) → List ℕ → Bool
-every P [] = true
-every P (x ∷ l) = P x && every P l
+-- A byte of a text that passes whole.
+pub every-at : (P : ℕ → Bool) (l : List ℕ) → every P l ≡ true → (k : ℕ) → k < length l → P (getD l k 0) ≡ true
+unfolding every
+every-at P [] h k n = absurd (omega arith)
+every-at P (x ∷ l) h zero n = and-eq-true-iff (P x) (every P l) .0 h .0
+every-at P (x ∷ l) h (suc k) n = every-at P l (and-eq-true-iff (P x) (every P l) .0 h .1) k (omega arith)
 
 module _ (P : ℕ → Bool) where
   run-part : (l : List ℕ) → take (length (run P l)) l ≡ run P l

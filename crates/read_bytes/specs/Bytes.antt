@@ -80,6 +80,11 @@ runAt P s p = run P (drop p s)
 unfoldable pub runEnd : (ℕ → Bool) → List ℕ → ℕ → ℕ
 runEnd P s p = p + length (runAt P s p)
 
+-- Does every byte of the text pass the test?
+unfoldable pub every : (ℕ → Bool) → List ℕ → Bool
+every P [] = true
+every P (x ∷ s) = P x && every P s
+
 -- No byte of the text is LF.
 abbrev pub InLine : List ℕ → Type 0
 InLine [] = Unit {0}

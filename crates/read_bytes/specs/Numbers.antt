@@ -1,11 +1,16 @@
 -- Numbers (01, "The sheet").
 -- Assumes nothing.
 use Prim.Native.Nat.{ℕ, zero, suc, _+_, _-_, _*_}
-use mathlib.Core.List.{List}
+use mathlib.Core.List.{List, [], _∷_}
 use lib.Dec.{eqb}
 use Rattle.read_bytes.specs.declared.numbers.Number.{Number}
 use Rattle.read_bytes.specs.declared.numbers.Number.the-variants.{Value, Missing}
 use Rattle.read_bytes.specs.Bytes.{byte, peek, pick, between, digit}
+
+-- The number that digits write after digits of the value v.
+unfoldable pub decimal : ℕ → List ℕ → ℕ
+decimal v [] = v
+decimal v (b ∷ w) = decimal (10 * v + (b - byte "0")) w
 
 -- At most k digits from p on, after digits of the value v: the value of all, and the place after them.
 unfoldable pub digits : List ℕ → ℕ → ℕ → ℕ → Number

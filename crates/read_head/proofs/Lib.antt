@@ -2,4 +2,4 @@
 pub mod Signals
 pub mod Heads
 pub mod HeadPrefix
-pub mod ShortNames
+pub mod DeclaredNames

@@ -1,6 +1,6 @@
 -- Lines: each answer of a reader of lines, and where the line's value and what follows the line stand.
 -- Assumes nothing.
-use mathlib.Core.Path.{_≡_, sym, ap, _∙_}
+use mathlib.Core.Path.{_≡_, refl, sym, ap, _∙_}
 use mathlib.Core.Bool.{true, false, _&&_, and-eq-true-iff}
 use mathlib.Core.List.{List}
 use Prim.Native.Nat.{ℕ, _+_, _<_, _≤_}
@@ -14,7 +14,9 @@ use Rattle.read_bytes.specs.declared.numbers.Number.{Number}
 use Rattle.read_bytes.specs.declared.numbers.Number.the-variants.{Value, Missing}
 use Rattle.read_bytes.specs.Read.Read.{got, refused}
 use Rattle.read_bytes.specs.Bytes.{byte, between, peek, starts, runEnd}
-use Rattle.read_names.specs.Spellings.{nameAt}
+use Rattle.read_names.specs.EndNumbers.{endNumber}
+use Rattle.read_names.specs.Spellings.{spellingAt, nameAt}
+use Rattle.read_names.proofs.Names.{named}
 use Rattle.read_bytes.specs.Numbers.{number}
 use Rattle.read_lines.specs.Lines.{inLine, lineEnd, line, whole, wholeNumber, wholeName, numberLine, rangedLine, nameLine}
 use Rattle.read_bytes.proofs.Tests.{between-in, between-is}
@@ -122,19 +124,20 @@ number-held s p key form {x} {q} h =
         (cc, t .2)
     go e Missing f = absurd (not-both (sym f))
 
-pub name-held : (s : List ℕ) (p : ℕ) (key : List ℕ) (form content : ℕ) {x q : ℕ} → nameLine s p key form content ≡ got x q → Held s p key (λ v e. (nameAt s v ≡ Name e) × (v ≡ x)) q
+pub name-held : (s : List ℕ) (p : ℕ) (key : List ℕ) (form content : ℕ) {x q : ℕ} → nameLine s p key form content ≡ got x q → Held s p key (λ v e. (nameAt s v ≡ Name e (endNumber (spellingAt s v))) × (v ≡ x)) q
 unfolding nameLine
 name-held s p key form content {x} {q} h =
     let d = came (line s p key form) (λ v e. wholeName v content e (nameAt s v)) h in
-    let w = go (d .value) (d .place) (nameAt s (d .value)) (d .then) in
+    let w = go (d .value) (d .place) (nameAt s (d .value)) refl (d .then) in
     record { value = d .value; lf = d .place; at = placed s p key form (d .first); what = (w .0, w .1); next = w .2 }
   where
-    go : (v e : ℕ) (w : NameRead) → wholeName v content e w ≡ got x q → (w ≡ Name e) × (v ≡ x) × (e + 1 ≡ q)
-    go v e (Name z) f =
+    go : (v e : ℕ) (w : NameRead) → nameAt s v ≡ w → wholeName v content e w ≡ got x q → (nameAt s v ≡ Name e (endNumber (spellingAt s v))) × (v ≡ x) × (e + 1 ≡ q)
+    go v e (Name z n) a f =
         let t = through (eqb z e) v (e + 1) content v f in
         let i = eqb-true z e (t .0) in
+        let m = named s v a .number in
         (cc, t .1, t .2)
-    go v e Other f = absurd (not-both (sym f))
+    go v e Other a f = absurd (not-both (sym f))
 
 -- What follows a line stands after it, whatever the line holds.
 pub line-past : {s : List ℕ} {p : ℕ} {key : List ℕ} {What : ℕ → ℕ → Type 0} {q : ℕ} → Held s p key What q → Reach s (p + 1) q

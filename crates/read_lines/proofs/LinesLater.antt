@@ -49,7 +49,7 @@ module _ (d : ℕ) where
   wholeNumber-later p form e Missing = refl
 
   wholeName-later : (v content e : ℕ) (w : NameRead) → wholeName (d + v) content (d + e) (laterWord d w) ≡ laterPlace d (wholeName v content e w)
-  wholeName-later v content e (Name q) = whole-later (λ y. d + y) v q e content v
+  wholeName-later v content e (Name q n) = whole-later (λ y. d + y) v q e content v
   wholeName-later v content e Other = refl
 
 module _ (u t : List ℕ) (i : ℕ) (key : List ℕ) (form : ℕ) where

@@ -8,14 +8,14 @@ use native.Mathlib.Omega.{arith}
 use lib.Dec.{eqb}
 use lib.ListN.{length, drop, length-append, length-drop, List·getD-append}
 use lib.Seq.{drop-append-le}
+use Rattle.read_names.specs.declared.EndNumber.{EndNumber}
 use Rattle.read_names.specs.declared.NameRead.the-variants.{Name}
 use Rattle.read_bytes.specs.declared.numbers.Number.the-variants.{Value}
 use Rattle.read_bytes.specs.Read.Read.{got}
-use Rattle.read_bytes.specs.Bytes.{bytes, byte, peek, between, digit, nameByte, starts, run, runAt, runEnd}
+use Rattle.read_bytes.specs.Bytes.{bytes, byte, peek, between, digit, nameByte, starts, run, runAt, runEnd, every}
 use Rattle.read_names.specs.Spellings.{spellingAt, spellingEnd, isSpelled, nameAt}
 use Rattle.read_bytes.specs.Numbers.{digits, number}
 use Rattle.read_lines.specs.Lines.{inLine, lineEnd, line, numberLine, rangedLine, nameLine}
-use Rattle.read_bytes.proofs.Runs.{every}
 use Rattle.read_names.proofs.Spelling.{is-word}
 use Rattle.read_names.proofs.Names.{named, name-reach}
 use Rattle.read_bytes.proofs.Values.{digits-reach, number-reach}
@@ -59,7 +59,7 @@ module _ (r x : List ℕ) where
   isWord-kept p w all h = rw (is-word (r ++ x) p w all, is-word r p w all, runAt-kept nameByte p h)
 
   -- names
-  pub nameAt-kept : (p : ℕ) {q : ℕ} → nameAt r p ≡ Name q → q < length r → nameAt (r ++ x) p ≡ Name q
+  pub nameAt-kept : (p : ℕ) {q : ℕ} {n : EndNumber} → nameAt r p ≡ Name q n → q < length r → nameAt (r ++ x) p ≡ Name q n
   unfolding nameAt every nameByte
   nameAt-kept p e h =
       let n = named r p e in

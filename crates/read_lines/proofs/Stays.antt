@@ -106,5 +106,5 @@ module _ (s : List ℕ) (p : ℕ) (h : p ≤ length s) (key : List ℕ) (form : 
       (λ v e f i l. go v e (nameAt s v) i (placed s p key form f .inside))
     where
       go : (v e : ℕ) (x : NameRead) → v ≤ length s → e < length s → Stays (λ v. v ≤ length s) (length s) (wholeName v content e x)
-      go v e (Name q) k l = pick-stays (λ v. v ≤ length s) (length s) (eqb q e) (got v (e + 1)) (refused content v) (λ _. (k, omega arith)) k
+      go v e (Name q n) k l = pick-stays (λ v. v ≤ length s) (length s) (eqb q e) (got v (e + 1)) (refused content v) (λ _. (k, omega arith)) k
       go v e Other k l = k

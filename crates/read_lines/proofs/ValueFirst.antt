@@ -8,6 +8,7 @@ use native.Mathlib.Omega.{arith}
 use borrow.Author.Tests.{eqb-true, eq-eqb, ltb-true, lt-ltb, le-ltb, leb-true, le-leb, lt-leb, leb-false}
 use lib.Dec.{leb, ltb, eqb}
 use lib.ListN.{length, getD}
+use Rattle.read_names.specs.declared.EndNumber.{EndNumber}
 use Rattle.read_names.specs.declared.NameRead.{NameRead}
 use Rattle.read_names.specs.declared.NameRead.the-variants.{Name, Other}
 use Rattle.read_bytes.specs.declared.numbers.Number.{Number}
@@ -58,7 +59,7 @@ module _ (s : List ℕ) where
           let w : ⊥ = omega arith in
           absurd w
 
-  name-on-line : (p : ℕ) {q : ℕ} → nameAt s p ≡ Name q → lineEnd s p ≡ lineEnd s q
+  name-on-line : (p : ℕ) {q : ℕ} {n : EndNumber} → nameAt s p ≡ Name q n → lineEnd s p ≡ lineEnd s q
   unfolding nameByte
   name-on-line p e = end-within nameByte inLine (in-line nameByte refl) s p ∙ ap (lineEnd s) (sym (named s p e .ends))
 
@@ -122,7 +123,7 @@ module _ (s : List ℕ) (p : ℕ) (key : List ℕ) where
       pub number-first : {x : ℕ} → number s (p + length key) ≡ Value x q → got x (q + 1) ≡ numberLine s p key form
       number-first {x} e = whole-is x q q form p refl ∙ number-line-is s p key form (value-line (number-on-line s (p + length key) e)) e
 
-      pub name-first : (content : ℕ) → nameAt s (p + length key) ≡ Name q → got (p + length key) (q + 1) ≡ nameLine s p key form content
+      pub name-first : (content : ℕ) {n : EndNumber} → nameAt s (p + length key) ≡ Name q n → got (p + length key) (q + 1) ≡ nameLine s p key form content
       name-first content e = whole-is (p + length key) q q content (p + length key) refl ∙ name-line-is s p key form (value-line (name-on-line s (p + length key) e)) content e
 
     -- The line's LF is one of the text.
@@ -152,16 +153,16 @@ module _ (s : List ℕ) (p : ℕ) (key : List ℕ) where
         missed h (nameAt s v) refl ∙ name-line-is s p key form a content refl
       where
         missed : Placed s p key v e → (w : NameRead) → nameAt s v ≡ w → refused content v ≡ wholeName v content e w
-        missed h (Name q) f = whole-not v q e content v (lf-placed h (never q (sym (ap (nameAt s) (h .value)) ∙ f)))
+        missed h (Name q n) f = whole-not v q e content v (lf-placed h (never q n (sym (ap (nameAt s) (h .value)) ∙ f)))
         missed h Other f = refl
 
 -- Where no name was read, or one that no LF follows.
 module _ (s : List ℕ) (v : ℕ) where
   pub other-no-name : nameAt s v ≡ Other → NoName s v
-  other-no-name f q e =
+  other-no-name f q n e =
       let z : _≡_ {A = ℕ} 0 1 = cc in
       let w : ⊥ = omega arith in
       absurd w
 
-  pub open-no-name : {q : ℕ} → nameAt s v ≡ Name q → lfAt s q ≡ false → NoName s v
-  open-no-name {q} f l r e = let i : q ≡ r = cc in rw i at l
+  pub open-no-name : {q : ℕ} {n : EndNumber} → nameAt s v ≡ Name q n → lfAt s q ≡ false → NoName s v
+  open-no-name {q} f l r m e = let i : q ≡ r = cc in rw i at l

@@ -8,6 +8,7 @@ use lib.ListN.{length}
 use lib.Dec.{leb, ltb, eqb}
 use Rattle.read_lines.specs.declared.Step.{Step}
 use Rattle.read_lines.specs.declared.Step.the-variants.{Got, Refused}
+use Rattle.read_names.specs.declared.EndNumber.{EndNumber}
 use Rattle.read_names.specs.declared.NameRead.{NameRead}
 use Rattle.read_names.specs.declared.NameRead.the-variants.{Name, Other}
 use Rattle.read_bytes.specs.declared.numbers.Number.{Number}
@@ -56,7 +57,7 @@ wholeNumber p form e Missing = refused form p
 
 -- A name that takes the line whole from its value's place v on. Its place is its value.
 abbrev pub wholeName : ℕ → ℕ → ℕ → NameRead → Read ℕ
-wholeName v content e (Name q) = whole v q e content v
+wholeName v content e (Name q n) = whole v q e content v
 wholeName v content e Other = refused content v
 
 -- The line at p with a key and a number: the number, and the place after the line. Or its form is refused at p.
@@ -74,7 +75,7 @@ nameLine s p key form content = andThen (line s p key form) (λ v e. wholeName v
 
 -- No name from v on takes its line whole.
 abbrev pub NoName : List ℕ → ℕ → Type 0
-NoName s v = (q : ℕ) → nameAt s v ≡ Name q → lfAt s q ≡ false
+NoName s v = (q : ℕ) (n : EndNumber) → nameAt s v ≡ Name q n → lfAt s q ≡ false
 
 -- What was read, t, and n things more that P reads in turn, which sees those before.
 unfoldable pub inTurn : {A : Type 0} → (List A → ℕ → Read A) → ℕ → List A → ℕ → Read (List A)

@@ -135,7 +135,7 @@ pub fn name_line(s: &[u8], at: usize, key: &[u8], form: usize, content: usize) -
     }
     let v = at + key.len();
     let w = name_at(s, v);
-    let NameRead::Name(q) = w else {
+    let NameRead::Name(q, _) = w else {
         return no_name(s, at, key, form, content);
     };
     if lf_at(s, q) {

@@ -6,17 +6,20 @@ use mathlib.Core.Bool.{Bool, true, false, false≢true, not, and-eq-true-iff}
 use mathlib.Core.List.{List, [], _∷_, _++_, List·Memᴰ}
 use Prim.Native.Nat.{ℕ, zero, suc, _+_, _-_, _<_, _≤_}
 use native.Mathlib.Omega.{arith}
+use native.Mathlib.Decide.{decLt}
 use borrow.Author.Tests.{eqb-true, eqb-false, eq-eqb, ne-eqb, le-leb, lt-leb, leb-true, not-true}
 use lib.Dec.{leb, eqb}
-use lib.ListN.{length, getD, take, drop, drop-of-length-le}
-use lib.Seq.{getD-drop, getD-take}
+use lib.ListN.{length, getD, take, drop, drop-of-length-le, length-append, List·getD-append}
+use lib.Seq.{getD-drop, getD-take, getD-append-seam}
 use Rattle.spec_limits.specs.Limits.{mostNameBytes}
+use Rattle.read_names.specs.declared.EndNumber.{EndNumber}
 use Rattle.read_names.specs.declared.NameRead.the-variants.{Name, Other}
-use Rattle.read_bytes.specs.Bytes.{bytes, byte, peek, pick, letter, nameByte, runEnd}
+use Rattle.read_bytes.specs.Bytes.{bytes, byte, peek, pick, letter, nameByte, runEnd, every}
+use Rattle.read_names.specs.EndNumbers.{endNumber, wellEnded}
 use Rattle.read_names.specs.Spellings.{spellingAt, spellingEnd, namesAt, sameText, findName, isSpelled, nameAt}
 use Rattle.read_bytes.proofs.Tests.{between-in}
 use Rattle.read_bytes.proofs.Places.{Reach, drop-in}
-use Rattle.read_bytes.proofs.Runs.{every, run-every, run-byte, run-slice}
+use Rattle.read_bytes.proofs.Runs.{run-every, run-byte, run-slice}
 use Rattle.read_names.proofs.Spelling.{word-ahead, is-word}
 
 same-is : (a b : List ℕ) → sameText a b ≡ true → a ≡ b
@@ -132,6 +135,32 @@ find-most w (n ∷ ns) = go (sameText n w) refl (find-most w ns)
     go true e k = let l = find-here w n ns e in omega arith
     go false e k = let l = find-later w n ns e in omega arith
 
+-- No two of the names are the same.
+abbrev pub Differ : List (List ℕ) → Type 0
+Differ ns = (x y : ℕ) → x < length ns → y < length ns → getD ns x [] ≡ getD ns y [] → x ≡ y
+
+-- A name that is not found is new.
+pub differ-more : (ns : List (List ℕ)) (w : List ℕ) → Differ ns → findName w ns ≡ length ns → Differ (ns ++ (w ∷ []))
+differ-more ns w d new x y h k e = go (decLt x (length ns)) (decLt y (length ns))
+  where
+    long : length (ns ++ (w ∷ [])) ≡ length ns + 1
+    long = length-append ns (w ∷ [])
+
+    last : (z : ℕ) → z < length (ns ++ (w ∷ [])) → (z < length ns → ⊥) → (z ≡ length ns) × (getD (ns ++ (w ∷ [])) z [] ≡ w)
+    last z l n =
+        let i : z ≡ length ns = omega (arith, long) in
+        (i, ap (λ j. getD (ns ++ (w ∷ [])) j []) i ∙ getD-append-seam ns w [] [])
+
+    -- none of those before is w
+    old : (z : ℕ) → z < length ns → getD ns z [] ≡ w → ⊥
+    old z l i = let f = find-of w ns (member ns z w l i) in omega arith
+
+    go : Dec (x < length ns) → Dec (y < length ns) → x ≡ y
+    go (yes i) (yes j) = d x y i j (sym (List·getD-append ns (w ∷ []) [] x i) ∙ e ∙ List·getD-append ns (w ∷ []) [] y j)
+    go (yes i) (no j) = absurd (old x i (sym (List·getD-append ns (w ∷ []) [] x i) ∙ e ∙ last y k j .1))
+    go (no i) (yes j) = absurd (old y j (sym (List·getD-append ns (w ∷ []) [] y j) ∙ sym e ∙ last x h i .1))
+    go (no i) (no j) = last x h i .0 ∙ sym (last y k j .0)
+
 -- THE NAMES AT PLACES OF A TEXT
 pub names-many : (s ps : List ℕ) → length (namesAt s ps) ≡ length ps
 unfolding namesAt
@@ -142,6 +171,13 @@ pub names-append : (s ps qs : List ℕ) → namesAt s (ps ++ qs) ≡ namesAt s p
 unfolding namesAt
 names-append s [] qs = refl
 names-append s (p ∷ ps) qs = rw (names-append s ps qs)
+
+-- The name at the i-th place.
+pub names-at : (s ps : List ℕ) (i : ℕ) → i < length ps → getD (namesAt s ps) i [] ≡ spellingAt s (getD ps i 0)
+unfolding namesAt
+names-at s [] i h = absurd (omega arith)
+names-at s (p ∷ ps) zero h = refl
+names-at s (p ∷ ps) (suc i) h = names-at s ps i (omega arith)
 
 -- The search from the place i on.
 module _ (s ps w : List ℕ) (i : ℕ) where
@@ -186,27 +222,30 @@ module _ (s : List ℕ) (p b : ℕ) (eb : b ≡ peek s p) where
       unfolding nameAt
       name-until d = rw (first-letter, short h, a, d)
 
-      pub name-is : isSpelled s p (bytes "until") ≡ false → Name e ≡ nameAt s p
+      pub name-is : isSpelled s p (bytes "until") ≡ false → pick (wellEnded (spellingAt s p)) (λ _. Name e (endNumber (spellingAt s p))) Other ≡ nameAt s p
       unfolding nameAt
       name-is d = rw (first-letter, short h, a, d, ← ee)
 
--- What a name is.
-pub record Named (s : List ℕ) (p q : ℕ) : Type 0 where
+-- What a name is, and the number at its end.
+pub record Named (s : List ℕ) (p q : ℕ) (n : EndNumber) : Type 0 where
   pub first : letter (peek s p) ≡ true
   pub short : length (spellingAt s p) ≤ mostNameBytes
   pub not-since : isSpelled s p (bytes "since") ≡ false
   pub not-until : isSpelled s p (bytes "until") ≡ false
+  pub ended : wellEnded (spellingAt s p) ≡ true
   pub ends : q ≡ spellingEnd s p
+  pub number : n ≡ endNumber (spellingAt s p)
 
-passed : (b : Bool) (e : ℕ) {q : ℕ} → pick b (λ _. Name e) Other ≡ Name q → (b ≡ true) × (q ≡ e)
-passed true e f = (refl, cc)
-passed false e f = let z : _≡_ {A = ℕ} 0 1 = cc in let w : ⊥ = omega arith in absurd w
+passed : (b : Bool) (e : ℕ) (m : EndNumber) {q : ℕ} {n : EndNumber} → pick b (λ _. Name e m) Other ≡ Name q n → (b ≡ true) × (q ≡ e) × (n ≡ m)
+passed true e m f = (refl, cc, cc)
+passed false e m f = let z : _≡_ {A = ℕ} 0 1 = cc in let w : ⊥ = omega arith in absurd w
 
-pub named : (s : List ℕ) (p : ℕ) {q : ℕ} → nameAt s p ≡ Name q → Named s p q
+pub named : (s : List ℕ) (p : ℕ) {q : ℕ} {n : EndNumber} → nameAt s p ≡ Name q n → Named s p q n
 unfolding nameAt
 named s p h =
-    let t = passed _ (spellingEnd s p) h in
-    let d = and-eq-true-iff _ (not (isSpelled s p (bytes "until"))) .0 (t .0) in
+    let t = passed _ (spellingEnd s p) (endNumber (spellingAt s p)) h in
+    let f = and-eq-true-iff _ (wellEnded (spellingAt s p)) .0 (t .0) in
+    let d = and-eq-true-iff _ (not (isSpelled s p (bytes "until"))) .0 (f .0) in
     let b = and-eq-true-iff _ (not (isSpelled s p (bytes "since"))) .0 (d .0) in
     let a = and-eq-true-iff (letter (peek s p)) (leb (length (spellingAt s p)) mostNameBytes) .0 (b .0) in
     record {
@@ -214,11 +253,13 @@ named s p h =
       short = leb-true (length (spellingAt s p)) mostNameBytes (a .1);
       not-since = not-true (isSpelled s p (bytes "since")) (b .1);
       not-until = not-true (isSpelled s p (bytes "until")) (d .1);
+      ended = f .1;
       ends = t .1;
+      number = t .2;
     }
 
 -- Where a name ends.
-pub name-reach : (s : List ℕ) (p : ℕ) {q : ℕ} → nameAt s p ≡ Name q → Reach s (p + 1) q × (q ≤ p + mostNameBytes)
+pub name-reach : (s : List ℕ) (p : ℕ) {q : ℕ} {n : EndNumber} → nameAt s p ≡ Name q n → Reach s (p + 1) q × (q ≤ p + mostNameBytes)
 unfolding runEnd nameByte
 name-reach s p h =
     let n = named s p h in

@@ -11,12 +11,13 @@ use Rattle.spec_limits.specs.Limits.{mostNameBytes}
 use Rattle.read_names.specs.declared.NameRead.{NameRead}
 use Rattle.read_names.specs.declared.NameRead.the-variants.{Name, Other}
 use Rattle.read_bytes.specs.Bytes.{bytes, peek, letter, nameByte}
+use Rattle.read_names.specs.EndNumbers.{endNumber, wellEnded}
 use Rattle.read_names.specs.Spellings.{spellingAt, spellingEnd, isSpelled, nameAt}
 use Rattle.read_bytes.proofs.Later.{pick-map, peek-later, starts-later, runAt-later, runEnd-later}
 
 -- A spelling that is read, its place d later.
 abbrev pub laterWord : ℕ → NameRead → NameRead
-laterWord d (Name q) = Name (d + q)
+laterWord d (Name q n) = Name (d + q) n
 laterWord d Other = Other
 
 module _ (u t : List ℕ) where
@@ -32,4 +33,4 @@ module _ (u t : List ℕ) where
   unfolding nameAt
   nameAt-later i =
       rw (peek-later u t i, runAt-later u t i nameByte, isWord-later i (bytes "since"), isWord-later i (bytes "until"), runEnd-later u t i nameByte)
-      (pick-map (laterWord (length u)) (letter (peek t i) && leb (length (spellingAt t i)) mostNameBytes && not (isSpelled t i (bytes "since")) && not (isSpelled t i (bytes "until"))) (Name (spellingEnd t i)) Other)
+      (pick-map (laterWord (length u)) (letter (peek t i) && leb (length (spellingAt t i)) mostNameBytes && not (isSpelled t i (bytes "since")) && not (isSpelled t i (bytes "until")) && wellEnded (spellingAt t i)) (Name (spellingEnd t i) (endNumber (spellingAt t i))) Other)

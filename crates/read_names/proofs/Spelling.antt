@@ -9,10 +9,10 @@ use native.Mathlib.Decide.{decLt}
 use borrow.Author.Tests.{eqb-true}
 use lib.Dec.{eqb}
 use lib.ListN.{length, take, drop}
-use Rattle.read_bytes.specs.Bytes.{peek, letter, digit, nameByte, starts, runEnd}
+use Rattle.read_bytes.specs.Bytes.{peek, letter, digit, nameByte, starts, runEnd, every}
 use Rattle.read_names.specs.Spellings.{spellingAt, spellingEnd, sameText, isSpelled}
 use Rattle.read_bytes.proofs.Places.{Reach, peek-in, inside-test}
-use Rattle.read_bytes.proofs.Runs.{every, run-every, run-more, run-none, run-past, end-reach, run-slice}
+use Rattle.read_bytes.proofs.Runs.{run-every, run-more, run-none, run-past, end-reach, run-slice}
 
 -- A byte of a name is a letter or a digit.
 module _ (b : ℕ) where

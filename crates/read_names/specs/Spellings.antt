@@ -1,4 +1,4 @@
--- Spellings, and names among them (01, "The sheet").
+-- Spellings, and names among them (01, "The sheet"; E8).
 -- Assumes nothing.
 use mathlib.Core.Path.{_≡_}
 use Prim.Native.Nat.{ℕ, suc, _+_, _-_, _<_, _≤_}
@@ -9,6 +9,7 @@ use lib.Dec.{leb, eqb}
 use Rattle.spec_limits.specs.Limits.{mostNameBytes}
 use Rattle.read_names.specs.declared.NameRead.{NameRead}
 use Rattle.read_names.specs.declared.NameRead.the-variants.{Name, Other}
+use Rattle.read_names.specs.EndNumbers.{stem, endNumber, wellEnded}
 use Rattle.read_bytes.specs.Bytes.{bytes, peek, pick, letter, nameByte, starts, run, runAt, runEnd}
 
 -- The spelling that a text starts with: its letters and digits up to the first byte that is neither.
@@ -22,6 +23,10 @@ spellingAt = runAt nameByte
 -- The place after the spelling at p.
 abbrev pub spellingEnd : List ℕ → ℕ → ℕ
 spellingEnd = runEnd nameByte
+
+-- The place where the digits at the end of the spelling at p start.
+abbrev pub stemEnd : List ℕ → ℕ → ℕ
+stemEnd s p = p + length (stem (spellingAt s p))
 
 -- The names at these places of a text.
 unfoldable pub namesAt : List ℕ → List ℕ → List (List ℕ)
@@ -44,12 +49,24 @@ findName w (n ∷ ns) = pick (not (sameText n w)) (λ _. suc (findName w ns)) 0
 unfoldable pub isSpelled : List ℕ → ℕ → List ℕ → Bool
 isSpelled s p w = starts s p w && not (nameByte (peek s (p + length w)))
 
--- A name from p on: a letter, then letters or digits, 1 to 16 in all, and neither since nor until. Or no name.
+-- A name from p on: a letter, then letters or digits, 1 to 16 in all, neither since nor until, and digits at its end are an end number. Or no name.
 unfoldable pub nameAt : List ℕ → ℕ → NameRead
 nameAt s p =
     pick
-    (letter (peek s p) && leb (length (spellingAt s p)) mostNameBytes && not (isSpelled s p (bytes "since")) && not (isSpelled s p (bytes "until")))
-    (λ _. Name (spellingEnd s p)) Other
+    (letter (peek s p) && leb (length (spellingAt s p)) mostNameBytes && not (isSpelled s p (bytes "since")) && not (isSpelled s p (bytes "until"))
+    && wellEnded (spellingAt s p))
+    (λ _. Name (spellingEnd s p) (endNumber (spellingAt s p))) Other
+
+-- The spelling at p of s ends at e.
+pub record Spelled (s : List ℕ) (p e : ℕ) : Type 0 where
+  pub from : p ≤ e
+  pub ends : e ≡ spellingEnd s p
+  pub inside : e ≤ length s
+
+-- The digits at the end of the spelling at p of s start at i, and it ends at e.
+pub record DigitsAt (s : List ℕ) (p i e : ℕ) : Type 0 where
+  pub spelled : Spelled s p e
+  pub start : i ≡ stemEnd s p
 
 -- The spelling at p of r ends at e: it is not empty, and the text s has as many bytes.
 pub record Searched (s r : List ℕ) (p e : ℕ) : Type 0 where

@@ -1,20 +1,32 @@
-// Spellings in a text, which are letters and digits up to the first byte that is neither, and names among them. Assumes nothing of the text.
+// Spellings in a text, which are letters and digits up to the first byte that is neither, names among them, and the number at a name's end.
+// Assumes nothing of the text.
 use read_bytes::bytes::byte_at;
 use read_bytes::bytes::name_byte;
 use read_bytes::bytes::stands_at;
 use read_bytes::bytes::starts_at;
+use read_bytes::numbers::Number;
+use read_bytes::numbers::number_at;
+use spec_limits::END_NUMBER;
 use spec_limits::NAME_BYTES;
 ghost use mathlib.Core.Path.{_≡_};
 ghost use mathlib.Core.Bool.{not};
 ghost use Prim.Native.Nat.{_+_, _≤_};
 ghost use lib.ListN.{length};
-ghost use Rattle.read_bytes.specs.Bytes.{bytes, peek, nameByte};
-ghost use Rattle.read_names.specs.Spellings.{spellingAt, spellingEnd, sameText, findName, isSpelled, nameAt, Searched};
+ghost use Rattle.read_bytes.specs.Bytes.{bytes, peek, pick, nameByte};
+ghost use Rattle.read_names.specs.declared.NameRead.the-variants.{Name, Other};
+ghost use Rattle.read_names.specs.EndNumbers.{endNumber, wellEnded};
+ghost use Rattle.read_names.specs.Spellings.{spellingAt, spellingEnd, stemEnd, sameText, findName, isSpelled, nameAt, Spelled, DigitsAt, Searched};
 ghost use Rattle.read_names.specs.Slices.{before, namesOf};
 
-// The place after a name, or no name.
+// The number at the end of a name, or that there is none.
+pub enum EndNumber {
+    Number(usize),
+    Absent,
+}
+
+// The place after a name and the number at its end, or no name.
 pub enum NameRead {
-    Name(usize),
+    Name(usize, EndNumber),
     Other,
 }
 
@@ -160,7 +172,61 @@ pub fn find_name(s: &[u8], names: &[u64], r: &[u8], at: usize) -> usize
     find_whole(s, names, r, at)
 }
 
-// A name at `at`: a letter, then letters or digits, 1 to 16 in all, and no reserved word.
+// Where the digits at the end of the spelling at `at`, which ends at `e`, start: after its last letter.
+pub fn stem_end(s: &[u8], at: usize, e: usize) -> usize
+    requires { ⌜ Spelled (now s) at e ⌝ }
+    ensures { λ r. ⌜ r ≡ stemEnd (now (s .entry)) at ⌝ }
+{
+    let mut i = e;
+    while at < i {
+        let b = s[i - 1];
+        if b'9' < b {
+            return i;
+        }
+        i -= 1;
+    }
+    i
+}
+
+// The number that the digits at a spelling's end say. The spelling ends at `e`, and they start at `i`.
+pub fn end_number(s: &[u8], at: usize, i: usize, e: usize) -> EndNumber
+    requires { ⌜ DigitsAt (now s) at i e ⌝ }
+    ensures { λ r. ⌜ r ≡ endNumber (spellingAt (now (s .entry)) at) ⌝ }
+{
+    let d = number_at(s, i);
+    let Number::Value(x, q) = d else {
+        return EndNumber::Absent;
+    };
+    if q != e {
+        return EndNumber::Absent;
+    }
+    if x <= END_NUMBER {
+        EndNumber::Number(x)
+    } else {
+        EndNumber::Absent
+    }
+}
+
+// A name at `at`, if digits at its end are an end number.
+fn name_to(s: &[u8], at: usize, e: usize) -> NameRead
+    requires { ⌜ Spelled (now s) at e ⌝ }
+    ensures { λ r. ⌜ r ≡ pick (wellEnded (spellingAt (now (s .entry)) at)) (λ _. Name e (endNumber (spellingAt (now (s .entry)) at))) Other ⌝ }
+{
+    let i = stem_end(s, at, e);
+    let n = end_number(s, at, i, e);
+    match n {
+        EndNumber::Number(_) => NameRead::Name(e, n),
+        EndNumber::Absent => {
+            if i == e {
+                NameRead::Name(e, n)
+            } else {
+                NameRead::Other
+            }
+        }
+    }
+}
+
+// A name at `at`: a letter, then letters or digits, 1 to 16 in all, no reserved word, and digits at its end are an end number.
 pub fn name_at(s: &[u8], at: usize) -> NameRead
     requires { ⌜ at ≤ length (now s) ⌝ }
     ensures { λ r. ⌜ r ≡ nameAt (now (s .entry)) at ⌝ }
@@ -176,7 +242,7 @@ pub fn name_at(s: &[u8], at: usize) -> NameRead
                 if is_until(s, at) {
                     return NameRead::Other;
                 }
-                return NameRead::Name(e);
+                return name_to(s, at, e);
             }
             NameRead::Other
         }

@@ -23,7 +23,7 @@ use Rattle.read_reading.specs.OneReading.{knownLine, reading}
 
 -- The place of a name that is read is its value.
 name-value : (v content e : ℕ) (w : NameRead) {x q : ℕ} → wholeName v content e w ≡ got x q → v ≡ x
-name-value v content e (Name z) f = through (eqb z e) v (e + 1) content v f .1
+name-value v content e (Name z n) f = through (eqb z e) v (e + 1) content v f .1
 name-value v content e Other f = absurd (not-both (sym f))
 
 -- A name that is read stands inside the text.

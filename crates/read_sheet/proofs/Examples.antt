@@ -8,9 +8,10 @@ use Prim.Native.String.{String, _++_}
 use lib.Dec.{T, eqb}
 use Rattle.read_bytes.specs.Read.{Read}
 use Rattle.read_bytes.specs.Read.Read.{got, refused}
-use Rattle.read_bytes.specs.Bytes.{bytes, peek, classOf, nameByte, starts, run, runAt, runEnd}
+use Rattle.read_bytes.specs.Bytes.{bytes, peek, classOf, nameByte, starts, run, runAt, runEnd, every}
+use Rattle.read_names.specs.EndNumbers.{endDigits, isEndNumber, numberOf, wellEnded}
 use Rattle.read_names.specs.Spellings.{namesAt, sameText, findName, isSpelled, nameAt}
-use Rattle.read_bytes.specs.Numbers.{digits, number}
+use Rattle.read_bytes.specs.Numbers.{decimal, digits, number}
 use Rattle.read_lines.specs.Lines.{inLine, line, numberLine, rangedLine, nameLine, inTurn}
 use Rattle.spec_tilco.specs.Formula.{Implies, Written, always}
 use Rattle.read_interval.specs.Interval.{signed, endAt, spanOf, endAfter, closeAt, commaAt, interval}
@@ -24,7 +25,7 @@ p1-text = bytes "window=10\nsignals=3\nsignal=clear2\nsignal=go10\nsignal=open10
 
 -- It is read as window 10, the names' places, and the two rules; it ends at its last byte.
 pub p1-says : sheetOf p1-text ≡ got (contents 10 (27 ∷ 41 ∷ 53 ∷ []) (Written.pair Implies (always 61 3 (Written.name 0)) (Written.name 1) ∷ Written.pair Implies (Written.name 1) (always 66 0 (Written.name 2)) ∷ [])) 117
-unfolding peek classOf nameByte starts run runAt runEnd namesAt sameText findName isSpelled nameAt digits number inLine line numberLine rangedLine nameLine inTurn signed endAt spanOf endAfter closeAt commaAt interval declared times timedPart more level second sinceUntil nameOrKeep plainPartIn inside plainPart rule signalLine head ruleTo ruleLine rules sheetOf
+unfolding peek classOf nameByte starts run runAt runEnd namesAt sameText findName isSpelled every endDigits decimal isEndNumber numberOf wellEnded nameAt digits number inLine line numberLine rangedLine nameLine inTurn signed endAt spanOf endAfter closeAt commaAt interval declared times timedPart more level second sinceUntil nameOrKeep plainPartIn inside plainPart rule signalLine head ruleTo ruleLine rules sheetOf
 p1-says = refl
 
 -- A text, and the number and place of its refusal.
@@ -71,5 +72,5 @@ examples =
 
 -- Each of them is.
 pub examples-refused : T (allRefused examples)
-unfolding peek classOf nameByte starts run runAt runEnd namesAt sameText findName isSpelled nameAt digits number inLine line numberLine rangedLine nameLine inTurn signed endAt spanOf endAfter closeAt commaAt interval declared times timedPart more level second sinceUntil nameOrKeep plainPartIn inside plainPart rule signalLine head ruleTo ruleLine rules sheetOf
+unfolding peek classOf nameByte starts run runAt runEnd namesAt sameText findName isSpelled every endDigits decimal isEndNumber numberOf wellEnded nameAt digits number inLine line numberLine rangedLine nameLine inTurn signed endAt spanOf endAfter closeAt commaAt interval declared times timedPart more level second sinceUntil nameOrKeep plainPartIn inside plainPart rule signalLine head ruleTo ruleLine rules sheetOf
 examples-refused = tt

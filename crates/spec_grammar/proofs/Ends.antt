@@ -11,10 +11,10 @@ use lib.ListN.{length}
 use Rattle.read_bytes.specs.declared.numbers.Number.{Number}
 use Rattle.read_bytes.specs.declared.numbers.Number.the-variants.{Value, Missing}
 use Rattle.read_bytes.specs.Bytes.{byte, peek, pick, digit, starts}
-use Rattle.read_bytes.specs.Numbers.{digits}
+use Rattle.read_bytes.specs.Numbers.{decimal, digits}
 use Rattle.read_bytes.proofs.Tests.{between-is}
 use Rattle.read_interval.specs.Interval.{signed, leading, endAt, endZero}
-use Rattle.spec_grammar.specs.Tokens.{Each, decimal, Numeral, End, Token, TokenAt}
+use Rattle.spec_grammar.specs.Tokens.{Each, Numeral, End, Token, TokenAt}
 use Rattle.spec_grammar.proofs.Standing.{starts-head, starts-tail, starts-none, starts-one, starts-cons}
 use Rattle.spec_grammar.proofs.Signs.{leading-digit, numeral-first, end-first, sign-end, word-no-end}
 

@@ -21,4 +21,5 @@ pub mod SheetLines
 pub mod ReadingLines
 pub mod Prefixes
 pub mod Refusals
+pub mod IllEnded
 pub mod BeforeFault

@@ -12,11 +12,14 @@ use borrow.Author.Tests.{eq-eqb, eqb-true, eqb-false, ltb-true, lt-ltb, le-leb, 
 use lib.Dec.{eqb, ltb}
 use lib.ListN.{length, length-append}
 use Rattle.spec_limits.specs.Limits.{mostNameBytes}
+use Rattle.read_names.specs.declared.EndNumber.{EndNumber}
 use Rattle.read_names.specs.declared.NameRead as words
 use Rattle.read_names.specs.declared.NameRead.the-variants.{Name, Other}
 use Rattle.read_bytes.specs.Read.{Read}
 use Rattle.read_bytes.specs.Read.Read.{got, refused}
 use Rattle.read_bytes.specs.Bytes.{byte, bytes, peek, oneOf, digit, nameByte, starts, runAt, runEnd, InLine}
+use Rattle.read_bytes.specs.Numbers.{decimal}
+use Rattle.read_names.specs.EndNumbers.{endNumber}
 use Rattle.read_names.specs.Spellings.{spellingAt, nameAt}
 use Rattle.read_lines.specs.Lines.{inLine, lineEnd, line, whole, wholeNumber, wholeName}
 use Rattle.read_bytes.proofs.Places.{peek-in}
@@ -24,7 +27,7 @@ use Rattle.read_bytes.proofs.Runs.{run-more, run-none, run-past, end-more, end-
 use Rattle.read_lines.proofs.KeyedLines.{lf-ends, lf-not}
 use Rattle.read_names.proofs.Names.{Named, named}
 use Rattle.read_interval.specs.Interval.{leading}
-use Rattle.spec_grammar.specs.Tokens.{Each, Spelling, decimal}
+use Rattle.spec_grammar.specs.Tokens.{Each, Spelling}
 use Rattle.spec_grammar.specs.Lines.{LineAt, Number, SignalName}
 use Rattle.spec_grammar.proofs.Standing.{starts-head, starts-tail, starts-none, starts-cons, starts-one, stand-same, word-stands, word-run, word-longest, word-each, word-first, letter-word}
 use Rattle.spec_grammar.proofs.Signs.{leading-digit}
@@ -265,7 +268,7 @@ pub data NameIs (v : List ℕ) (u e content : ℕ) : Read ℕ → Type 0 where
   name : SignalName v → NameIs v u e content (got u (e + 1))
   none : (SignalName v → ⊥) → NameIs v u e content (refused content u)
 
-name-not : {q : ℕ} → Name q ≡ Other → ⊥
+name-not : {q : ℕ} {n : EndNumber} → Name q n ≡ Other → ⊥
 name-not e = let z : _≡_ {A = ℕ} 0 1 = cc in omega arith
 
 module _ (s : List ℕ) (u content : ℕ) (v : List ℕ) (a : LineAt s u v) where
@@ -277,31 +280,32 @@ module _ (s : List ℕ) (u content : ℕ) (v : List ℕ) (a : LineAt s u v) wher
       let j = stops s u (spellingAt s u) (length v) (word-stands s u) (each-in-line nameByte refl (spellingAt s u) (word-run s u)) (a .ends) in
       stand-same s u (spellingAt s u) v (word-stands s u) (a .stands) (omega arith)
 
-  name-reads : SignalName v → nameAt s u ≡ Name (u + length v)
+  name-reads : SignalName v → nameAt s u ≡ Name (u + length v) (endNumber v)
   unfolding nameAt runEnd
   name-reads n =
       let z = same-word n in
       let since = word-not s u true (λ x. n .name .not-since (sym z ∙ x)) in
       let until = word-not s u false (λ x. n .name .not-until (sym z ∙ x)) in
-      rw (word-first s u (n .name .word) (a .stands), z, le-leb (length v) mostNameBytes (n .short), since, until)
+      rw (word-first s u (n .name .word) (a .stands), z, le-leb (length v) mostNameBytes (n .short), since, until, n .ended)
 
   pub name-is : NameIs v u (u + length v) content (wholeName u content (u + length v) (nameAt s u))
   unfolding runEnd
   name-is = go (nameAt s u) refl
     where
-      is-name : {q : ℕ} → Named s u q → length (spellingAt s u) ≡ length v → SignalName v
+      is-name : {q : ℕ} {n : EndNumber} → Named s u q n → length (spellingAt s u) ≡ length v → SignalName v
       is-name n e =
           let j = stand-same s u (spellingAt s u) v (word-stands s u) (a .stands) e in
           subst SignalName j
           (record {
             name = record { word = letter-word s u (n .first); not-since = other-word s u true (n .not-since); not-until = other-word s u false (n .not-until) };
             short = n .short;
+            ended = n .ended;
           })
 
       go : (w : words.NameRead) → nameAt s u ≡ w → NameIs v u (u + length v) content (wholeName u content (u + length v) w)
-      go (Name q) e = on (named s u e) (eqb q (u + length v)) refl
+      go (Name q x) e = on (named s u e) (eqb q (u + length v)) refl
         where
-          on : Named s u q → (b : Bool) → eqb q (u + length v) ≡ b → NameIs v u (u + length v) content (whole u q (u + length v) content u)
+          on : Named s u q x → (b : Bool) → eqb q (u + length v) ≡ b → NameIs v u (u + length v) content (whole u q (u + length v) content u)
           on n true f =
               let i = eqb-true q (u + length v) f in
               let k = n .ends in

@@ -14,12 +14,11 @@ use Rattle.read_bytes.specs.declared.bytes.Class.{Class}
 use Rattle.read_bytes.specs.declared.bytes.Class.the-variants.{Letter, Digit, Sign, Bracket, Other}
 use Rattle.read_bytes.specs.Read.{Read, andThen}
 use Rattle.read_bytes.specs.Read.Read.{got, refused}
-use Rattle.read_bytes.specs.Bytes.{byte, bytes, peek, pick, oneOf, letter, classOf, nameByte, starts, runEnd}
+use Rattle.read_bytes.specs.Bytes.{byte, bytes, peek, pick, oneOf, letter, classOf, nameByte, starts, runEnd, every}
 use Rattle.read_names.specs.Spellings.{spellingAt, spellingEnd, findName, sameText, isSpelled}
 use Rattle.read_bytes.proofs.Answers.{not-both, same-value, same-place, through, came}
 use Rattle.read_bytes.proofs.Classes.{class-letter}
 use Rattle.read_names.proofs.Names.{same-text}
-use Rattle.read_bytes.proofs.Runs.{every}
 use Rattle.read_names.proofs.Spelling.{is-word}
 use Rattle.spec_tilco.specs.Formula.{Op, And, Or, Implies, Iff, Written}
 use Rattle.read_interval.specs.declared.Span.{Span}

@@ -4,9 +4,10 @@
 use mathlib.Core.Path.{_≡_}
 use mathlib.Core.Bool.{Bool, true}
 use mathlib.Core.List.{List, [], _∷_, List·Memᴰ}
-use Prim.Native.Nat.{ℕ, _+_, _-_, _*_, _≤_}
+use Prim.Native.Nat.{ℕ, _+_, _-_, _≤_}
 use lib.ListN.{length}
 use Rattle.read_bytes.specs.Bytes.{byte, bytes, letter, digit, nameByte, starts}
+use Rattle.read_bytes.specs.Numbers.{decimal}
 use Rattle.spec_tilco.specs.Lists.{All}
 use Rattle.read_interval.specs.Interval.{leading, endZero}
 
@@ -17,11 +18,6 @@ Each P = All (λ b. P b ≡ true)
 -- A letter, then letters or digits: a name of any length, since or until.
 pub data Spelling : List ℕ → Type 0 where
   word : {b : ℕ} {w : List ℕ} → letter b ≡ true → Each nameByte w → Spelling (b ∷ w)
-
--- The number that digits write after digits of the value v.
-unfoldable pub decimal : ℕ → List ℕ → ℕ
-decimal v [] = v
-decimal v (b ∷ w) = decimal (10 * v + (b - byte "0")) w
 
 -- "One to four digits, the first not 0", and their number.
 pub data Numeral : List ℕ → ℕ → Type 0 where

@@ -24,6 +24,10 @@ mostRules = 64
 abbrev pub mostNameBytes : ℕ
 mostNameBytes = 16
 
+-- "An end number .. is at most 9,999" (E8).
+abbrev pub mostEndNumber : ℕ
+mostEndNumber = 9999
+
 -- "A rule has 1 to 256 bytes."
 abbrev pub mostRuleBytes : ℕ
 mostRuleBytes = 256

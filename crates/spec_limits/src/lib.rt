@@ -15,6 +15,9 @@ pub const RULES: usize = 64;
 // mostNameBytes
 pub const NAME_BYTES: usize = 16;
 
+// mostEndNumber: at the end of a name.
+pub const END_NUMBER: usize = 9999;
+
 // mostRuleBytes
 pub const RULE_BYTES: usize = 256;
 

@@ -3,9 +3,9 @@
 use mathlib.Core.Path.{_≡_, refl, sym, _∙_, ap, ap₂, subst}
 use mathlib.Core.List.{List, [], _∷_, _++_, append-assoc, List·Memᴰ, List·Memᴰ·head, List·Memᴰ·tail, List·Memᴰ·cases-cons, List·Memᴰ·not-nil, List·Permᴰ, List·Permᴰ·nil, List·Permᴰ·cons, List·Permᴰ·swap, List·Permᴰ·trans}
 use mathlib.Core.Logic.{_⊎_, inl, inr}
-use Prim.Native.Nat.{ℕ, zero, suc, _+_}
+use Prim.Native.Nat.{ℕ, zero, suc, _+_, _<_}
 use native.Mathlib.Omega.{arith}
-use lib.ListN.{length, length-append}
+use lib.ListN.{length, getD, length-append}
 use Rattle.spec_tilco.specs.Lists.{All, total, tab, laid}
 
 module _ {A : Type 0} (P : A → Type 0) where
@@ -32,6 +32,12 @@ module _ {A : Type 0} (P : A → Type 0) where
       go : (x ≡ y) ⊎ List·Memᴰ x ys → (List·Memᴰ x ys → P x) → P x
       go (inl e) f = subst P (sym e) (p .0)
       go (inr j) f = f j
+
+  -- the i-th entry
+  pub all-nth : (d : A) (xs : List A) (i : ℕ) → All P xs → i < length xs → P (getD xs i d)
+  all-nth d [] i p h = absurd (omega arith)
+  all-nth d (x ∷ xs) zero p h = p .0
+  all-nth d (x ∷ xs) (suc i) p h = all-nth d xs i (p .1) (omega arith)
 
 pub all-weaker : {A : Type 0} (P Q : A → Type 0) → ((x : A) → P x → Q x) → (xs : List A) → All P xs → All Q xs
 all-weaker P Q g [] p = tt

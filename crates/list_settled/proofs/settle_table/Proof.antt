@@ -1,5 +1,5 @@
 -- `settle_table` meets its contract. Assumes nothing.
-use Rattle.list_settled.proofs.Printing.{as-added, as-refused, window-most, countable, prints-refusal, listable, listing-counted, prints-listing}
+use Rattle.list_settled.proofs.Printing.{as-added, as-refused, window-most, countable, prints-refusal, listable, named, few, listing-counted, prints-listing}
 use borrow.Author.Needs.{needs}
 use Rattle.list_settled.proofs.settle_table.Statement.{statement}
 use Rattle.list_settled.proofs.settle_table.Tie as tie
@@ -17,7 +17,7 @@ count-facts-requires : tie.Need-count-facts-requires
 count-facts-requires c κs = countable (c .before .before .before .before .before .before .before .before .before .before .before .before .before .before .pre) (as-added (c .before .before .before .before .before .before .before .add .ensures) (c .before .before .before .a .given .1)) _ (c .before .words-of .ensures)
 
 write-listing-requires : tie.Need-write-listing-requires
-write-listing-requires c κs = (listable (c .before .before .before .before .before .before .before .before .before .before .before .before .before .before .before .before .before .pre) (as-added (c .before .before .before .before .before .before .before .before .before .before .add .ensures) (c .before .before .before .before .before .before .a .given .1)) _ (c .before .before .before .before .words-of .ensures), λ f. listing-counted (c .before .before .before .before .before .before .before .before .before .before .before .before .before .before .before .before .before .pre) _ _ _ f)
+write-listing-requires c κs = (listable (c .before .before .before .before .before .before .before .before .before .before .before .before .before .before .before .before .before .pre) (as-added (c .before .before .before .before .before .before .before .before .before .before .add .ensures) (c .before .before .before .before .before .before .a .given .1)) _ (c .before .before .before .before .words-of .ensures), named (c .before .before .before .before .before .before .before .before .before .before .before .before .before .before .before .before .before .pre), few (c .before .before .before .before .before .before .before .before .before .before .before .before .before .before .before .before .before .pre), λ f. listing-counted (c .before .before .before .before .before .before .before .before .before .before .before .before .before .before .before .before .before .pre) _ _ _ f)
 
 enum-known-a-2 : tie.Need-enum-known-a-2
 enum-known-a-2 c = search needs

@@ -6,6 +6,7 @@ use denote.Ref.{now}
 use Rattle.read_bytes.specs.Bytes.{byte, nameByte}
 use Rattle.read_bytes.proofs.Runs.{end-reach}
 use Rattle.read_bytes.proofs.Tests.{between-low, between-high}
+use Rattle.read_names.proofs.EndPlaces.{spelled}
 use Rattle.read_names.proofs.Names.{name-not, name-long, name-since, name-until, name-is}
 use Rattle.read_names.proofs.name_at.Statement.{statement}
 use Rattle.read_names.proofs.name_at.Tie as tie
@@ -41,12 +42,17 @@ returns-2 c =
     let at-byte-at = at-spelling-end .before .before .before in
     name-until _ _ _ (at-byte-at .byte-at .ensures) _ (at-spelling-end .spelling-end .ensures) (omega arith) (omega arith) (at-if3 .if3 .taken) (sym (c .before .before .before .is-since .ensures) ∙ c .before .before .if4 .left) (sym (c .before .is-until .ensures) ∙ c .if5 .taken)
 
+name-to-requires : tie.Need-name-to-requires
+name-to-requires c κs = spelled _ _ (omega arith) (c .before .before .before .before .before .spelling-end .ensures)
+
 returns-3 : tie.Need-returns-3
 returns-3 c =
-    let at-if3 = c .before .before .before .before in
+    let at-is-since = c .before .before .before .before in
+    let at-if3 = at-is-since .before in
     let at-spelling-end = at-if3 .before in
     let at-byte-at = at-spelling-end .before .before .before in
-    name-is _ _ _ (at-byte-at .byte-at .ensures) _ (at-spelling-end .spelling-end .ensures) (omega arith) (omega arith) (at-if3 .if3 .taken) (sym (c .before .before .before .is-since .ensures) ∙ c .before .before .if4 .left) (sym (c .before .is-until .ensures) ∙ c .if5 .left)
+    c .name-to .ensures
+    ∙ name-is _ _ _ (at-byte-at .byte-at .ensures) _ (at-spelling-end .spelling-end .ensures) (omega arith) (omega arith) (at-if3 .if3 .taken) (sym (at-is-since .is-since .ensures) ∙ c .before .before .before .if4 .left) (sym (c .before .before .is-until .ensures) ∙ c .before .if5 .left)
 
 returns-4 : tie.Need-returns-4
 returns-4 c =
@@ -72,6 +78,7 @@ name-at-spec =
     returns
     is-until-requires
     returns-2
+    name-to-requires
     returns-3
     returns-4
     returns-5
