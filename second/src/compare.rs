@@ -3,65 +3,15 @@
 use crate::generate::{case, Call, Case};
 use crate::library::{self, Outcome, UNWRITTEN};
 use crate::operations::{self, Added};
-use crate::table::block_words;
-use crate::tally::{ended, Tally};
-use crate::text::{sheet, Refusal};
-use std::ops::RangeInclusive;
+use crate::seen::{Met, Seen};
+use crate::tally::ended;
+use crate::text::Refusal;
 use std::process::ExitCode;
 
 /// Words before and after the lent table that no call may change.
 const GUARD: [u64; 2] = [0xA5A5_5A5A_A5A5_5A5A, 0x0123_4567_89AB_CDEF];
 /// How many differing cases are printed in full.
 const MOST_PRINTED: u64 = 5;
-/// From so many cases on, every number and every kind of window must have been seen in so many of them.
-const ENOUGH_CASES: u64 = 20_000;
-const ENOUGH_SEEN: u64 = 50;
-
-/// The numbers that a call may answer: 0 and the refusals.
-const NUMBERS: usize = 18;
-/// Kinds of windows, by the words that cover them.
-const WINDOWS: [(&str, RangeInclusive<usize>); 4] = [
-    ("1", 1..=1),
-    ("2", 2..=2),
-    ("3 to 63", 3..=63),
-    ("64", 64..=64),
-];
-
-/// In how many cases each number was answered, and an add with each kind of window was accepted.
-struct Seen {
-    numbers: Tally,
-    windows: Tally,
-}
-
-impl Seen {
-    /// None yet, of so many cases.
-    fn none(cases: u64) -> Self {
-        let least = if cases < ENOUGH_CASES { 0 } else { ENOUGH_SEEN };
-        let numbers = (0..NUMBERS).map(|number| (number.to_string(), least));
-        let windows = WINDOWS.iter().map(|(words, _)| (words.to_string(), least));
-        Seen {
-            numbers: Tally::new(
-                "cases in which each number was answered (0 is acceptance)",
-                numbers,
-            ),
-            windows: Tally::new(
-                "cases in which an add was accepted, by the words that cover the window",
-                windows,
-            ),
-        }
-    }
-
-    /// Counts a case by its answers, and by the window if an add was accepted.
-    fn count(&mut self, answered: [bool; NUMBERS], window: Option<usize>) {
-        for number in (0..NUMBERS).filter(|&number| answered[number]) {
-            self.numbers.met(number);
-        }
-        let words = window.map_or(0, block_words);
-        for kind in (0..WINDOWS.len()).filter(|&kind| WINDOWS[kind].1.contains(&words)) {
-            self.windows.met(kind);
-        }
-    }
-}
 
 pub fn run(count: u64, seed: u64) -> ExitCode {
     if !library::LINKED {
@@ -79,16 +29,14 @@ pub fn run(count: u64, seed: u64) -> ExitCode {
             }
         }
     }
-    let rare = seen.numbers.print() + seen.windows.print();
-    ended(count, failed, rare)
+    ended(count, failed, seen.print())
 }
 
 /// Makes the calls of one case on both sides; a difference is answered as a text that can be pasted.
 fn compare(case: &Case, seen: &mut Seen) -> Result<(), String> {
     let mut ours = case.table.clone();
     let mut theirs = [&GUARD[..], &case.table, &GUARD].concat();
-    let mut answered = [false; NUMBERS];
-    let mut window = None;
+    let mut met = Met::default();
     for call in &case.calls {
         let before = ours.clone();
         let expected = our_outcome(&case.sheet, call, &mut ours);
@@ -99,12 +47,9 @@ fn compare(case: &Case, seen: &mut Seen) -> Result<(), String> {
             let sides = [(&expected, &tables), (&got, &theirs)];
             return Err(pasteable(&case.sheet, call, &before, sides));
         }
-        answered[expected.answer as usize] = true;
-        if expected.answer == 0 && matches!(call, Call::Add { .. }) {
-            window = sheet::read(&case.sheet).ok().map(|sheet| sheet.window);
-        }
+        met.call(&case.sheet, call, &expected);
     }
-    seen.count(answered, window);
+    seen.count(met);
     Ok(())
 }
 

@@ -1,4 +1,4 @@
-//! The listing of a sheet and its readings after one add to an empty table.
+//! The listing of a sheet and its readings after one add to an empty table. Signals come in the order of their names.
 
 use crate::operations::{add, read, Added};
 use crate::table;
@@ -25,12 +25,14 @@ fn accepted(text: &[u8], readings: &[u8]) -> Result<String, Refusal> {
     let Added { new_facts, clash } = add(text, readings, &mut table)?;
     let marks = table::marks_of(&table, rows, sheet.window)?;
     let mut lines = format!("answer=0\nrows={rows}\nfacts={new_facts}\nclash={clash}\n");
-    for (signal, name) in sheet.names.iter().enumerate() {
+    let mut signals: Vec<_> = sheet.names.iter().zip(0..).collect();
+    signals.sort();
+    for (name, signal) in signals {
         let values = marks.values(signal);
         let signs = values
             .iter()
             .map(|&value| ['?', '1', '0', 'x'][value as usize]);
-        let (name, signs) = (String::from_utf8_lossy(name), signs.collect::<String>());
+        let signs = signs.collect::<String>();
         lines += &format!("signal={name}\nmarks={signs}\n");
     }
     Ok(lines)

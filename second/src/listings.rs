@@ -13,7 +13,7 @@ use std::process::{Command, ExitCode};
 /// How many differing cases are printed, and how many bytes of their listings from the first difference on.
 const MOST_PRINTED: u64 = 5;
 const MOST_SHOWN: usize = 60;
-/// From so many cases on, what stands at the limit of the table must have been met.
+/// From so many cases on, what stands at the limit of the table must have been met, and other orders than the sheet's.
 const ENOUGH_CASES: u64 = 300;
 /// The answers of the listing program: 0 and its refusals.
 const NUMBERS: [u64; 16] = [0, 1, 2, 3, 4, 5, 6, 7, 8, 9, 10, 11, 12, 13, 14, 29];
@@ -47,8 +47,7 @@ pub fn run(count: u64, seed: u64, command: &[&str]) -> ExitCode {
             }
         }
     }
-    let rare = met.numbers.print() + met.limits.print();
-    ended(count, failed, rare)
+    ended(count, failed, met.print())
 }
 
 /// A new folder of the system's room for files, removed with all its files in the end.
@@ -99,10 +98,11 @@ fn printed(
     }
 }
 
-/// In how many cases each number was answered, and what was met of the table's limit.
+/// In how many cases each number was answered, and what was met of the table's limit and of the signals' order.
 struct Met {
     numbers: Tally,
     limits: Tally,
+    orders: Tally,
 }
 
 impl Met {
@@ -112,17 +112,20 @@ impl Met {
         let numbers = NUMBERS
             .iter()
             .map(|&number| (number.to_string(), of_number(number)));
+        let thing = |&(name, least): &(&str, u64)| (name.to_string(), enough(least));
         let limits = [
             ("tables of 8,192 words that are listed", 25),
             ("tables of 8,193 to 8,320 words", 25),
             ("listings of over 200,000 bytes", 5),
         ];
-        let limits = limits
-            .iter()
-            .map(|&(name, least)| (name.to_string(), enough(least)));
+        let orders = [("the sheet's", 60), ("that of their bytes", 25)];
         Met {
             numbers: Tally::new("listings in which each number was answered", numbers),
-            limits: Tally::new("listings at the limit", limits),
+            limits: Tally::new("listings at the limit", limits.iter().map(thing)),
+            orders: Tally::new(
+                "listings in which the names have another order than",
+                orders.iter().map(thing),
+            ),
         }
     }
 
@@ -137,15 +140,36 @@ impl Met {
         self.numbers
             .met(number.expect("an answer of the listing program"));
         let words = read(sheet).map_or(0, |(sheet, rows)| length(rows.nodes.len(), sheet.window));
-        let met = [
+        self.limits.met_if(&[
             words == MOST_WORDS && answer == Some("0"),
             words > MOST_WORDS && words <= MOST_WORDS + LARGEST_ROW,
             listing.len() > LONG,
-        ];
-        for place in (0..met.len()).filter(|&place| met[place]) {
-            self.limits.met(place);
+        ]);
+        if answer == Some("0") {
+            self.count_orders(&String::from_utf8_lossy(sheet), listing);
         }
     }
+
+    fn count_orders(&mut self, sheet: &str, listing: &str) {
+        let listed = names(listing);
+        let mut by_bytes = listed.clone();
+        by_bytes.sort();
+        self.orders
+            .met_if(&[listed != names(sheet), listed != by_bytes]);
+    }
+
+    /// Prints the counts; answers how many things were met too seldom.
+    fn print(&self) -> u64 {
+        self.numbers.print() + self.limits.print() + self.orders.print()
+    }
+}
+
+/// The names in the lines `signal=` of an accepted sheet or of a listing.
+fn names(text: &str) -> Vec<&str> {
+    let lines = text.lines();
+    lines
+        .filter_map(|line| line.strip_prefix("signal="))
+        .collect()
 }
 
 /// The texts as Rust source, then where the listings differ, or why there is none.

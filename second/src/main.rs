@@ -10,6 +10,7 @@ mod listing;
 mod listings;
 mod lower;
 mod operations;
+mod seen;
 mod table;
 mod tally;
 #[cfg(test)]

@@ -31,6 +31,13 @@ impl Tally {
         self.things[place].met += 1;
     }
 
+    /// Counts the things for which this holds, in the list's order.
+    pub fn met_if(&mut self, holds: &[bool]) {
+        for place in (0..holds.len()).filter(|&place| holds[place]) {
+            self.met(place);
+        }
+    }
+
     /// Prints the counts; answers how many things were met too seldom.
     pub fn print(&self) -> u64 {
         println!("{}:", self.title);

@@ -242,6 +242,28 @@ static void read_numbers(void)
     MUST(mikhakun_window(lent_sheet) == window);
 }
 
+/* Whether the digits at the end of a name are none, 0 alone, or a number up to 9,999 without a leading zero. */
+static int end_number_allowed(const uint8_t *name, const uint8_t *end)
+{
+    const uint8_t *first = end;
+    while (first > name && first[-1] >= '0' && first[-1] <= '9') first--;
+    return end - first <= 1 || (end - first <= 4 && *first != '0');
+}
+
+/* The lines of an accepted sheet end in LF, and the names that it declares in such digits. */
+static void must_have_end_numbers(void)
+{
+    static const char key[] = "signal=";
+    const uint8_t *line = sheet.start, *end = line + sheet.len;
+    while (line < end) {
+        const uint8_t *lf = memchr(line, '\n', (size_t)(end - line));
+        MUST(lf != NULL);
+        int is_signal = (size_t)(lf - line) >= strlen(key) && memcmp(line, key, strlen(key)) == 0;
+        MUST(!is_signal || end_number_allowed(line + strlen(key), lf));
+        line = lf + 1;
+    }
+}
+
 /* A table of another length than the sheet's is refused. */
 static void must_have_length(size_t lent, size_t length)
 {
@@ -256,6 +278,7 @@ static void accepted_sheet(uint64_t rows)
     MUST(rows >= 1 && rows <= 1024);
     told[ROWS + bits(rows)] = 1;
     read_numbers();
+    must_have_end_numbers();
     size_t length = mikhakun_words(rows, window), too_long = rest.len > 3 ? rest.start[3] : 0;
     MUST(length == 2 * rows * row_words);
     if (length > OFTEN_LENT && !any_length) return;

@@ -57,7 +57,7 @@ static size_t next_below(size_t bound)
 size_t LLVMFuzzerMutate(uint8_t *data, size_t size, size_t most)
 {
     static const char *words[] = { "since(", "until(", "=>", "<=>", "|", "&", "!", "(", ")", "@[", "?(", "[-1,1]", "[-63,63]", "a", "0", "1", "64", "\n",
-                                   "rule=a\n", "signal=z\n", "at=0\nsignal=a\nvalue=1\n" };
+                                   "rule=a\n", "signal=z\n", "at=0\nsignal=a\nvalue=1\n", "02", "9999", "10000", "signal=z9\n", "signal=z10\n" };
     char copy[64];
     size_t from = next_below(size + 1), some = next_below(sizeof copy), at = next_below(size + 1);
     if (some > size - from) some = size - from;

@@ -1,16 +1,16 @@
 -- Digits of a text: the number that they write, and what the reader of numbers makes of them.
 -- Assumes nothing. d are digits, and t is what follows them.
-use mathlib.Core.Path.{_≡_, refl, sym, ap, _∙_}
-use mathlib.Core.Bool.{Bool, true, false, true≢false, false≢true, and-eq-true-iff}
+use mathlib.Core.Path.{_≡_, refl, ap}
+use mathlib.Core.Bool.{true, false, and-eq-true-iff}
 use mathlib.Core.List.{List, [], _∷_, _++_}
 use Prim.Native.Nat.{ℕ, zero, suc, _+_, _-_, _*_, _<_, _≤_}
 use native.Mathlib.Omega.{arith}
 use native.Mathlib.Decide.{decLt}
 use lib.ListN.{length}
-use Rattle.read_bytes.specs.declared.numbers.Number.the-variants.{Value, Missing}
+use Rattle.read_bytes.specs.declared.numbers.Number.the-variants.{Value}
 use Rattle.read_bytes.specs.Bytes.{byte, peek, digit, every}
-use Rattle.read_bytes.specs.Numbers.{decimal, digits, number}
-use Rattle.read_bytes.proofs.Tests.{between-is, between-in}
+use Rattle.read_bytes.specs.Numbers.{decimal, digits}
+use Rattle.read_bytes.proofs.Tests.{between-is}
 use Rattle.read_bytes.proofs.Later.{digits-later}
 
 -- The first of digits, and the others.

@@ -1,7 +1,7 @@
 -- The number at a name's end: the digits there and what stands before them, how they are read, and that a name is what stands before them and their number.
 -- Assumes nothing. w is a name's text, d the digits at its end, t what follows it.
 use mathlib.Core.Path.{_≡_, refl, sym, ap, ap₂, _∙_}
-use mathlib.Core.Bool.{Bool, true, false, true≢false, false≢true, not, _&&_, _||_, and-eq-true-iff, and-false, or-true}
+use mathlib.Core.Bool.{Bool, true, false, true≢false, false≢true, not, _||_, and-eq-true-iff, and-false, or-true}
 use mathlib.Core.List.{List, [], _∷_, _++_}
 use Prim.Native.Nat.{ℕ, zero, suc, _+_, _-_, _*_, _<_, _≤_}
 use native.Mathlib.Omega.{arith}
@@ -11,7 +11,6 @@ use lib.Dec.{leb, eqb}
 use lib.ListN.{length, getD, take, drop, length-append, take-append-drop}
 use lib.Seq.{length-take-le}
 use Rattle.spec_limits.specs.Limits.{mostEndNumber}
-use Rattle.read_names.specs.declared.EndNumber.{EndNumber}
 use Rattle.read_names.specs.declared.EndNumber.the-variants.{Number, Absent}
 use Rattle.read_bytes.specs.declared.numbers.Number as read
 use Rattle.read_bytes.specs.declared.numbers.Number.the-variants.{Value, Missing}

@@ -2,23 +2,22 @@
 -- Assumes that the spelling starts in the text.
 use mathlib.Core.Path.{_≡_, refl, sym, ap, ap₂, subst, _∙_}
 use mathlib.Core.Bool.{Bool, true, false, true≢false, _||_, or-true}
-use mathlib.Core.List.{List, [], _∷_, _++_, append-assoc}
+use mathlib.Core.List.{List, _++_, append-assoc}
 use Prim.Native.Nat.{ℕ, suc, _+_, _-_, _<_, _≤_}
 use native.Mathlib.Omega.{arith}
 use native.Mathlib.Decide.{decLt}
-use lib.ListN.{length, getD, take, drop, drop-of-length-le, length-append, take-append-drop}
-use lib.Seq.{take-append-seam, drop-append-seam, drop-drop, getD-drop}
+use lib.ListN.{length, getD, take, drop, drop-of-length-le, length-append, length-drop, take-append-drop}
+use lib.Seq.{length-take-le, take-append-seam, drop-append-seam, drop-drop, getD-drop}
 use Rattle.spec_limits.specs.Limits.{mostEndNumber}
 use Rattle.read_names.specs.declared.EndNumber.{EndNumber}
 use Rattle.read_names.specs.declared.EndNumber.the-variants.{Number, Absent}
 use Rattle.read_names.specs.declared.NameRead.{NameRead}
 use Rattle.read_names.specs.declared.NameRead.the-variants.{Name, Other}
-use Rattle.read_bytes.specs.declared.numbers.Number as read
 use Rattle.read_bytes.specs.declared.numbers.Number.the-variants.{Value, Missing}
 use Rattle.read_bytes.specs.Bytes.{byte, peek, pick, digit, nameByte, every, runEnd}
 use Rattle.read_bytes.specs.Numbers.{number}
 use Rattle.read_names.specs.EndNumbers.{endDigits, stem, none, numberOf, endNumber, wellEnded}
-use Rattle.read_names.specs.Spellings.{spellingAt, spellingEnd, stemEnd, Spelled, DigitsAt}
+use Rattle.read_names.specs.Spellings.{spellingAt, spellingEnd, stemEnd, Spelled, DigitsTo}
 use Rattle.read_bytes.proofs.Places.{peek-out}
 use Rattle.read_bytes.proofs.Tests.{between-low, between-high}
 use Rattle.read_bytes.proofs.Runs.{run-every, every-at, run-slice, end-stops, end-reach, run-byte}
@@ -34,7 +33,7 @@ after-spelling s p = go (decLt (spellingEnd s p) (length s)) (digit (peek s (spe
     go (yes l) true e = absurd (true≢false (sym (name-digit (peek s (spellingEnd s p)) e) ∙ end-stops nameByte s p l))
     go (no l) true e = absurd (true≢false (sym e ∙ ap digit (peek-out s (spellingEnd s p) (omega arith))))
 
--- A byte of a spelling that is no larger than `9` is a digit, and a larger one is none.
+-- A byte of a spelling that is no larger than `9` is a digit.
 digit-by : (b : ℕ) → nameByte b ≡ true → b ≤ byte "9" → digit b ≡ true
 unfolding nameByte
 digit-by b e l = rw (between-low (byte "a") (byte "z") b (omega arith)) at e
@@ -44,6 +43,12 @@ pub spelled : (s : List ℕ) (p : ℕ) {e : ℕ} → p ≤ length s → e ≡ sp
 spelled s p l h =
     let w = end-reach nameByte s p l in
     record { from = omega (arith, w .ahead); ends = h; inside = omega (arith, w .inside) }
+
+-- The spelling at p ends at e, and the digits at its end start at i.
+pub record StemInside (s : List ℕ) (p i e : ℕ) : Type 0 where
+  pub from : p ≤ i
+  pub to : i ≤ e
+  pub inside : e ≤ length s
 
 -- From i up to the end e of the spelling at p there are digits alone.
 pub record Back (s : List ℕ) (p e i : ℕ) : Type 0 where
@@ -116,67 +121,83 @@ module _ {s : List ℕ} {p e : ℕ} (h : Spelled s p e) where
       let n : i - p ≡ length (stem w) = omega (arith, z) in
       ap₂ (λ (k : ℕ) (l : List ℕ). take k l) n from-spelling ∙ take-append-seam (stem w) (endDigits w ++ drop e s)
 
-  pub stem-inside : {i : ℕ} → i ≡ stemEnd s p → (p ≤ i) × (i ≤ length s)
-  stem-inside z = (omega (arith, z), omega (arith, z, long, two-parts, h .inside))
+  pub stem-inside : {i : ℕ} → i ≡ stemEnd s p → StemInside s p i e
+  stem-inside z = record { from = omega (arith, z); to = omega (arith, z, long, two-parts); inside = h .inside }
 
-  -- The text from the digits on.
-  from-digits : drop (stemEnd s p) s ≡ endDigits (spellingAt s p) ++ drop e s
-  from-digits =
+  -- The text from the digits on, and these cut out of it.
+  from-digits : {i : ℕ} → i ≡ stemEnd s p → drop i s ≡ endDigits (spellingAt s p) ++ drop e s
+  from-digits z =
       let w = spellingAt s p in
-      sym (drop-drop (length (stem w)) p s) ∙ ap (drop (length (stem w))) from-spelling ∙ drop-append-seam (stem w) (endDigits w ++ drop e s)
+      ap (λ (k : ℕ). drop k s) z ∙ sym (drop-drop (length (stem w)) p s) ∙ ap (drop (length (stem w))) from-spelling ∙ drop-append-seam (stem w) (endDigits w ++ drop e s)
 
-  pub digits-read : EndRead (stemEnd s p) (endDigits (spellingAt s p)) (number s (stemEnd s p))
-  unfolding peek
-  digits-read =
-      let n : e + 0 ≡ e = omega arith in
-      let l : stemEnd s p ≤ length s = omega (arith, long, two-parts, h .inside) in
-      end-read s (stemEnd s p) (endDigits (spellingAt s p)) (drop e s) l from-digits (end-every (spellingAt s p))
-      (rw (getD-drop e s 0 (byte "\n"), n) (ap (λ x. digit (peek s x)) (h .ends) ∙ after-spelling s p))
+  pub digits-slice : {i : ℕ} → i ≡ stemEnd s p → take (e - i) (drop i s) ≡ endDigits (spellingAt s p)
+  digits-slice {i} z =
+      let n : e - i ≡ length (endDigits (spellingAt s p)) = omega (arith, z, long, two-parts) in
+      ap₂ (λ (k : ℕ) (l : List ℕ). take k l) n (from-digits z) ∙ take-append-seam (endDigits (spellingAt s p)) (drop e s)
 
-  pub digits-end : stemEnd s p + length (endDigits (spellingAt s p)) ≡ e
-  digits-end = omega (arith, long, two-parts)
-
--- ---- what is answered
-
-module _ {s : List ℕ} {p i e : ℕ} (h : DigitsAt s p i e) where
-  pub digits-inside : i ≤ length s
-  digits-inside = omega (arith, h .start, digits-end (h .spelled), h .spelled .inside)
-
-  read-here : {n : read.Number} → number s i ≡ n → EndRead (stemEnd s p) (endDigits (spellingAt s p)) n
-  read-here e = subst (EndRead (stemEnd s p) (endDigits (spellingAt s p))) (ap (number s) (sym (h .start)) ∙ e) (digits-read (h .spelled))
-
-  pub end-missing : number s i ≡ Missing → Absent ≡ endNumber (spellingAt s p)
-  end-missing a = read-missing (read-here a)
-
-  module _ {x q : ℕ} (a : number s i ≡ Value x q) where
-    pub end-part : (q ≡ e → ⊥) → Absent ≡ endNumber (spellingAt s p)
-    end-part n = read-part (read-here a) (λ z. n (z ∙ digits-end (h .spelled)))
-
-    pub end-is : q ≡ e → x ≤ mostEndNumber → Number x ≡ endNumber (spellingAt s p)
-    end-is z = read-number (read-here a) (z ∙ sym (digits-end (h .spelled)))
-
-    pub end-large : q ≡ e → mostEndNumber < x → Absent ≡ endNumber (spellingAt s p)
-    end-large z = read-large (read-here a) (z ∙ sym (digits-end (h .spelled)))
+  pub digits-to : {i : ℕ} → i ≡ stemEnd s p → DigitsTo s i e
+  digits-to z = record {
+    from = stem-inside z .to;
+    inside = h .inside;
+    digits = rw (digits-slice z) (end-every (spellingAt s p));
+    stops = ap (λ (q : ℕ). digit (peek s q)) (h .ends) ∙ after-spelling s p;
+  }
 
   -- A name up to e, if it ends well.
   abbrev Ended : NameRead → Type 0
   Ended r = r ≡ pick (wellEnded (spellingAt s p)) (λ _. Name e (endNumber (spellingAt s p))) Other
 
-  module _ {n : EndNumber} (is : n ≡ endNumber (spellingAt s p)) where
+  module _ {i : ℕ} (z : i ≡ stemEnd s p) {n : EndNumber} (read-is : n ≡ numberOf (take (e - i) (drop i s))) where
+    is : n ≡ endNumber (spellingAt s p)
+    is = read-is ∙ ap numberOf (digits-slice z)
+
     pub name-numbered : {x : ℕ} → n ≡ Number x → Ended (Name e n)
     unfolding wellEnded
     name-numbered a = rw (number-is (endDigits (spellingAt s p)) (sym is ∙ a), or-true (none (endDigits (spellingAt s p)))) (ap (Name e) is)
 
     pub name-plain : i ≡ e → Ended (Name e n)
     unfolding wellEnded
-    name-plain z =
-        let d = ends-none (spellingAt s p) (omega (arith, h .start, long (h .spelled))) in
+    name-plain l =
+        let d = ends-none (spellingAt s p) (omega (arith, z, long)) in
         rw d (ap (Name e) (is ∙ ap numberOf d))
 
     pub name-wrong : n ≡ Absent → (i ≡ e → ⊥) → Ended Other
     unfolding wellEnded
-    name-wrong a z = rw (number-not (endDigits (spellingAt s p)) (sym is ∙ a)) (go (none (endDigits (spellingAt s p))) refl)
+    name-wrong a l = rw (number-not (endDigits (spellingAt s p)) (sym is ∙ a)) (go (none (endDigits (spellingAt s p))) refl)
       where
         go : (b : Bool) → none (endDigits (spellingAt s p)) ≡ b → Other ≡ pick (b || false) (λ _. Name e (endNumber (spellingAt s p))) Other
         go false f = refl
-        go true f = absurd (z (omega (arith, h .start, long (h .spelled), none-ends (spellingAt s p) f)))
+        go true f = absurd (l (omega (arith, z, long, none-ends (spellingAt s p) f)))
+
+-- ---- what they say
+
+module _ {s : List ℕ} {i e : ℕ} (h : DigitsTo s i e) where
+  pub digits-inside : i ≤ length s
+  digits-inside = omega (arith, h .from, h .inside)
+
+  many : i + length (take (e - i) (drop i s)) ≡ e
+  many = omega (arith, length-take-le (e - i) (drop i s) (omega (arith, length-drop i s, h .inside)), h .from)
+
+  read-here : EndRead i (take (e - i) (drop i s)) (number s i)
+  unfolding peek
+  read-here =
+      let n : i + (e - i) ≡ e = omega (arith, h .from) in
+      let o : e + 0 ≡ e = omega arith in
+      let parts-are : drop i s ≡ take (e - i) (drop i s) ++ drop e s = sym (take-append-drop (e - i) (drop i s)) ∙ ap (λ (l : List ℕ). take (e - i) (drop i s) ++ l) (drop-drop (e - i) i s ∙ ap (λ (k : ℕ). drop k s) n) in
+      end-read s i (take (e - i) (drop i s)) (drop e s) digits-inside parts-are (h .digits) (rw (getD-drop e s 0 (byte "\n"), o) (h .stops))
+
+  pub end-missing : number s i ≡ Missing → Absent ≡ numberOf (take (e - i) (drop i s))
+  end-missing a = read-missing (subst (EndRead i (take (e - i) (drop i s))) a read-here)
+
+  module _ {x q : ℕ} (a : number s i ≡ Value x q) where
+    read-value : EndRead i (take (e - i) (drop i s)) (Value x q)
+    read-value = subst (EndRead i (take (e - i) (drop i s))) a read-here
+
+    pub end-part : (q ≡ e → ⊥) → Absent ≡ numberOf (take (e - i) (drop i s))
+    end-part n = read-part read-value (λ z. n (z ∙ many))
+
+    pub end-is : q ≡ e → x ≤ mostEndNumber → Number x ≡ numberOf (take (e - i) (drop i s))
+    end-is z = read-number read-value (z ∙ sym many)
+
+    pub end-large : q ≡ e → mostEndNumber < x → Absent ≡ numberOf (take (e - i) (drop i s))
+    end-large z = read-large read-value (z ∙ sym many)

@@ -4,13 +4,13 @@ use mathlib.Core.Path.{_≡_}
 use Prim.Native.Nat.{ℕ, suc, _+_, _-_, _<_, _≤_}
 use mathlib.Core.List.{List, [], _∷_}
 use mathlib.Core.Bool.{Bool, true, false, not, _&&_}
-use lib.ListN.{length}
+use lib.ListN.{length, take, drop}
 use lib.Dec.{leb, eqb}
 use Rattle.spec_limits.specs.Limits.{mostNameBytes}
 use Rattle.read_names.specs.declared.NameRead.{NameRead}
 use Rattle.read_names.specs.declared.NameRead.the-variants.{Name, Other}
 use Rattle.read_names.specs.EndNumbers.{stem, endNumber, wellEnded}
-use Rattle.read_bytes.specs.Bytes.{bytes, peek, pick, letter, nameByte, starts, run, runAt, runEnd}
+use Rattle.read_bytes.specs.Bytes.{bytes, peek, pick, letter, digit, nameByte, starts, run, runAt, runEnd, every}
 
 -- The spelling that a text starts with: its letters and digits up to the first byte that is neither.
 abbrev pub spelling : List ℕ → List ℕ
@@ -63,10 +63,12 @@ pub record Spelled (s : List ℕ) (p e : ℕ) : Type 0 where
   pub ends : e ≡ spellingEnd s p
   pub inside : e ≤ length s
 
--- The digits at the end of the spelling at p of s start at i, and it ends at e.
-pub record DigitsAt (s : List ℕ) (p i e : ℕ) : Type 0 where
-  pub spelled : Spelled s p e
-  pub start : i ≡ stemEnd s p
+-- From i up to e of s there are digits alone, and none stands at e.
+pub record DigitsTo (s : List ℕ) (i e : ℕ) : Type 0 where
+  pub from : i ≤ e
+  pub inside : e ≤ length s
+  pub digits : every digit (take (e - i) (drop i s)) ≡ true
+  pub stops : digit (peek s e) ≡ false
 
 -- The spelling at p of r ends at e: it is not empty, and the text s has as many bytes.
 pub record Searched (s r : List ℕ) (p e : ℕ) : Type 0 where

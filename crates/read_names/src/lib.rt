@@ -10,12 +10,12 @@ use spec_limits::END_NUMBER;
 use spec_limits::NAME_BYTES;
 ghost use mathlib.Core.Path.{_≡_};
 ghost use mathlib.Core.Bool.{not};
-ghost use Prim.Native.Nat.{_+_, _≤_};
-ghost use lib.ListN.{length};
+ghost use Prim.Native.Nat.{_+_, _-_, _≤_};
+ghost use lib.ListN.{length, take, drop};
 ghost use Rattle.read_bytes.specs.Bytes.{bytes, peek, pick, nameByte};
 ghost use Rattle.read_names.specs.declared.NameRead.the-variants.{Name, Other};
-ghost use Rattle.read_names.specs.EndNumbers.{endNumber, wellEnded};
-ghost use Rattle.read_names.specs.Spellings.{spellingAt, spellingEnd, stemEnd, sameText, findName, isSpelled, nameAt, Spelled, DigitsAt, Searched};
+ghost use Rattle.read_names.specs.EndNumbers.{numberOf, endNumber, wellEnded};
+ghost use Rattle.read_names.specs.Spellings.{spellingAt, spellingEnd, stemEnd, sameText, findName, isSpelled, nameAt, Spelled, DigitsTo, Searched};
 ghost use Rattle.read_names.specs.Slices.{before, namesOf};
 
 // The number at the end of a name, or that there is none.
@@ -188,12 +188,12 @@ pub fn stem_end(s: &[u8], at: usize, e: usize) -> usize
     i
 }
 
-// The number that the digits at a spelling's end say. The spelling ends at `e`, and they start at `i`.
-pub fn end_number(s: &[u8], at: usize, i: usize, e: usize) -> EndNumber
-    requires { ⌜ DigitsAt (now s) at i e ⌝ }
-    ensures { λ r. ⌜ r ≡ endNumber (spellingAt (now (s .entry)) at) ⌝ }
+// What the digits from `at` up to `e` at a name's end say: a number, or that there is none.
+pub fn end_number(s: &[u8], at: usize, e: usize) -> EndNumber
+    requires { ⌜ DigitsTo (now s) at e ⌝ }
+    ensures { λ r. ⌜ r ≡ numberOf (take (e - at) (drop at (now (s .entry)))) ⌝ }
 {
-    let d = number_at(s, i);
+    let d = number_at(s, at);
     let Number::Value(x, q) = d else {
         return EndNumber::Absent;
     };
@@ -207,13 +207,13 @@ pub fn end_number(s: &[u8], at: usize, i: usize, e: usize) -> EndNumber
     }
 }
 
-// A name at `at`, if digits at its end are an end number.
+// The name from `at` up to `e`, if digits at its end are an end number. Or no name.
 fn name_to(s: &[u8], at: usize, e: usize) -> NameRead
     requires { ⌜ Spelled (now s) at e ⌝ }
     ensures { λ r. ⌜ r ≡ pick (wellEnded (spellingAt (now (s .entry)) at)) (λ _. Name e (endNumber (spellingAt (now (s .entry)) at))) Other ⌝ }
 {
     let i = stem_end(s, at, e);
-    let n = end_number(s, at, i, e);
+    let n = end_number(s, i, e);
     match n {
         EndNumber::Number(_) => NameRead::Name(e, n),
         EndNumber::Absent => {

@@ -1,11 +1,10 @@
 -- A name whose end breaks the rule for end numbers (E8): "4 covers the new rule in a signal line; such a name gives 6 in a rule and 12 elsewhere."
 -- Assumes that the text has at most 32,768 bytes. It can't be declared, so in a rule and in readings it is a name that is not.
-use mathlib.Core.Path.{_≡_, refl, sym, ap, subst, _∙_}
+use mathlib.Core.Path.{_≡_, refl, sym, subst, _∙_}
 use mathlib.Core.Bool.{true, false, true≢false}
 use mathlib.Core.List.{List, [], _∷_, _++_}
 use Prim.Native.Nat.{ℕ, suc, _+_, _<_, _≤_}
-use native.Mathlib.Omega.{arith}
-use lib.ListN.{length, getD}
+use lib.ListN.{length}
 use Rattle.spec_limits.specs.Limits.{mostBytes, mostOpen, mostRuleBytes}
 use Rattle.read_bytes.specs.Bytes.{bytes, between}
 use Rattle.read_bytes.specs.Read.Read.{refused}

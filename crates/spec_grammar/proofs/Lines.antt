@@ -27,7 +27,7 @@ use Rattle.read_bytes.proofs.Runs.{run-more, run-none, run-past, end-more, end-
 use Rattle.read_lines.proofs.KeyedLines.{lf-ends, lf-not}
 use Rattle.read_names.proofs.Names.{Named, named}
 use Rattle.read_interval.specs.Interval.{leading}
-use Rattle.spec_grammar.specs.Tokens.{Each, Spelling}
+use Rattle.spec_grammar.specs.Tokens.{Each}
 use Rattle.spec_grammar.specs.Lines.{LineAt, Number, SignalName}
 use Rattle.spec_grammar.proofs.Standing.{starts-head, starts-tail, starts-none, starts-cons, starts-one, stand-same, word-stands, word-run, word-longest, word-each, word-first, letter-word}
 use Rattle.spec_grammar.proofs.Signs.{leading-digit}

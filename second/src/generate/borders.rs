@@ -1,7 +1,8 @@
 //! Sheets whose looks reach over the borders of words, tick by tick and up to 63 ticks at once, back and ahead.
 
-use super::draft::{names, Draft};
+use super::draft::Draft;
 use super::formula::{self, Style};
+use super::names::names;
 use super::random::Random;
 use super::windows;
 

@@ -1,4 +1,4 @@
-//! A sheet before it is written out, with the names and the random rules that every kind of sheet is made of.
+//! A sheet before it is written out, and the random rules that most kinds of sheets are made of.
 
 use super::formula::{self, Style};
 use super::random::Random;
@@ -35,30 +35,6 @@ impl Draft {
         }
         text.into_bytes()
     }
-}
-
-/// From `least` to `most` names of one or more letters, all different.
-pub fn names(random: &mut Random, least: usize, most: usize) -> Vec<String> {
-    let count = least + random.below(most + 1 - least);
-    let long = random.chance(20);
-    let mut names = vec![];
-    for number in 0..count {
-        let letter = (b'a' + (number % 26) as u8) as char;
-        let mut name = letter.to_string();
-        if number >= 26 {
-            name += &(number / 26).to_string();
-        }
-        if long {
-            name += random.pick(&["", "x", "until", "0", "9z", "abcdefghijklm"]);
-        }
-        names.push(name);
-    }
-    if random.chance(5) {
-        names[0] = random
-            .pick(&["since0", "sinc", "untila", "sincesince", "unti"])
-            .to_string();
-    }
-    names
 }
 
 /// So many random rules, each with at most about `size` names.

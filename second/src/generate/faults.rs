@@ -1,6 +1,7 @@
 //! Faults in a sheet's values: numbers, names, and names in rules.
 
 use super::draft::Draft;
+use super::names::misnumbered;
 use super::random::Random;
 
 /// A number out of its range, against its writing rule, or not the one of the lines that follow.
@@ -21,7 +22,7 @@ pub fn wrong_number(random: &mut Random, draft: &mut Draft) {
     }
 }
 
-/// A name not of its form, reserved, over its length, or given twice.
+/// A name not of its form, with a wrong end number, reserved, over its length, or given twice.
 pub fn wrong_name(random: &mut Random, draft: &mut Draft) {
     let odd = [
         "",
@@ -47,14 +48,14 @@ pub fn wrong_name(random: &mut Random, draft: &mut Draft) {
     ];
     let place = random.below(draft.names.len());
     let other = draft.names[random.below(draft.names.len())].clone();
-    draft.names[place] = if random.chance(20) {
-        other
-    } else {
-        random.pick(&odd).to_string()
+    draft.names[place] = match random.weighted(&[20, 40, 40]) {
+        0 => other,
+        1 => misnumbered(random, &other),
+        _ => random.pick(&odd).to_string(),
     };
 }
 
-/// A name in a rule that is not declared, or one that only starts like a declared one.
+/// A name in a rule that is not declared, or one that only starts like a declared one, or is one but for its end number.
 pub fn undeclared(random: &mut Random, draft: &mut Draft) {
     if draft.rules.is_empty() {
         return;
@@ -71,10 +72,14 @@ pub fn undeclared(random: &mut Random, draft: &mut Draft) {
         "a0",
         "aa",
     ];
-    let word = random.pick(&odd).to_string();
     let place = random.below(draft.rules.len());
     let rule = &mut draft.rules[place];
     let from = draft.names[random.below(draft.names.len())].clone();
+    let word = if random.chance(50) {
+        misnumbered(random, &from)
+    } else {
+        random.pick(&odd).to_string()
+    };
     match random.below(4) {
         0 => *rule = format!("{rule}&{word}"),
         1 => *rule = format!("{word}&{rule}"),

@@ -1,8 +1,9 @@
 //! Sheets at each limit and just over it.
 
-use super::draft::{names, random_rules, Draft};
+use super::draft::{random_rules, Draft};
 use super::formula::{self, Style};
 use super::limit_formula;
+use super::names::names;
 use super::random::Random;
 
 /// Rules that make from 1,020 to 1,028 rows in all.

@@ -2,8 +2,9 @@
 //! listed, and of more.
 
 use super::damage::damage;
-use super::draft::{names, Draft};
+use super::draft::Draft;
 use super::limits::rules_of_rows;
+use super::names::names;
 use super::random::Random;
 use super::{readings, shape, sheet};
 use crate::listing::MOST_WORDS;

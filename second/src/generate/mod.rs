@@ -8,6 +8,7 @@ mod formula;
 mod limit_formula;
 mod limits;
 pub mod listed;
+mod names;
 pub mod random;
 mod readings;
 mod sheet;
@@ -15,6 +16,7 @@ mod tables;
 mod windows;
 
 use crate::operations::read;
+use crate::text::name::Name;
 use random::Random;
 
 pub enum Call {
@@ -50,11 +52,10 @@ pub fn case(seed: u64, number: u64) -> Case {
 }
 
 fn shape(sheet: &[u8]) -> Shape {
-    let name = |bytes: &Vec<u8>| String::from_utf8_lossy(bytes).into_owned();
     match read(sheet) {
         Ok((sheet, rows)) => Shape {
             window: sheet.window,
-            names: sheet.names.iter().map(name).collect(),
+            names: sheet.names.iter().map(Name::to_string).collect(),
             rows: rows.nodes.len(),
         },
         Err(_) => Shape {

@@ -1,6 +1,7 @@
 //! Texts of readings: few and many, whole, with one wrong value, damaged, and at their longest.
 
 use super::damage::damage;
+use super::names::misnumbered;
 use super::random::Random;
 use super::windows;
 use crate::text::LONGEST_TEXT;
@@ -67,12 +68,13 @@ fn wrong_reading(random: &mut Random, window: usize, names: &[String]) -> String
         "0a",
     ];
     loop {
-        match random.below(6) {
+        match random.below(8) {
             0 => tick = random.pick(&numbers).to_string(),
             1 => tick = (window + random.below(3)).to_string(),
             2 => name = random.pick(&words).to_string(),
             3 => name += random.pick(&["a", "0", " "]),
-            4 => value = random.pick(&numbers).to_string(),
+            4 | 5 => name = misnumbered(random, &name),
+            6 => value = random.pick(&numbers).to_string(),
             _ => value = random.between(2, 12).to_string(),
         }
         if random.chance(70) {

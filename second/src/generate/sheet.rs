@@ -1,8 +1,9 @@
 //! Texts of sheets: of several sizes and kinds, whole and with faults.
 
 use super::damage::damage;
-use super::draft::{names, random_rules, Draft};
+use super::draft::{random_rules, Draft};
 use super::formula::{self, Style};
+use super::names::names;
 use super::random::Random;
 use super::{borders, faults, limit_formula, limits, windows};
 

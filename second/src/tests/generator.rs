@@ -4,6 +4,7 @@ use crate::generate::{case, Call, Case};
 use crate::lower::lower;
 use crate::operations::{add, check, read};
 use crate::table::marks_of;
+use crate::text::name::{End, Name};
 use crate::text::{sheet, LONGEST_TEXT};
 
 #[test]
@@ -46,6 +47,30 @@ fn windows_are_met() {
     }
     assert!(met(|case| (65..=300).contains(&window(case))) > 200);
     assert!(met(|case| (301..=4_094).contains(&window(case))) > 10);
+}
+
+/// The names of an accepted sheet.
+fn names(case: &Case) -> Vec<Name> {
+    read(&case.sheet).map_or(vec![], |(sheet, _)| sheet.names)
+}
+
+#[test]
+fn end_numbers_are_met() {
+    let sheets: Vec<Vec<Name>> = (0..4_000).map(|number| names(&case(5, number))).collect();
+    let met = |what: &dyn Fn(&[Name]) -> bool| sheets.iter().filter(|names| what(names)).count();
+    let at_borders = [0, 1, 9, 10, 99, 100, 999, 1_000, 9_999].map(End::Number);
+    for end in [&[End::NoNumber][..], &at_borders].concat() {
+        let has_end = |names: &[Name]| names.iter().any(|name| name.end == end);
+        assert!(met(&has_end) > 50, "{end:?}");
+    }
+    let longest = |names: &[Name]| names.iter().any(|name| name.to_string().len() == 16);
+    assert!(met(&longest) > 50);
+    // Names of which three or more differ in the end number alone.
+    let same_before = |names: &[Name], one: &Name| {
+        let same = names.iter().filter(|name| name.before == one.before);
+        same.count() >= 3
+    };
+    assert!(met(&|names| names.iter().any(|one| same_before(names, one))) > 500);
 }
 
 #[test]

@@ -1,11 +1,12 @@
-//! Unit tests: the proved cases, the refusal table, the lowering, the closing, tables of several words and the generator; and how they write
-//! texts.
+//! Unit tests: the proved cases, the refusal table, names, the lowering, the closing, tables of several words and the generator; and how they
+//! write texts.
 
 mod borders;
 mod closing;
 mod generator;
 mod listed;
 mod lowering;
+mod names;
 mod proved;
 mod refusals;
 mod tables;

@@ -1,5 +1,6 @@
 //! The grammar of a formula: each level of the document is one function; the first token that cannot follow stops it.
 
+use super::name::{find, Name};
 use super::token::{first, Token};
 use super::{refuse, Refusal};
 
@@ -37,7 +38,7 @@ const FARTHEST_END: i64 = 63;
 pub fn read(
     rule: &[u8],
     place: usize,
-    names: &[Vec<u8>],
+    names: &[Name],
     hidden: &mut Vec<Hidden>,
 ) -> Result<Formula, Refusal> {
     let mut reader = Reader {
@@ -59,7 +60,7 @@ pub fn read(
 struct Reader<'a> {
     rule: &'a [u8],
     place: usize,
-    names: &'a [Vec<u8>],
+    names: &'a [Name],
     hidden: &'a mut Vec<Hidden>,
     /// The next byte of the rule.
     at: usize,
@@ -170,7 +171,7 @@ impl<'a> Reader<'a> {
     }
 
     fn name(&mut self, name: &[u8]) -> Result<Formula, Refusal> {
-        match self.names.iter().position(|declared| declared == name) {
+        match find(name, self.names) {
             Some(number) => {
                 self.step();
                 Ok(Formula::Signal(number))

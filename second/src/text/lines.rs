@@ -1,4 +1,4 @@
-//! The lines of a text: a cursor takes one `key=value` line after another; the writing rules of numbers and names.
+//! The lines of a text: a cursor takes one `key=value` line after another; the writing rule of numbers.
 
 use super::{refuse, Refusal};
 
@@ -63,7 +63,7 @@ impl<'a> Lines<'a> {
 }
 
 /// One to five digits without a leading zero, or `0`.
-fn number(bytes: &[u8]) -> Option<u64> {
+pub fn number(bytes: &[u8]) -> Option<u64> {
     let leading_zero = bytes.len() > 1 && bytes[0] == b'0';
     if bytes.is_empty() || bytes.len() > 5 || leading_zero {
         return None;
@@ -76,18 +76,4 @@ fn number(bytes: &[u8]) -> Option<u64> {
         sum = sum * 10 + u64::from(byte - b'0');
     }
     Some(sum)
-}
-
-/// A lower-case letter, then lower-case letters or digits, 16 at most; not a reserved word.
-pub fn is_name(bytes: &[u8]) -> bool {
-    matches!(bytes, [b'a'..=b'z', ..])
-        && bytes.iter().all(|&byte| goes_on(byte))
-        && bytes.len() <= 16
-        && bytes != b"since"
-        && bytes != b"until"
-}
-
-/// Whether a name can go on with this byte.
-pub fn goes_on(byte: u8) -> bool {
-    byte.is_ascii_lowercase() || byte.is_ascii_digit()
 }

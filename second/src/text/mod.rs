@@ -1,7 +1,8 @@
-//! The texts: lines, tokens and grammar of formulas, sheets, readings, and the refusal that any of them may give.
+//! The texts: lines, names, tokens and grammar of formulas, sheets, readings, and the refusal that any of them may give.
 
 pub mod grammar;
 pub mod lines;
+pub mod name;
 pub mod readings;
 pub mod sheet;
 pub mod token;

@@ -1,6 +1,7 @@
 //! The readings: three lines each, taken line by line.
 
 use super::lines::Lines;
+use super::name::{find, Name};
 use super::{refuse, Refusal, LONGEST_TEXT};
 
 /// One reading: the signal has the value at the tick.
@@ -11,7 +12,7 @@ pub struct Reading {
     pub value: bool,
 }
 
-pub fn read(text: &[u8], window: usize, names: &[Vec<u8>]) -> Result<Vec<Reading>, Refusal> {
+pub fn read(text: &[u8], window: usize, names: &[Name]) -> Result<Vec<Reading>, Refusal> {
     if text.len() > LONGEST_TEXT {
         return refuse(10, 0);
     }
@@ -23,13 +24,13 @@ pub fn read(text: &[u8], window: usize, names: &[Vec<u8>]) -> Result<Vec<Reading
     Ok(readings)
 }
 
-fn one(lines: &mut Lines, window: usize, names: &[Vec<u8>]) -> Result<Reading, Refusal> {
+fn one(lines: &mut Lines, window: usize, names: &[Name]) -> Result<Reading, Refusal> {
     let (tick, place) = lines.number("at=")?;
     if tick >= window as u64 {
         return refuse(13, place);
     }
     let name = lines.line("signal=")?;
-    let signal = match names.iter().position(|declared| declared == name.bytes) {
+    let signal = match find(name.bytes, names) {
         Some(signal) => signal,
         None => return refuse(12, name.place),
     };

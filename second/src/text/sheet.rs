@@ -1,14 +1,15 @@
 //! The sheet: its lines in their fixed order, read from the first to the last.
 
 use super::grammar::{self, Formula, Hidden};
-use super::lines::{is_name, Lines};
+use super::lines::Lines;
+use super::name::{self, Name};
 use super::{refuse, Refusal, LONGEST_TEXT};
 use std::ops::{Range, RangeInclusive};
 
 /// A sheet as read.
 pub struct Sheet {
     pub window: usize,
-    pub names: Vec<Vec<u8>>,
+    pub names: Vec<Name>,
     pub rules: Vec<Rule>,
     /// All hidden signals in the order written.
     pub hidden: Vec<Hidden>,
@@ -61,12 +62,13 @@ fn amount(lines: &mut Lines, key: &str, range: RangeInclusive<u64>) -> Result<us
 
 fn read_name(lines: &mut Lines, sheet: &mut Sheet) -> Result<(), Refusal> {
     let value = lines.line("signal=")?;
-    let twice = sheet.names.iter().any(|name| name == value.bytes);
-    if twice || !is_name(value.bytes) {
-        return refuse(4, value.place);
+    match name::read(value.bytes) {
+        Ok(name) if !sheet.names.contains(&name) => {
+            sheet.names.push(name);
+            Ok(())
+        }
+        _ => refuse(4, value.place),
     }
-    sheet.names.push(value.bytes.to_vec());
-    Ok(())
 }
 
 fn read_rule(lines: &mut Lines, sheet: &mut Sheet) -> Result<(), Refusal> {

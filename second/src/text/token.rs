@@ -1,6 +1,6 @@
 //! The tokens of a formula, each the longest that fits.
 
-use super::lines::goes_on;
+use super::name::goes_on;
 
 #[derive(Clone, Copy, Debug, PartialEq, Eq)]
 pub enum Token<'a> {

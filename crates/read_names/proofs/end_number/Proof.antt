@@ -19,7 +19,7 @@ returns : tie.Need-returns
 returns c = end-missing (c .before .before .before .before .pre) (sym (c .before .before .number-at .ensures) ∙ c .enum-told .given .1)
 
 returns-2 : tie.Need-returns-2
-returns-2 c = end-part (c .before .before .before .before .before .before .pre) (sym (c .before .before .before .before .number-at .ensures) ∙ c .before .before .d .given .1) (c .if1 .taken)
+returns-2 c = end-part (c .before .before .before .before .before .before .pre) (sym (c .before .before .before .before .number-at .ensures) ∙ c .before .before .d .given .1) (λ z. omega arith)
 
 returns-3 : tie.Need-returns-3
 returns-3 c = end-is (c .before .before .before .before .before .before .before .pre) (sym (c .before .before .before .before .before .number-at .ensures) ∙ c .before .before .before .d .given .1) (omega arith) (omega arith)

@@ -1,8 +1,5 @@
 -- `stem_end` meets its contract. The invariant: from `i` up to the spelling's end there are digits alone. Assumes nothing.
-use borrow.Author.Needs.{needs}
 use native.Mathlib.Omega.{arith}
-use mathlib.Core.Path.{_≡_}
-use Prim.Native.Nat.{_-_}
 use Rattle.read_names.proofs.EndPlaces.{Back, back-start, back-end, back-letter, back-on}
 use Rattle.read_names.proofs.stem_end.Statement.{statement}
 use Rattle.read_names.proofs.stem_end.Tie as tie

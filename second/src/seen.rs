@@ -1,0 +1,121 @@
+//! What the cases of a comparison meet, each thing in enough of them: numbers answered, kinds of windows, and names refused for their end number.
+
+use crate::generate::Call;
+use crate::library::Outcome;
+use crate::table::block_words;
+use crate::tally::Tally;
+use crate::text::name::{self, goes_on, NoName};
+use crate::text::sheet;
+use std::collections::BTreeSet;
+use std::ops::RangeInclusive;
+
+/// From so many cases on, each thing must have been seen in so many of them.
+const ENOUGH_CASES: u64 = 20_000;
+const ENOUGH_SEEN: u64 = 50;
+
+/// The numbers that a call may answer: 0 and the refusals.
+const NUMBERS: usize = 18;
+/// Kinds of windows, by the words that cover them.
+const WINDOWS: [(&str, RangeInclusive<usize>); 4] = [
+    ("1", 1..=1),
+    ("2", 2..=2),
+    ("3 to 63", 3..=63),
+    ("64", 64..=64),
+];
+/// Refusals of a name, and what is wrong with its end number.
+const MISNUMBERED: [(&str, u64, NoName); 6] = [
+    ("4, leading zero", 4, NoName::LeadingZero),
+    ("4, over 9,999", 4, NoName::TooLarge),
+    ("6, leading zero", 6, NoName::LeadingZero),
+    ("6, over 9,999", 6, NoName::TooLarge),
+    ("12, leading zero", 12, NoName::LeadingZero),
+    ("12, over 9,999", 12, NoName::TooLarge),
+];
+
+/// In how many cases each thing was met.
+pub struct Seen {
+    numbers: Tally,
+    windows: Tally,
+    misnumbered: Tally,
+}
+
+/// What one case met, as places in the lists above.
+#[derive(Default)]
+pub struct Met {
+    numbers: BTreeSet<usize>,
+    windows: BTreeSet<usize>,
+    misnumbered: BTreeSet<usize>,
+}
+
+impl Seen {
+    /// None yet, of so many cases.
+    pub fn none(cases: u64) -> Self {
+        let least = if cases < ENOUGH_CASES { 0 } else { ENOUGH_SEEN };
+        let numbers = (0..NUMBERS).map(|number| (number.to_string(), least));
+        let windows = WINDOWS.iter().map(|(words, _)| (words.to_string(), least));
+        let misnumbered = MISNUMBERED
+            .iter()
+            .map(|(what, ..)| (what.to_string(), least));
+        Seen {
+            numbers: Tally::new(
+                "cases in which each number was answered (0 is acceptance)",
+                numbers,
+            ),
+            windows: Tally::new(
+                "cases in which an add was accepted, by the words that cover the window",
+                windows,
+            ),
+            misnumbered: Tally::new(
+                "cases in which a name was refused for its end number",
+                misnumbered,
+            ),
+        }
+    }
+
+    pub fn count(&mut self, case: Met) {
+        for (tally, places) in [
+            (&mut self.numbers, case.numbers),
+            (&mut self.windows, case.windows),
+            (&mut self.misnumbered, case.misnumbered),
+        ] {
+            places.into_iter().for_each(|place| tally.met(place));
+        }
+    }
+
+    /// Prints the counts; answers how many things were met too seldom.
+    pub fn print(&self) -> u64 {
+        self.numbers.print() + self.windows.print() + self.misnumbered.print()
+    }
+}
+
+impl Met {
+    /// Takes in a call and what it answered.
+    pub fn call(&mut self, sheet: &[u8], call: &Call, outcome: &Outcome) {
+        let number = outcome.answer;
+        self.numbers.insert(number as usize);
+        if number == 0 && matches!(call, Call::Add { .. }) {
+            let words = sheet::read(sheet).map_or(0, |sheet| block_words(sheet.window));
+            let kind = WINDOWS.iter().position(|(_, kind)| kind.contains(&words));
+            self.windows.extend(kind);
+        }
+        let fault = no_name(sheet, call, outcome);
+        let same = |&(_, of, what): &(&str, u64, NoName)| of == number && Some(what) == fault;
+        self.misnumbered.extend(MISNUMBERED.iter().position(same));
+    }
+}
+
+/// Why the bytes are no name at which a name was refused. In a rule they end before the first that cannot go on a name, else with their line.
+fn no_name(sheet: &[u8], call: &Call, outcome: &Outcome) -> Option<NoName> {
+    let text = match (outcome.answer, call) {
+        (4 | 6, _) => sheet,
+        (12, Call::Add { readings }) => readings,
+        _ => return None,
+    };
+    let ends = |byte: &u8| match outcome.answer {
+        6 => !goes_on(*byte),
+        _ => *byte == b'\n',
+    };
+    let place = *outcome.outputs.last()? as usize;
+    let bytes = text[place..].split(ends).next()?;
+    name::read(bytes).err()
+}
