@@ -38,7 +38,7 @@ use Rattle.spec_operations.specs.Gain.{gain}
 use Rattle.proof_demands.specs.Refusals.{SheetAccepted}
 use Rattle.proof_demands.specs.Runs.{AgreesWith, valued}
 use Rattle.proof_demands.specs.Runs.RunTexts.{done, call}
-use Rattle.proof_demands.specs.Listings.{linesOf, lineOf, Names, signUnder, shown}
+use Rattle.proof_demands.specs.Listings.{linesOf, lineOf, Names, marksLine, signUnder, shown}
 use Rattle.proof_demands.proofs.Refusals.{sheet-in, in-sheet-text}
 use Rattle.proof_demands.proofs.Histories.{told-holds, no-clash-told}
 
@@ -178,7 +178,7 @@ signed : (names : List (List ℕ)) (W rows facts : ℕ) (clash : Bool) (f : ℕ 
     → Names (listingText names W rows facts clash f) i w → signUnder (listingText names W rows facts clash f) i t ≡ b → Signed names W f w t b
 unfolding listingText
 signed names W rows facts clash f h i t b w some e g =
-    let n : i + 1 ≡ suc i = omega arith in
+    let n : marksLine i ≡ suc i = omega arith in
     let head = head-lines rows facts clash (signalsText W f names (inOrder names)) in
     go i (rw head at e) (rw (head, n) at g)
   where

@@ -26,9 +26,13 @@ lineOf l i = getD (linesOf l) i []
 abbrev pub Names : List ℕ → ℕ → List ℕ → Type 0
 Names l i w = lineOf l i ≡ bytes "signal=" ++ w
 
--- The sign that is printed at tick t under line i: in the next line after `marks=`, one sign a tick.
+-- A signal's marks stand in the line after its name.
+abbrev pub marksLine : ℕ → ℕ
+marksLine i = i + 1
+
+-- The sign that is printed at tick t under line i: after `marks=`, one sign a tick.
 abbrev pub signUnder : List ℕ → ℕ → ℕ → ℕ
-signUnder l i t = getD (lineOf l (i + 1)) (length (bytes "marks=") + t) 0
+signUnder l i t = getD (lineOf l (marksLine i)) (length (bytes "marks=") + t) 0
 
 -- The sign of a value: `1` or `0`.
 abbrev pub shown : Bool → ℕ
