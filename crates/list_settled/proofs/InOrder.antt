@@ -1,9 +1,8 @@
 -- The order of a listing, for the sheets that are listed (E8).
 -- Assumes nothing. `s` is the sheet's text, and its contents are k.
 use mathlib.Core.Path.{_≡_}
-use mathlib.Core.Bool.{true, false}
-use mathlib.Core.List.{List, List·Memᴰ}
-use mathlib.Core.Logic.{_⊎_}
+use mathlib.Core.Bool.{true}
+use mathlib.Core.List.{List}
 use Prim.Native.Nat.{ℕ}
 use Rattle.read_names.specs.EndNumbers.{wellEnded}
 use Rattle.read_head.proofs.DeclaredNames.{Declarable, head-names}
@@ -13,15 +12,9 @@ use Rattle.open_sheet.specs.Results.{accepted}
 use Rattle.open_sheet.specs.SheetIn.{sheetIn, namesIn}
 use Rattle.open_table.proofs.Tables.{in-sheet}
 use Rattle.spec_tilco.proofs.Lists.{all-at}
-use Rattle.list_order.specs.Order.{nameBefore, inOrder, Ordered}
+use Rattle.list_order.specs.Order.{StrictTotal, inOrder, Ordered}
 use Rattle.list_order.proofs.StrictOrder.{irreflexive, transitive, total}
 use Rattle.list_order.proofs.Sorting.{in-order}
-
--- The order of names is strict, and total on these.
-pub record StrictTotal (names : List (List ℕ)) : Type 0 where
-  pub strict : (v : List ℕ) → nameBefore v v ≡ false
-  pub transitive : (u v w : List ℕ) → nameBefore u v ≡ true → nameBefore v w ≡ true → nameBefore u w ≡ true
-  pub total : (v w : List ℕ) → List·Memᴰ v names → List·Memᴰ w names → (v ≡ w → ⊥) → (nameBefore v w ≡ true) ⊎ (nameBefore w v ≡ true)
 
 module _ (s : List ℕ) {k : Contents} (e : sheetIn s ≡ accepted k) where
   pub names-declarable : Declarable (namesIn s k)

@@ -31,7 +31,7 @@ turn-keeps I P part (suc n) t p k e =
     let d = came (P t p) (λ a q. inTurn P n (t ++ (a ∷ [])) q) e in
     turn-keeps I P part n (t ++ (d .value ∷ [])) (d .place) (part t p (d .value) (d .place) k (d .first)) (d .then)
 
--- The names at these places may be declared together.
+-- These names may be declared together.
 pub record Declarable (names : List (List ℕ)) : Type 0 where
   pub short : All (λ w. length w ≤ mostNameBytes) names
   pub ended : All (λ w. wellEnded w ≡ true) names

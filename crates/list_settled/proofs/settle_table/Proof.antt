@@ -17,7 +17,12 @@ count-facts-requires : tie.Need-count-facts-requires
 count-facts-requires c κs = countable (c .before .before .before .before .before .before .before .before .before .before .before .before .before .before .pre) (as-added (c .before .before .before .before .before .before .before .add .ensures) (c .before .before .before .a .given .1)) _ (c .before .words-of .ensures)
 
 write-listing-requires : tie.Need-write-listing-requires
-write-listing-requires c κs = (listable (c .before .before .before .before .before .before .before .before .before .before .before .before .before .before .before .before .before .pre) (as-added (c .before .before .before .before .before .before .before .before .before .before .add .ensures) (c .before .before .before .before .before .before .a .given .1)) _ (c .before .before .before .before .words-of .ensures), named (c .before .before .before .before .before .before .before .before .before .before .before .before .before .before .before .before .before .pre), few (c .before .before .before .before .before .before .before .before .before .before .before .before .before .before .before .before .before .pre), λ f. listing-counted (c .before .before .before .before .before .before .before .before .before .before .before .before .before .before .before .before .before .pre) _ _ _ f)
+write-listing-requires c κs =
+    let at-words-of = c .before .before .before .before in
+    let at-a = at-words-of .before .before in
+    let at-add = at-a .before .before .before .before in
+    let begun = at-add .before .before .before .before .before .before .before .pre in
+    (listable begun (as-added (at-add .add .ensures) (at-a .a .given .1)) _ (at-words-of .words-of .ensures), named begun, few begun, λ f. listing-counted begun _ _ _ f)
 
 enum-known-a-2 : tie.Need-enum-known-a-2
 enum-known-a-2 c = search needs
