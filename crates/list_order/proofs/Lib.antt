@@ -4,3 +4,4 @@ pub mod StrictOrder
 pub mod Sorting
 pub mod NamesBefore
 pub mod Inserting
+pub mod Examples
