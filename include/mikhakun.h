@@ -1,10 +1,10 @@
-/* Mikhakun: check, add and ask for C. Link target/staticlib/libc_api.a, which `rt staticlib c_api` proves and builds (x86-64 Linux).
+/* Mikhakun: check, add, ask and the moves between readings and spans, for C. Link target/staticlib/libc_api.a, which `rt staticlib c_api` proves and builds (x86-64 Linux).
  *
  * Each call answers 0, or the number of a refusal. `place` is written at a refusal only, the other results at acceptance only.
- * A refusal changes no word of the table. Nothing is kept between calls but the table that you lend.
+ * A refusal changes no word of the table and no byte of a buffer. Nothing is kept between calls but the table that you lend.
  *
  * You owe what the proof assumes of a caller: behind each pointer lies memory of the length given, no two of one call overlap, nobody else
- * writes there during the call, and no pointer is null, also where its length is 0. The texts, the table's words and the numbers may be
+ * writes there during the call, and no pointer is null, also where its length is 0. The texts, the table's words, the buffers and the numbers may be
  * anything at all. A call needs 72 KB (73,728 bytes) of stack: the deepest sheets that are known take 72,040.
  *
  * The table. With n the fewest words that have a bit for each tick of the window, (window + 63) / 64, a sheet of `rows` rows (see mikhakun_check)
@@ -12,6 +12,10 @@
  * hidden signals and of the parts of rules follow. The n words from 2 * r * n on have the ticks at which row r is true, the n words after them those
  * at which it is false. Tick t is bit t % 64, of value 2 to the t % 64, in word t / 64 of the n. So in a window up to 64, word 2 * r has the ticks
  * at which row r is true, word 2 * r + 1 those at which it is false, and bit t is tick t.
+ *
+ * The readings. A readings text has one of two forms, told by its first key. Single readings: three lines each, `at=` a tick, `signal=` a name, `value=` 0
+ * or 1. Spans: four lines each, `from=` a tick, `to=` a tick that is not below it, `signal=`, `value=`, for every tick from the first to the last. An empty
+ * text is both. Whatever takes a readings text takes either form; what counts is the readings that it says.
  *
  * An example, with the sheet and the readings in `sheet` and `readings`:
  *
@@ -36,7 +40,7 @@
 extern "C" {
 #endif
 
-/* The numbers of refusal. A place is counted in bytes from 0: for 2 to 8 in the sheet, for 11 to 14 in the readings, and else it is 0. Of a line
+/* The numbers of refusal. A place is counted in bytes from 0: for 2 to 8 in the sheet, for 11 to 14 and 21 in the readings, and else it is 0. Of a line
  * it is the first byte, or the text's length where the line is missing; of a value, a name, an interval or a sign its first byte. No function here
  * answers 29: the program `settle` prints it, after 9, for a sheet whose table has over 8,192 words.
  *
@@ -54,13 +58,15 @@ enum {
     MIKHAKUN_TOO_DEEP = 8,           /* a 33rd ( or ! is open: that sign */
     MIKHAKUN_TOO_LARGE = 9,          /* the sheet has over 32 hidden signals or 1,024 rows */
     MIKHAKUN_READINGS_TOO_LONG = 10, /* the readings are over 32,768 bytes */
-    MIKHAKUN_READINGS_LINE = 11,     /* a readings line is missing, not of its form or without LF */
+    MIKHAKUN_READINGS_LINE = 11,     /* a readings line is missing, not of its form, of the other form or without LF */
     MIKHAKUN_UNKNOWN_NAME = 12,      /* a reading names no signal of the sheet: the value */
     MIKHAKUN_OUTSIDE_WINDOW = 13,    /* a reading's tick is outside the window: the value */
     MIKHAKUN_NOT_0_OR_1 = 14,        /* a reading's value is a number other than 0 or 1: the value */
     MIKHAKUN_TABLE_LENGTH = 15,      /* the table's length is not 2 * rows * n */
     MIKHAKUN_TABLE_MARK = 16,        /* the table has a mark at a tick outside the window, in the last of a row's n true or n false words */
-    MIKHAKUN_NO_SUCH_CELL = 17       /* ask: the signal or the tick is outside its range */
+    MIKHAKUN_NO_SUCH_CELL = 17,      /* ask: the signal or the tick is outside its range */
+    MIKHAKUN_NO_ROOM = 20,           /* what is to be written is longer than the buffer, or over 32,768 bytes */
+    MIKHAKUN_TO_BELOW_FROM = 21      /* a span's last tick is below its first: the value of `to=` */
 };
 
 /* The values that ask writes. */
@@ -89,14 +95,24 @@ static inline uint64_t mikhakun_words(uint64_t rows, uint64_t window)
 }
 
 /* Adds readings to the table and closes it: it then has exactly what the published inference rules lead to from the sheet, the readings and
- * what it held. Writes how many facts (marks of declared signals) are new, and 1 for a clash, 0 for none. Refusals 1 to 9, 15, 16, 10 to 14, in
- * this order. */
+ * what it held. Writes how many facts (marks of declared signals) are new, and 1 for a clash, 0 for none. Refusals 1 to 9, 15, 16, 10, then
+ * 11 to 14 and 21 line by line, in this order. */
 uint64_t mikhakun_add(const uint8_t *sheet, size_t sheet_len, const uint8_t *readings, size_t readings_len,
                       uint64_t *table, size_t words, uint64_t *new_facts, uint64_t *clash, uint64_t *place);
 
 /* Asks the table, as it is, for a signal's value at a tick. Refusals 1 to 9, 15, 16, 17, in this order. */
 uint64_t mikhakun_ask(const uint8_t *sheet, size_t sheet_len, const uint64_t *table, size_t words,
                       uint64_t signal, uint64_t tick, uint64_t *value, uint64_t *place);
+
+/* Writes the readings, of either form, as spans: equal, overlapping and touching ones merged, sorted by signal number, value (0 first), then first tick. The
+ * text starts at out's first byte, and its length is written; the rest of out stays. No text of spans for these readings has fewer spans. Refusals 1 to 9,
+ * 10, then 11 to 14 and 21 line by line, last 20, in this order. */
+uint64_t mikhakun_to_spans(const uint8_t *sheet, size_t sheet_len, const uint8_t *readings, size_t readings_len,
+                           uint8_t *out, size_t room, uint64_t *length, uint64_t *place);
+
+/* Writes the readings, of either form, one by one, each once, by signal number, value (0 first), then tick. For the rest as mikhakun_to_spans. */
+uint64_t mikhakun_to_readings(const uint8_t *sheet, size_t sheet_len, const uint8_t *readings, size_t readings_len,
+                              uint8_t *out, size_t room, uint64_t *length, uint64_t *place);
 
 #ifdef __cplusplus
 }

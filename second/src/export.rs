@@ -1,9 +1,12 @@
-//! The library's tables, for other programs to judge: one line of JSON for each accepted add, of folders and of generated cases.
+//! The library's tables, for other programs to judge: one line of JSON for each accepted add, of folders and of generated cases. The judges
+//! read single readings, so a text of spans is told as these.
 
 use crate::generate::{case, Call, Case};
 use crate::library;
+use crate::moves::moved;
 use crate::operations::read;
 use crate::table::length;
+use crate::text::readings::Form;
 use std::path::Path;
 use std::process::ExitCode;
 
@@ -50,14 +53,18 @@ fn of_folder(folder: &Path) -> Case {
     Case {
         sheet,
         table: vec![0; length(rows, window)],
-        calls: vec![Call::Add { readings }],
+        calls: vec![Call::Add {
+            readings,
+            parts: vec![],
+        }],
+        moves: vec![],
     }
 }
 
 /// The first add of the case, if the library accepts it: the texts, the table before and after, and the clash.
 fn line(name: &str, case: &Case) -> Option<String> {
     let readings = case.calls.iter().find_map(|call| match call {
-        Call::Add { readings } => Some(readings),
+        Call::Add { readings, .. } => Some(readings),
         _ => None,
     })?;
     let mut table = case.table.clone();
@@ -65,11 +72,22 @@ fn line(name: &str, case: &Case) -> Option<String> {
     if added.answer != 0 {
         return None;
     }
-    let (sheet, readings, clash) = (quoted(&case.sheet), quoted(readings), added.outputs[1]);
+    let told = single(&case.sheet, readings)?;
+    let (sheet, readings, clash) = (quoted(&case.sheet), quoted(&told), added.outputs[1]);
     let (held, table) = (&case.table, &table);
     Some(format!(
         r#"{{"name":"{name}","sheet":{sheet},"readings":{readings},"held":{held:?},"table":{table:?},"clash":{clash}}}"#
     ))
+}
+
+/// The readings one by one, however many; single readings stay as they are.
+fn single(sheet: &[u8], readings: &[u8]) -> Option<Vec<u8>> {
+    if Form::of(readings) == Form::Readings {
+        return Some(readings.to_vec());
+    }
+    let (sheet, _) = read(sheet).ok()?;
+    let text = moved(Form::Readings, readings, sheet.window, &sheet.names).ok()?;
+    Some(text.into_bytes())
 }
 
 /// An accepted text as a JSON string: of the bytes that JSON escapes it has LF alone.

@@ -14,6 +14,7 @@ pub const UNWRITTEN: u64 = 0x5EC0_2D5E_C02D_5EC0;
 #[cfg(library)]
 mod linked {
     use super::{Outcome, UNWRITTEN};
+    use crate::text::readings::Form;
 
     extern "C" {
         fn mikhakun_check(
@@ -41,6 +42,26 @@ mod linked {
             signal: u64,
             tick: u64,
             value: *mut u64,
+            place: *mut u64,
+        ) -> u64;
+        fn mikhakun_to_spans(
+            sheet: *const u8,
+            sheet_len: usize,
+            readings: *const u8,
+            readings_len: usize,
+            out: *mut u8,
+            room: usize,
+            length: *mut u64,
+            place: *mut u64,
+        ) -> u64;
+        fn mikhakun_to_readings(
+            sheet: *const u8,
+            sheet_len: usize,
+            readings: *const u8,
+            readings_len: usize,
+            out: *mut u8,
+            room: usize,
+            length: *mut u64,
             place: *mut u64,
         ) -> u64;
     }
@@ -91,11 +112,36 @@ mod linked {
             outputs: vec![value, place],
         }
     }
+
+    pub fn move_to(form: Form, sheet: &[u8], readings: &[u8], out: &mut [u8]) -> Outcome {
+        let (mut length, mut place) = (UNWRITTEN, UNWRITTEN);
+        let function = match form {
+            Form::Readings => mikhakun_to_readings,
+            Form::Spans => mikhakun_to_spans,
+        };
+        let answer = unsafe {
+            function(
+                sheet.as_ptr(),
+                sheet.len(),
+                readings.as_ptr(),
+                readings.len(),
+                out.as_mut_ptr(),
+                out.len(),
+                &mut length,
+                &mut place,
+            )
+        };
+        Outcome {
+            answer,
+            outputs: vec![length, place],
+        }
+    }
 }
 
 #[cfg(not(library))]
 mod linked {
     use super::Outcome;
+    use crate::text::readings::Form;
 
     pub const LINKED: bool = false;
 
@@ -110,6 +156,10 @@ mod linked {
     pub fn ask(_: &[u8], _: &[u64], _: u64, _: u64) -> Outcome {
         unreachable!("no library")
     }
+
+    pub fn move_to(_: Form, _: &[u8], _: &[u8], _: &mut [u8]) -> Outcome {
+        unreachable!("no library")
+    }
 }
 
-pub use linked::{add, ask, check, LINKED};
+pub use linked::{add, ask, check, move_to, LINKED};

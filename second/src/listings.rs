@@ -5,6 +5,7 @@ use crate::listing::{listing, MOST_WORDS};
 use crate::operations::read;
 use crate::table::length;
 use crate::tally::{ended, Tally};
+use crate::text::readings::Form;
 use std::fs;
 use std::io;
 use std::path::{Path, PathBuf};
@@ -16,7 +17,7 @@ const MOST_SHOWN: usize = 60;
 /// From so many cases on, what stands at the limit of the table must have been met, and other orders than the sheet's.
 const ENOUGH_CASES: u64 = 300;
 /// The answers of the listing program: 0 and its refusals.
-const NUMBERS: [u64; 16] = [0, 1, 2, 3, 4, 5, 6, 7, 8, 9, 10, 11, 12, 13, 14, 29];
+const NUMBERS: [u64; 17] = [0, 1, 2, 3, 4, 5, 6, 7, 8, 9, 10, 11, 12, 13, 14, 21, 29];
 /// The words of a row that has the longest window.
 const LARGEST_ROW: usize = 128;
 /// A listing of more bytes is counted as a long one; the longest has about 264,000.
@@ -37,7 +38,7 @@ pub fn run(count: u64, seed: u64, command: &[&str]) -> ExitCode {
         let (sheet, readings) = listed::case(seed, number);
         let ours = listing(&sheet, &readings);
         let theirs = printed(&folder.0, &sheet, &readings, number, command);
-        met.count(&sheet, &ours);
+        met.count(&sheet, &readings, &ours);
         let ours = ours.into_bytes();
         if theirs.as_ref() != Ok(&ours) {
             failed += 1;
@@ -98,11 +99,12 @@ fn printed(
     }
 }
 
-/// In how many cases each number was answered, and what was met of the table's limit and of the signals' order.
+/// In how many cases each number was answered, and what was met of the table's limit, of the signals' order and of the forms of readings.
 struct Met {
     numbers: Tally,
     limits: Tally,
     orders: Tally,
+    forms: Tally,
 }
 
 impl Met {
@@ -119,6 +121,7 @@ impl Met {
             ("listings of over 200,000 bytes", 5),
         ];
         let orders = [("the sheet's", 60), ("that of their bytes", 25)];
+        let forms = [("single readings", 40), ("spans", 40)];
         Met {
             numbers: Tally::new("listings in which each number was answered", numbers),
             limits: Tally::new("listings at the limit", limits.iter().map(thing)),
@@ -126,10 +129,11 @@ impl Met {
                 "listings in which the names have another order than",
                 orders.iter().map(thing),
             ),
+            forms: Tally::new("listings of", forms.iter().map(thing)),
         }
     }
 
-    fn count(&mut self, sheet: &[u8], listing: &str) {
+    fn count(&mut self, sheet: &[u8], readings: &[u8], listing: &str) {
         let answer = listing
             .lines()
             .next()
@@ -147,6 +151,8 @@ impl Met {
         ]);
         if answer == Some("0") {
             self.count_orders(&String::from_utf8_lossy(sheet), listing);
+            let of = |form: Form| !readings.is_empty() && Form::of(readings) == form;
+            self.forms.met_if(&[of(Form::Readings), of(Form::Spans)]);
         }
     }
 
@@ -160,7 +166,7 @@ impl Met {
 
     /// Prints the counts; answers how many things were met too seldom.
     fn print(&self) -> u64 {
-        self.numbers.print() + self.limits.print() + self.orders.print()
+        self.numbers.print() + self.limits.print() + self.orders.print() + self.forms.print()
     }
 }
 

@@ -9,8 +9,10 @@ mod library;
 mod listing;
 mod listings;
 mod lower;
+mod moves;
 mod operations;
 mod seen;
+mod seen_readings;
 mod table;
 mod tally;
 #[cfg(test)]

@@ -24,8 +24,10 @@ pub fn add(sheet: &[u8], readings: &[u8], table: &mut [u64]) -> Result<Added, Re
     let (sheet, rows) = read(sheet)?;
     let before = marks_of(table, rows.nodes.len(), sheet.window)?;
     let mut start = before.clone();
-    for reading in readings::read(readings, sheet.window, &sheet.names)? {
-        start.set(reading.signal, reading.tick, reading.value);
+    for span in readings::read(readings, sheet.window, &sheet.names)? {
+        for tick in span.ticks() {
+            start.set(span.signal, tick, span.value);
+        }
     }
     let after = close(&rows, &start);
     write(&after, sheet.window, table);

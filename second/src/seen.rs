@@ -1,10 +1,14 @@
-//! What the cases of a comparison meet, each thing in enough of them: numbers answered, kinds of windows, and names refused for their end number.
+//! What the cases of a comparison meet, each thing in enough of them: numbers answered, kinds of windows, names refused for their end number,
+//! and what texts of readings meet.
 
+use crate::generate::moves::Move;
 use crate::generate::Call;
 use crate::library::Outcome;
+use crate::seen_readings;
 use crate::table::block_words;
 use crate::tally::Tally;
 use crate::text::name::{self, goes_on, NoName};
+use crate::text::readings::Form;
 use crate::text::sheet;
 use std::collections::BTreeSet;
 use std::ops::RangeInclusive;
@@ -14,7 +18,9 @@ const ENOUGH_CASES: u64 = 20_000;
 const ENOUGH_SEEN: u64 = 50;
 
 /// The numbers that a call may answer: 0 and the refusals.
-const NUMBERS: usize = 18;
+const NUMBERS: [u64; 20] = [
+    0, 1, 2, 3, 4, 5, 6, 7, 8, 9, 10, 11, 12, 13, 14, 15, 16, 17, 20, 21,
+];
 /// Kinds of windows, by the words that cover them.
 const WINDOWS: [(&str, RangeInclusive<usize>); 4] = [
     ("1", 1..=1),
@@ -37,6 +43,7 @@ pub struct Seen {
     numbers: Tally,
     windows: Tally,
     misnumbered: Tally,
+    readings: seen_readings::Seen,
 }
 
 /// What one case met, as places in the lists above.
@@ -45,13 +52,14 @@ pub struct Met {
     numbers: BTreeSet<usize>,
     windows: BTreeSet<usize>,
     misnumbered: BTreeSet<usize>,
+    readings: seen_readings::Met,
 }
 
 impl Seen {
     /// None yet, of so many cases.
     pub fn none(cases: u64) -> Self {
         let least = if cases < ENOUGH_CASES { 0 } else { ENOUGH_SEEN };
-        let numbers = (0..NUMBERS).map(|number| (number.to_string(), least));
+        let numbers = NUMBERS.iter().map(|number| (number.to_string(), least));
         let windows = WINDOWS.iter().map(|(words, _)| (words.to_string(), least));
         let misnumbered = MISNUMBERED
             .iter()
@@ -69,6 +77,7 @@ impl Seen {
                 "cases in which a name was refused for its end number",
                 misnumbered,
             ),
+            readings: seen_readings::Seen::none(least),
         }
     }
 
@@ -80,11 +89,15 @@ impl Seen {
         ] {
             places.into_iter().for_each(|place| tally.met(place));
         }
+        self.readings.count(case.readings);
     }
 
     /// Prints the counts; answers how many things were met too seldom.
     pub fn print(&self) -> u64 {
-        self.numbers.print() + self.windows.print() + self.misnumbered.print()
+        self.numbers.print()
+            + self.windows.print()
+            + self.misnumbered.print()
+            + self.readings.print()
     }
 }
 
@@ -92,7 +105,10 @@ impl Met {
     /// Takes in a call and what it answered.
     pub fn call(&mut self, sheet: &[u8], call: &Call, outcome: &Outcome) {
         let number = outcome.answer;
-        self.numbers.insert(number as usize);
+        self.number(number);
+        if let Call::Add { readings, parts } = call {
+            self.readings.added(readings, parts, outcome);
+        }
         if number == 0 && matches!(call, Call::Add { .. }) {
             let words = sheet::read(sheet).map_or(0, |sheet| block_words(sheet.window));
             let kind = WINDOWS.iter().position(|(_, kind)| kind.contains(&words));
@@ -102,13 +118,28 @@ impl Met {
         let same = |&(_, of, what): &(&str, u64, NoName)| of == number && Some(what) == fault;
         self.misnumbered.extend(MISNUMBERED.iter().position(same));
     }
+
+    /// Takes in a move and what it answered.
+    pub fn moved(&mut self, sheet: &[u8], call: &Move, outcome: &Outcome) {
+        self.number(outcome.answer);
+        self.readings.moved(sheet, call, outcome);
+    }
+
+    pub fn moved_back(&mut self, to: Form) {
+        self.readings.moved_back(to);
+    }
+
+    fn number(&mut self, number: u64) {
+        let place = NUMBERS.iter().position(|&known| known == number);
+        self.numbers.insert(place.expect("a number of the list"));
+    }
 }
 
 /// Why the bytes are no name at which a name was refused. In a rule they end before the first that cannot go on a name, else with their line.
 fn no_name(sheet: &[u8], call: &Call, outcome: &Outcome) -> Option<NoName> {
     let text = match (outcome.answer, call) {
         (4 | 6, _) => sheet,
-        (12, Call::Add { readings }) => readings,
+        (12, Call::Add { readings, .. }) => readings,
         _ => return None,
     };
     let ends = |byte: &u8| match outcome.answer {

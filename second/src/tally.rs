@@ -31,6 +31,12 @@ impl Tally {
         self.things[place].met += 1;
     }
 
+    /// Counts the thing of this name.
+    pub fn met_thing(&mut self, name: &str) {
+        let place = self.things.iter().position(|thing| thing.name == name);
+        self.met(place.expect("a thing of the list"));
+    }
+
     /// Counts the things for which this holds, in the list's order.
     pub fn met_if(&mut self, holds: &[bool]) {
         for place in (0..holds.len()).filter(|&place| holds[place]) {

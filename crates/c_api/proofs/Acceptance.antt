@@ -1,4 +1,4 @@
--- A call answers 0 exactly if it is accepted: every refusal has a number from 1 to 17.
+-- A call answers 0 exactly if it is accepted: every refusal has a number from 1 to 21.
 -- Assumes nothing.
 use mathlib.Core.Path.{_≡_, refl, sym, subst}
 use mathlib.Core.Bool.{Bool, true, false}
@@ -18,7 +18,9 @@ use Rattle.open_table.specs.Opens.Opens.{both, not-the-sheet, not-the-length, n
 use Rattle.spec_operations.specs.Operations.{counted, checked, Adds, Asks}
 use Rattle.spec_operations.specs.Operations.Adds.{not-opened, not-read, added}
 use Rattle.spec_operations.specs.Operations.Asks.{not-opened as not-asked, out-of-range, asked}
-use Rattle.c_api.specs.Leaves.{Left, left, leaves, rowValues, gainValues, answerValues, CheckLeaves, AddLeaves, AskLeaves}
+use Rattle.spec_moves.specs.Moves.{Moves}
+use Rattle.spec_moves.specs.Moves.Moves.{not-opened as no-sheet, not-read as no-readings, no-room, moved}
+use Rattle.c_api.specs.Leaves.{Left, left, leaves, oneValue, gainValues, answerValues, CheckLeaves, AddLeaves, AskLeaves, MoveLeaves}
 use Rattle.c_api.proofs.Numbers.{Listed, Numbered, sheet-numbered, readings-numbered}
 
 -- Accepted, or refused by a listed number.
@@ -72,6 +74,12 @@ module _ (s : List ℕ) where
   ask-told (out-of-range o i) = tt
   ask-told (asked o i a) = tt
 
+  pub move-told : {spans : Bool} {r O O′ : List ℕ} {x : Result ℕ} → Moves spans s r O O′ x → Told x
+  move-told (no-sheet e u) = subst Told e sheet-told
+  move-told {r = r} (no-readings {k} e f u) = subst Numbered f (readings-numbered (namesIn s k) (k .window) r)
+  move-told (no-room w h u) = tt
+  move-told (moved w h l u) = tt
+
 -- ---- so 0 tells acceptance
 
 zero-tells : {A : Type 0} (values : A → List ℕ) (place : ℕ) (before : List ℕ) (x : Result A) → Told x → (answerOf (leaves values place before x) ≡ 0) ↔ Accepted x
@@ -80,10 +88,13 @@ zero-tells values place before (refused n p) h = (λ e. subst Listed e h, λ b. 
 
 module _ (s : List ℕ) (place : ℕ) (before : List ℕ) {l : Left} where
   pub check-zero : CheckLeaves s place before l → (answerOf l ≡ 0) ↔ Accepted (checked s)
-  check-zero e = subst (λ (k : Left). (answerOf k ≡ 0) ↔ Accepted (checked s)) (sym e) (zero-tells rowValues place before (checked s) (check-told s))
+  check-zero e = subst (λ (k : Left). (answerOf k ≡ 0) ↔ Accepted (checked s)) (sym e) (zero-tells oneValue place before (checked s) (check-told s))
 
   pub add-zero : {r T U : List ℕ} (c : AddLeaves s r T U place before l) → (answerOf l ≡ 0) ↔ Accepted (c .0)
   add-zero (x, a, e) = subst (λ (k : Left). (answerOf k ≡ 0) ↔ Accepted x) (sym e) (zero-tells gainValues place before x (add-told s a))
 
   pub ask-zero : {T : List ℕ} {signal tick : ℕ} (c : AskLeaves s T signal tick place before l) → (answerOf l ≡ 0) ↔ Accepted (c .0)
   ask-zero (x, a, e) = subst (λ (k : Left). (answerOf k ≡ 0) ↔ Accepted x) (sym e) (zero-tells answerValues place before x (ask-told s a))
+
+  pub move-zero : {spans : Bool} {r O O′ : List ℕ} (c : MoveLeaves spans s r O O′ place before l) → (answerOf l ≡ 0) ↔ Accepted (c .0)
+  move-zero (x, a, e) = subst (λ (k : Left). (answerOf k ≡ 0) ↔ Accepted x) (sym e) (zero-tells oneValue place before x (move-told s a))

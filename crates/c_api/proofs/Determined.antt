@@ -1,10 +1,12 @@
--- Any two outcomes allowed for one call coincide: what check, add and ask leave, and add's table.
+-- Any two outcomes allowed for one call coincide: what check, add, ask and the moves leave, add's table and a move's buffer.
 -- Assumes nothing.
 use mathlib.Core.Path.{_≡_, sym, ap, _∙_}
+use mathlib.Core.Bool.{Bool}
 use mathlib.Core.List.{List}
 use Prim.Native.Nat.{ℕ}
 use Rattle.spec_operations.proofs.Determined.{adds-one, asks-one}
-use Rattle.c_api.specs.Leaves.{Left, leaves, gainValues, answerValues, CheckLeaves, AddLeaves, AskLeaves}
+use Rattle.spec_moves.proofs.Determined.{moves-one}
+use Rattle.c_api.specs.Leaves.{Left, leaves, oneValue, gainValues, answerValues, CheckLeaves, AddLeaves, AskLeaves, MoveLeaves}
 
 module _ (s : List ℕ) (place : ℕ) (before : List ℕ) {l l′ : Left} where
   pub check-leaves-one : CheckLeaves s place before l → CheckLeaves s place before l′ → l ≡ l′
@@ -15,3 +17,6 @@ module _ (s : List ℕ) (place : ℕ) (before : List ℕ) {l l′ : Left} where
 
   pub ask-leaves-one : {T : List ℕ} {signal tick : ℕ} → AskLeaves s T signal tick place before l → AskLeaves s T signal tick place before l′ → l ≡ l′
   ask-leaves-one (x, a, e) (y, b, f) = e ∙ ap (leaves answerValues place before) (asks-one a b) ∙ sym f
+
+  pub move-leaves-one : {spans : Bool} {r O O′ O″ : List ℕ} → MoveLeaves spans s r O O′ place before l → MoveLeaves spans s r O O″ place before l′ → (O′ ≡ O″) × (l ≡ l′)
+  move-leaves-one (x, a, e) (y, b, f) = let o = moves-one a b in (o .0, e ∙ ap (leaves oneValue place before) (o .1) ∙ sym f)

@@ -1,4 +1,4 @@
--- Whatever is read, a sheet or readings, is read or refused by a number from 1 to 17.
+-- Whatever is read, a sheet or readings, is read or refused by a number from 1 to 21.
 -- Assumes nothing.
 use mathlib.Core.Bool.{Bool, true, false, _&&_}
 use mathlib.Core.List.{List, [], _∷_, _++_}
@@ -20,18 +20,19 @@ use Rattle.read_names.specs.Spellings.{spellingAt, spellingEnd, namesAt, findNa
 use Rattle.read_bytes.specs.Numbers.{number}
 use Rattle.read_lines.specs.Lines.{lineEnd, line, wholeNumber, wholeName, numberLine, rangedLine, nameLine, inTurn, upTo}
 use Rattle.spec_tilco.specs.Formula.{Op, And, Or, Implies, Iff, Written}
-use Rattle.read_interval.specs.declared.Span.{Span}
+use Rattle.read_interval.specs.declared.Span.{Span as Interval}
 use Rattle.read_interval.specs.declared.Span.the-variants as span
 use Rattle.read_interval.specs.Interval.{endAt, endThen, endAfter, near, leftOut, spanOf, closeAt, commaAt, interval}
 use Rattle.read_parts.specs.FormulaText.{Reader, declared, spanThen, times, timedPart, signText, repeats, more, level, formula, negated, thenParen, inParens, second, arguments, sinceUntil, nameOrKeep, plainPartBy, plainPartIn, inside, plainPart, rule}
 use Rattle.read_head.specs.SheetHead.{signalLine, headOf, head}
 use Rattle.read_sheet.specs.Sheet.{ruleTo, ruleLine, rules, contents, sheetOf}
-use Rattle.read_reading.specs.OneReading.{knownLine, reading}
-use Rattle.read_readings.specs.Readings.{readings}
+use Rattle.read_reading.specs.Spans.{Span}
+use Rattle.read_reading.specs.OneEntry.{knownLine, tickLine, firstKey, toLine, lastTick, entry}
+use Rattle.read_readings.specs.Readings.{inSpans, entries, marked, readings}
 
 -- Is n a refusal's number?
 abbrev pub Listed : ℕ → Type 0
-Listed n = T (between 1 17 n)
+Listed n = T (between 1 21 n)
 
 -- Something is read, or it is refused by a listed number.
 abbrev pub Numbered : {A : Type 0} → Read A → Type 0
@@ -91,15 +92,15 @@ module _ (s : List ℕ) (p : ℕ) (key : List ℕ) (form : ℕ) (f : Listed form
 
 -- ---- intervals
 
-abbrev SpanNumbered : Span → Type 0
+abbrev SpanNumbered : Interval → Type 0
 SpanNumbered (span.Over first more q) = Unit {0}
 SpanNumbered (span.Refused n p) = Listed n
 
-pick-span : (b : Bool) (X Y : Span) → SpanNumbered X → SpanNumbered Y → SpanNumbered (pick b (λ _. X) Y)
+pick-span : (b : Bool) (X Y : Interval) → SpanNumbered X → SpanNumbered Y → SpanNumbered (pick b (λ _. X) Y)
 pick-span true X Y x y = x
 pick-span false X Y x y = y
 
-end-after : (b : Bool) (s : List ℕ) (p : ℕ) (k : ℕ → ℕ → Span) → ((v q : ℕ) → SpanNumbered (k v q)) → SpanNumbered (endAfter b s p k)
+end-after : (b : Bool) (s : List ℕ) (p : ℕ) (k : ℕ → ℕ → Interval) → ((v q : ℕ) → SpanNumbered (k v q)) → SpanNumbered (endAfter b s p k)
 unfolding endAfter
 end-after b s p k h = pick-span b (endThen (endAt s (p + 1)) (p + 1) k) (span.Refused 5 p) (go (endAt s (p + 1))) tt
   where
@@ -141,7 +142,7 @@ module _ (s : List ℕ) where
       K : ℕ → ℕ → ℕ → Read Written
       K first more q = times s k (Written.time (eqb (peek s p) (byte "@")) first more f) q
 
-      go : (x : Span) → SpanNumbered x → ((first more q : ℕ) → Numbered (K first more q)) → Numbered (spanThen x K)
+      go : (x : Interval) → SpanNumbered x → ((first more q : ℕ) → Numbered (K first more q)) → Numbered (spanThen x K)
       go (span.Over first more q) h r = r first more q
       go (span.Refused n q) h r = h
 
@@ -267,16 +268,32 @@ module _ (s : List ℕ) where
 -- ---- readings
 
 module _ (names : List (List ℕ)) (W : ℕ) (r : List ℕ) where
-  reading-numbered : (p : ℕ) → Numbered (reading names W r p)
-  unfolding reading knownLine
-  reading-numbered p =
-      then-numbered (rangedLine r p (bytes "at=") 11 13 0 (W - 1)) _ (ranged-numbered r p (bytes "at=") 11 tt 13 0 (W - 1) tt) (λ t q.
+  last-numbered : (spans : Bool) (f p : ℕ) → Numbered (lastTick spans W r f p)
+  unfolding toLine
+  last-numbered false f p = tt
+  last-numbered true f p =
+      then-numbered (tickLine W r p (bytes "to=")) _ (ranged-numbered r p (bytes "to=") 11 tt 13 0 (W - 1) tt)
+      (λ l q. pick-numbered (leb f l) (got l q) (refused 21 (p + length (bytes "to="))) tt tt)
+
+  entry-numbered : (spans : Bool) (p : ℕ) → Numbered (entry spans names W r p)
+  unfolding entry knownLine
+  entry-numbered spans p =
+      then-numbered (tickLine W r p (firstKey spans)) _ (ranged-numbered r p (firstKey spans) 11 tt 13 0 (W - 1) tt) (λ f i.
+      then-numbered (lastTick spans W r f i) _ (last-numbered spans f i) (λ l q.
       then-numbered (knownLine names r q) _ (then-numbered (nameLine r q (bytes "signal=") 11 12) _ (name-numbered r q (bytes "signal=") 11 tt 12 tt)
-      (λ v i. pick-numbered (ltb (findName (spellingAt r v) names) (length names)) (got (findName (spellingAt r v) names) i) (refused 12 v) tt tt)) (λ x u.
-      then-numbered (rangedLine r u (bytes "value=") 11 14 0 1) _ (ranged-numbered r u (bytes "value=") 11 tt 14 0 1 tt) (λ v e. tt)))
+      (λ v j. pick-numbered (ltb (findName (spellingAt r v) names) (length names)) (got (findName (spellingAt r v) names) j) (refused 12 v) tt tt)) (λ x u.
+      then-numbered (rangedLine r u (bytes "value=") 11 14 0 1) _ (ranged-numbered r u (bytes "value=") 11 tt 14 0 1 tt) (λ v e. tt))))
+
+  entries-numbered : Numbered (entries names W r)
+  unfolding entries
+  entries-numbered =
+      pick-numbered (leb (length r) mostBytes) (upTo (entry (inSpans r) names W r) (length r) (length r) [] 0) (refused 10 0)
+      (up-numbered (entry (inSpans r) names W r) (length r) (entry-numbered (inSpans r)) (length r) [] 0) tt
 
   pub readings-numbered : Numbered (readings names W r)
   unfolding readings
-  readings-numbered =
-      pick-numbered (leb (length r) mostBytes) (upTo (reading names W r) (length r) (length r) [] 0) (refused 10 0)
-      (up-numbered (reading names W r) (length r) reading-numbered (length r) [] 0) tt
+  readings-numbered = go (entries names W r) entries-numbered
+    where
+      go : (R : Read (List Span)) → Numbered R → Numbered (marked R)
+      go (got es q) h = tt
+      go (refused n p) h = h

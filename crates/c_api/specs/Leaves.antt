@@ -1,13 +1,14 @@
 -- What a call from C leaves: the number that it answers, and what stands behind the pointers that it was lent.
 -- Assumes nothing. `s` is the sheet's text, r the readings' text, T the table before and U after.
 use mathlib.Core.Path.{_≡_}
-use mathlib.Core.Bool.{true, false}
+use mathlib.Core.Bool.{Bool, true, false}
 use mathlib.Core.List.{List, [], _∷_}
 use Prim.Native.Nat.{ℕ}
 use Rattle.spec_tilco.specs.Table.{Answer, Unsettled, True, False, Contradiction}
 use Rattle.open_sheet.specs.Results.{Result, accepted, refused}
 use Rattle.spec_operations.specs.Gain.{Gain, gain}
 use Rattle.spec_operations.specs.Operations.{checked, Adds, Asks}
+use Rattle.spec_moves.specs.Moves.{Moves}
 
 -- The number answered, what stands at `place`, and what stands at the other places, in the order of the parameters.
 pub data Left : Type 0 where
@@ -18,9 +19,9 @@ abbrev pub leaves : {A : Type 0} → (A → List ℕ) → ℕ → List ℕ → R
 leaves values place before (accepted x) = left 0 place (values x)
 leaves values place before (refused n p) = left n p before
 
--- What check writes: the row count.
-abbrev pub rowValues : ℕ → List ℕ
-rowValues n = n ∷ []
+-- What check writes, the row count, and what a move writes, the text's length.
+abbrev pub oneValue : ℕ → List ℕ
+oneValue n = n ∷ []
 
 -- What add writes: how many facts are new, and 1 for a clash, 0 for none.
 abbrev pub gainValues : Gain → List ℕ
@@ -36,7 +37,7 @@ answerValues Contradiction = 3 ∷ []
 
 -- A call of check.
 abbrev pub CheckLeaves : List ℕ → ℕ → List ℕ → Left → Type 0
-CheckLeaves s place before l = l ≡ leaves rowValues place before (checked s)
+CheckLeaves s place before l = l ≡ leaves oneValue place before (checked s)
 
 -- A call of add.
 abbrev pub AddLeaves : List ℕ → List ℕ → List ℕ → List ℕ → ℕ → List ℕ → Left → Type 0
@@ -45,3 +46,7 @@ AddLeaves s r T U place before l = (x : Result Gain) × Adds s r T U x × (l ≡
 -- A call of ask.
 abbrev pub AskLeaves : List ℕ → List ℕ → ℕ → ℕ → ℕ → List ℕ → Left → Type 0
 AskLeaves s T signal tick place before l = (x : Result Answer) × Asks s T signal tick x × (l ≡ leaves answerValues place before x)
+
+-- A call of a move, to spans or back to single readings: O is the buffer before, O′ after.
+abbrev pub MoveLeaves : Bool → List ℕ → List ℕ → List ℕ → List ℕ → ℕ → List ℕ → Left → Type 0
+MoveLeaves spans s r O O′ place before l = (x : Result ℕ) × Moves spans s r O O′ x × (l ≡ leaves oneValue place before x)

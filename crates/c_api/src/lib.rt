@@ -1,4 +1,4 @@
-// check, add and ask for C and for languages that call C; include/mikhakun.h declares them. They assume nothing of the texts, the table and the numbers.
+// check, add, ask and the two moves for C and for languages that call C; include/mikhakun.h declares them. They assume nothing of the texts, the table, the buffers and the numbers.
 // A caller lends memory of the length given behind each pointer, and no two of one call overlap.
 use op_add::Adding;
 use op_add::add;
@@ -6,11 +6,16 @@ use op_ask::Asking;
 use op_ask::ask;
 use op_check::Checking;
 use op_check::check;
+use op_moves::moves::Moving;
+use op_moves::moves::to_readings;
+use op_moves::moves::to_spans;
 use table_marks::Value;
 ghost use mathlib.Core.Path.{_≡_};
+ghost use mathlib.Core.Bool.{true, false};
 ghost use mathlib.Core.List.{[], _∷_};
 ghost use Rattle.table_marks.specs.Values.{valueSays};
-ghost use Rattle.c_api.specs.Leaves.{left, answerValues, CheckLeaves, AddLeaves, AskLeaves};
+ghost use Rattle.op_moves.specs.MovingSays.{movingSays};
+ghost use Rattle.c_api.specs.Leaves.{left, leaves, oneValue, answerValues, CheckLeaves, AddLeaves, AskLeaves, MoveLeaves};
 
 // Checks the sheet: 0 and the row count, or a refusal's number and its place.
 #[no_mangle]
@@ -91,4 +96,50 @@ pub extern "C" fn mikhakun_ask(
             n as u64
         }
     }
+}
+
+// Tells a move's answer: 0 and the length of its text, or a refusal's number and its place.
+fn tell_move(m: Moving, length: &mut u64, place: &mut u64) -> u64
+    ensures { λ r. ⌜ left r (now (place .exit)) (now (length .exit) ∷ []) ≡ leaves oneValue (now (place .entry)) (now (length .entry) ∷ []) (movingSays m) ⌝ }
+{
+    match m {
+        Moving::Written(n) => {
+            *length = n as u64;
+            0
+        }
+        Moving::Refused(n, p) => {
+            *place = p as u64;
+            n as u64
+        }
+    }
+}
+
+// Writes the readings as spans, merged and sorted.
+#[no_mangle]
+pub extern "C" fn mikhakun_to_spans(
+    sheet: &[u8],
+    readings: &[u8],
+    out: &mut [u8],
+    length: &mut u64,
+    place: &mut u64,
+) -> u64
+    ensures { λ r. ⌜ MoveLeaves true (now (sheet .entry)) (now (readings .entry)) (now (out .entry)) (now (out .exit)) (now (place .entry)) (now (length .entry) ∷ []) (left r (now (place .exit)) (now (length .exit) ∷ [])) ⌝ }
+{
+    let m = to_spans(sheet, readings, out);
+    tell_move(m, length, place)
+}
+
+// Writes the readings one by one, each once, in the same order.
+#[no_mangle]
+pub extern "C" fn mikhakun_to_readings(
+    sheet: &[u8],
+    readings: &[u8],
+    out: &mut [u8],
+    length: &mut u64,
+    place: &mut u64,
+) -> u64
+    ensures { λ r. ⌜ MoveLeaves false (now (sheet .entry)) (now (readings .entry)) (now (out .entry)) (now (out .exit)) (now (place .entry)) (now (length .entry) ∷ []) (left r (now (place .exit)) (now (length .exit) ∷ [])) ⌝ }
+{
+    let m = to_readings(sheet, readings, out);
+    tell_move(m, length, place)
 }

@@ -1,18 +1,15 @@
--- How long a line is, and how long signs and the lines of a signal are.
+-- How long signs and the lines of a signal are.
 -- Assumes nothing.
 use mathlib.Core.Path.{_≡_, refl, ap}
-use mathlib.Core.List.{List, _++_}
+use mathlib.Core.List.{List}
 use Prim.Native.Nat.{ℕ, zero, suc, _+_}
 use native.Mathlib.Omega.{arith}
 use lib.ListN.{length, length-append}
 use Rattle.read_bytes.specs.Bytes.{bytes}
 use Rattle.spec_tilco.specs.Table.{Answer}
 use Rattle.write_lines.specs.LineTexts.{lineText}
+use Rattle.write_lines.proofs.Lengths.{line-length}
 use Rattle.list_signals.specs.Signals.{signs, signalText}
-
-pub line-length : (key value : List ℕ) → length (lineText key value) ≡ length key + length value + 1
-unfolding lineText
-line-length key value = omega (arith, length-append key (value ++ bytes "\n"), length-append value (bytes "\n"))
 
 pub signs-length : (f : ℕ → Answer) (t n : ℕ) → length (signs f t n) ≡ n
 unfolding signs

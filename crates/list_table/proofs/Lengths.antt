@@ -9,18 +9,15 @@ use Rattle.spec_limits.specs.Limits.{mostTicks, mostSignals, mostNameBytes, mos
 use Rattle.read_bytes.specs.Bytes.{bytes}
 use Rattle.spec_tilco.specs.Lists.{All}
 use Rattle.spec_tilco.specs.Table.{Answer}
-use Rattle.write_bytes.specs.Writes.{Wrote, Counted, decimalText}
-use Rattle.write_bytes.proofs.Decimals.{decimal-few}
-use Rattle.write_lines.specs.LineTexts.{numberText}
+use Rattle.write_bytes.specs.Writes.{Wrote, Counted}
+use Rattle.write_lines.specs.LineTexts.{oneIf, numberText}
+use Rattle.write_lines.proofs.Lengths.{number-most}
 use Rattle.spec_tilco.proofs.Lists.{all-nth}
 use Rattle.list_order.specs.Order.{inOrder}
 use Rattle.list_order.proofs.Sorting.{order-long, order-within}
 use Rattle.list_signals.specs.Signals.{signs, signalText, signalsText}
-use Rattle.list_signals.proofs.Lengths.{line-length, signs-length, signal-length}
-use Rattle.list_table.specs.Listing.{oneIf, headText, listingText, refusalText}
-
-number-most : (key : List ℕ) (n : ℕ) → length (numberText key n) ≤ length key + 21
-number-most key n = omega (arith, line-length key (decimalText n), decimal-few n)
+use Rattle.list_signals.proofs.Lengths.{signs-length, signal-length}
+use Rattle.list_table.specs.Listing.{headText, listingText, refusalText}
 
 -- A line with a number can be counted near the start of the buffer, and ends near it.
 pub number-counted : (key : List ℕ) (n : ℕ) {b : ℕ} → b + length key ≤ mostListed → Counted b (numberText key n)

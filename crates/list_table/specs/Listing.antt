@@ -1,20 +1,15 @@
 -- What the listing prints (01, "The listing program").
 -- Assumes nothing. W is the window, f x t the answer to ask at signal x and tick t.
-use mathlib.Core.Bool.{Bool, true, false}
+use mathlib.Core.Bool.{Bool}
 use mathlib.Core.List.{List, _++_}
 use Prim.Native.Nat.{ℕ}
 use Rattle.read_bytes.specs.Bytes.{bytes}
 use Rattle.spec_tilco.specs.Table.{Answer}
-use Rattle.write_lines.specs.LineTexts.{numberText}
+use Rattle.write_lines.specs.LineTexts.{oneIf, numberText}
 use Rattle.list_order.specs.Order.{inOrder}
 use Rattle.list_signals.specs.Signals.{signalsText}
 
--- "Clash is 0 or 1."
-abbrev pub oneIf : Bool → ℕ
-oneIf true = 1
-oneIf false = 0
-
--- The lines before those of the signals: answer, rows, facts, clash.
+-- The lines before those of the signals: answer, rows, facts, clash. "Clash is 0 or 1."
 unfoldable pub headText : ℕ → ℕ → Bool → List ℕ
 headText rows facts clash =
     numberText (bytes "answer=") 0

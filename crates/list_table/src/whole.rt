@@ -2,8 +2,8 @@
 use list_order::signals_in_order;
 use list_signals::write_signals;
 use spec_limits::SIGNALS;
+use write_lines::one_if;
 use write_lines::write_number_line;
-ghost use mathlib.Core.Path.{_≡_};
 ghost use Prim.Native.Nat.{ℕ, _≤_};
 ghost use lib.ListN.{length};
 ghost use Rattle.read_names.specs.Spellings.{namesAt};
@@ -13,14 +13,7 @@ ghost use Rattle.spec_tilco.specs.Table.{Stands, Answer};
 ghost use Rattle.write_bytes.specs.Writes.{Counted, Wrote};
 ghost use Rattle.list_order.specs.Order.{inOrder, Orderable};
 ghost use Rattle.list_signals.specs.Signals.{Listable, Answers, signalsText};
-ghost use Rattle.list_table.specs.Listing.{oneIf, headText, listingText, refusalText};
-
-// 1 for yes and 0 for no.
-fn one_if(yes: bool) -> usize
-    ensures { λ r. ⌜ r ≡ oneIf yes ⌝ }
-{
-    if yes { 1 } else { 0 }
-}
+ghost use Rattle.list_table.specs.Listing.{headText, listingText, refusalText};
 
 // The lines before those of the signals.
 fn write_head(rows: usize, facts: usize, clash: bool, out: &mut [u8]) -> usize

@@ -1,7 +1,7 @@
 -- The proved cases P1 to P10, from their texts to the listing and to the histories, in one theorem.
 -- Assumes nothing.
 use mathlib.Core.Path.{refl}
-use mathlib.Core.List.{List, [], _∷_}
+use mathlib.Core.List.{List, [], _∷_, flatten}
 use lib.Count.{ones, onesIn}
 use lib.Dec.{T}
 use Rattle.spec_ticks.specs.Ticks.{bit, tally}
@@ -16,8 +16,9 @@ use Rattle.read_interval.specs.Interval.{signed, endAt, spanOf, endAfter, close
 use Rattle.read_parts.specs.FormulaText.{declared, times, timedPart, more, level, second, sinceUntil, nameOrKeep, plainPartIn, inside, plainPart, rule}
 use Rattle.read_head.specs.SheetHead.{signalLine, head}
 use Rattle.read_sheet.specs.Sheet.{ruleTo, ruleLine, rules, sheetOf}
-use Rattle.read_reading.specs.OneReading.{knownLine, reading}
-use Rattle.read_readings.specs.Readings.{readings}
+use Rattle.read_reading.specs.Spans.{marksFrom, marksOf, marksOfAll}
+use Rattle.read_reading.specs.OneEntry.{knownLine, toLine, entry}
+use Rattle.read_readings.specs.Readings.{inSpans, entries, readings}
 use Rattle.write_bytes.specs.Writes.{lastDigits, decimalText}
 use Rattle.write_lines.specs.LineTexts.{lineText}
 use Rattle.list_order.specs.Order.{compareBytes, nameBefore, insert, orderFrom}
@@ -36,7 +37,7 @@ Passes e = T (textsPass (bytes (e .sheet)) (bytes (e .readings)) (bytes (e .list
 -- By computation: each sheet and its readings are read, the table is closed, and its listing is the one expected. P7's and P8's sheets are read as
 -- their second halves want them.
 computed : All Passes textCases × ReadAs p7-read (sheetIn (bytes (p7 .sheet))) × ReadAs p8-read (sheetIn (bytes (p8 .sheet)))
-unfolding ones onesIn bit tally words peek classOf nameByte starts run runAt runEnd namesAt sameText findName isSpelled every endDigits decimal isEndNumber numberOf wellEnded nameAt digits number inLine line numberLine rangedLine nameLine inTurn upTo signed endAt spanOf endAfter closeAt commaAt interval declared times timedPart more level second sinceUntil nameOrKeep plainPartIn inside plainPart rule signalLine head ruleTo ruleLine rules sheetOf knownLine reading readings lastDigits decimalText lineText stem compareBytes nameBefore insert orderFrom signs signalText signalsText headText listingText fits sheetIn
+unfolding ones onesIn bit tally words peek classOf nameByte starts run runAt runEnd namesAt sameText findName isSpelled every endDigits decimal isEndNumber numberOf wellEnded nameAt digits number inLine line numberLine rangedLine nameLine inTurn upTo signed endAt spanOf endAfter closeAt commaAt interval declared times timedPart more level second sinceUntil nameOrKeep plainPartIn inside plainPart rule signalLine head ruleTo ruleLine rules sheetOf knownLine toLine entry inSpans entries marksFrom marksOf marksOfAll flatten readings lastDigits decimalText lineText stem compareBytes nameBefore insert orderFrom signs signalText signalsText headText listingText fits sheetIn
 computed = ((tt, (tt, (tt, (tt, (tt, (tt, (tt, (tt, (tt, (tt, (tt, tt))))))))))), refl, refl)
 
 all-said : All InHistories textCases

@@ -1,25 +1,31 @@
--- A readings text cut between readings into the texts of calls: each part is accepted, and the last table is that of one call with the whole text.
+-- A readings text cut between readings, or between spans, into the texts of calls: each part is accepted, and the last table is that of one call with the whole text.
 -- Assumes that the sheet and the text are accepted. s is the sheet's text, k its contents, R the readings' text.
 use mathlib.Core.Path.{_≡_, refl, sym, ap, subst, _∙_}
+use mathlib.Core.Bool.{Bool}
 use mathlib.Core.List.{List, [], _∷_, _++_, append-nil, append-assoc, flatten, List·Memᴰ, List·Memᴰ·head, List·Memᴰ·tail, List·Memᴰ·not-nil, List·Memᴰ·cases-cons}
 use mathlib.Core.Logic.{⊎-elim, _↔_}
 use Prim.Native.Nat.{ℕ, zero, suc, _<_}
 use native.Mathlib.Omega.{arith}
-use lib.ListN.{length, take, drop, length-append}
+use lib.ListN.{length, take, drop}
 use Rattle.read_bytes.specs.Read.{Read}
 use Rattle.read_bytes.specs.Read.Read.{got}
+use Rattle.read_bytes.specs.Bytes.{bytes}
 use Rattle.read_bytes.proofs.Answers.{not-both}
 use Rattle.spec_tilco.specs.Lists.{total}
 use Rattle.spec_tilco.specs.Inference.{Mark}
 use Rattle.spec_tilco.specs.Table.{factsOf, ReadMarks}
 use Rattle.spec_tilco.specs.Calls.{Some}
 use Rattle.read_sheet.specs.Sheet.{Contents, meant}
-use Rattle.read_readings.specs.Readings.{readings}
+use Rattle.read_reading.specs.Spans.{Span}
+use Rattle.read_reading.specs.OneEntry.{entry}
+use Rattle.read_readings.specs.Readings.{inSpans, readings}
+use Rattle.read_readings.proofs.Turns.{every}
 use Rattle.read_readings.proofs.Cuts.{AllAccepted, parts-accepted}
 use Rattle.read_readings.proofs.Cuts.AllAccepted.{none, one}
+use Rattle.spec_grammar.specs.Lines.{after}
 use Rattle.spec_grammar.specs.ReadingLines.{Next, Reached}
 use Rattle.spec_grammar.specs.ReadingLines.Reached.{start, line}
-use Rattle.spec_grammar.proofs.ReadingLines.{readings-accepted}
+use Rattle.spec_grammar.proofs.ReadingLines.{form-told, reached-reads}
 use Rattle.spec_grammar.proofs.Prefixes.{reached-narrow}
 use Rattle.open_sheet.specs.Results.{Result, accepted, refused}
 use Rattle.open_sheet.specs.SheetIn.{sheetIn, namesIn, blank}
@@ -30,7 +36,7 @@ use Rattle.list_settled.proofs.Printing.{refused-keeps}
 use Rattle.proof_demands.specs.Refusals.{SheetAccepted, ReadingsAccepted}
 use Rattle.proof_demands.specs.Runs.{RunTexts, newIn}
 use Rattle.proof_demands.specs.Runs.RunTexts.{done, call}
-use Rattle.proof_demands.specs.Cuts.{Boundary, first, third-line, CutInto, Given, given, RunCalls, PartsOrRefused, InCalls}
+use Rattle.proof_demands.specs.Cuts.{Boundary, first, last-line, CutInto, Given, given, RunCalls, PartsOrRefused, InCalls}
 use Rattle.proof_demands.specs.Cuts.RunCalls.{done as no-call, call as one-call}
 use Rattle.proof_demands.specs.Cuts.PartsOrRefused.{none as no-more, part, refusal}
 use Rattle.proof_demands.proofs.Refusals.{in-sheet-text, readings-in, in-readings}
@@ -40,10 +46,11 @@ use Rattle.proof_demands.proofs.LastTable.{by-marks, news-add-up}
 
 -- ---- the parts
 
--- At a boundary the lines before it are right, and an entry comes next.
-boundary-reached : {names : List (List ℕ)} {W p : ℕ} {R : List ℕ} → Boundary names W R p → (ms : List Mark) × Reached names W R (Next.at ms) p
+-- At a boundary the lines before it are right, in the text's form, and an entry comes next.
+boundary-reached : {names : List (List ℕ)} {W p : ℕ} {R : List ℕ} → Boundary names W R p → (es : List Span) × Reached (inSpans R) names W R (Next.ticks es) p
 boundary-reached first = ([], start)
-boundary-reached (third-line {ns = ns} b a d) = (ns, line b a d)
+boundary-reached {names} {W} {R = R} (last-line {p = p} {ds = ds} {v = v} h b a d) =
+    (ds, subst (λ (form : Bool). Reached form names W R (Next.ticks ds) (after p (bytes "value=" ++ v))) (sym (form-told h)) (line b a d))
 
 -- A text in parts, up to one of them and from there on.
 in-two : (n : ℕ) (parts : List (List ℕ)) → flatten (take n parts) ++ flatten (drop n parts) ≡ flatten parts
@@ -53,15 +60,17 @@ in-two (suc n) [] = refl
 in-two (suc n) (r ∷ parts) = append-assoc r (flatten (take n parts)) (flatten (drop n parts)) ∙ ap (λ (x : List ℕ). r ++ x) (in-two n parts)
 
 module _ {s : List ℕ} {k : Contents} {R : List ℕ} {ms : List Mark} {parts : List (List ℕ)} (y : ReadingsAccepted s k R ms) (c : CutInto s k R parts) where
-  -- Up to a boundary the text is accepted.
-  up-to : (n : ℕ) → n < length parts → (ns : List Mark) × (readings (namesIn s k) (k .window) (flatten (take n parts)) ≡ got ns (length (flatten (take n parts))))
+  -- Up to a boundary the text's entries are read, in the whole text's form.
+  up-to : (n : ℕ) → n < length parts
+      → (es : List Span) × (every (entry (inSpans (flatten parts)) (namesIn s k) (k .window) (flatten (take n parts))) (flatten (take n parts)) ≡ got es (length (flatten (take n parts))))
   up-to n l =
       let left : List ℕ = flatten (take n parts) in
       let right : List ℕ = flatten (drop n parts) in
       let whole : left ++ right ≡ R = in-two n parts ∙ c .joined in
       let b = boundary-reached (c .begin n l) in
-      let z = reached-narrow left right (subst (λ (x : List ℕ). Reached (namesIn s k) (k .window) x (Next.at (b .0)) (length left)) (sym whole) (b .1)) (omega arith) in
-      (b .0, readings-accepted (namesIn s k) (k .window) left (omega (arith, length-append left right, ap length whole, y .short)) (b .0) .1 z)
+      let z = reached-narrow left right (subst (λ (x : List ℕ). Reached (inSpans R) (namesIn s k) (k .window) x (Next.ticks (b .0)) (length left)) (sym whole) (b .1)) (omega arith) in
+      let reads = reached-reads (namesIn s k) (k .window) left (inSpans R) z in
+      (b .0, subst (λ (form : Bool). every (entry form (namesIn s k) (k .window) left) left ≡ got (b .0) (length left)) (ap inSpans (sym (c .joined))) reads)
 
   all-parts : (mss : List (List Mark)) × AllAccepted (namesIn s k) (k .window) parts mss × (flatten mss ≡ ms)
   all-parts =

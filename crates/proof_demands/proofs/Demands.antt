@@ -157,14 +157,16 @@ pub record ListingHolds (names : List (List ℕ)) (l : List ℕ) (h : History) :
 
 pub record Demand3 : Type 0 where
   -- "Start from an empty table with an accepted sheet. Cut an accepted list of readings into one or more calls of add at any boundary between
-  -- readings, in any order, repeats and refused calls among them: the last table is the same, and the facts newly reported add up to the facts in it."
+  -- readings, in any order, repeats and refused calls among them: the last table is the same, and the facts newly reported add up to the facts in it." In
+  -- a text of spans cuts fall between spans (E5).
   pub cut : {s R : List ℕ} {k : Contents} {ms : List Mark} {parts : List (List ℕ)} {cs : List Given} {U : List ℕ} {answers : List (Result Gain)}
       → SheetAccepted s k → ReadingsAccepted s k R ms → CutInto s k R parts → RunCalls (blank k) cs U answers → InCalls s parts cs answers → AsOneCall s k R U answers
   -- Each part is accepted by itself, and there are such calls.
   pub parts : {s R : List ℕ} {k : Contents} {ms : List Mark} {parts : List (List ℕ)} → SheetAccepted s k → ReadingsAccepted s k R ms → CutInto s k R parts
       → (r : List ℕ) → List·Memᴰ r parts → (ns : List Mark) × ReadingsAccepted s k r ns
   pub calls : (k : Contents) (cs : List Given) → (U : List ℕ) × (answers : List (Result Gain)) × RunCalls (blank k) cs U answers
-  -- However readings are put into texts, with an accepted one at least: the same readings end in one table. And after any calls the facts reported add up.
+  -- However readings are put into texts, single ones, spans or both, with an accepted text at least: the same marks end in one table. And after any calls
+  -- the facts reported add up.
   pub same-readings : {s : List ℕ} {k : Contents} {rs rs′ : List (List ℕ)} {U U′ : List ℕ} {answers answers′ : List (Result Gain)} {r r′ : List ℕ} {ms ms′ : List Mark}
       → FromBlank s k rs U answers → FromBlank s k rs′ U′ answers′ → List·Memᴰ r rs → ReadingsAccepted s k r ms → List·Memᴰ r′ rs′ → ReadingsAccepted s k r′ ms′
       → ((m : Mark) → ReadIn s k rs m ↔ ReadIn s k rs′ m) → U ≡ U′

@@ -2,7 +2,7 @@
 -- Assumes nothing.
 use mathlib.Core.Path.{_≡_, refl, sym, ap, _∙_, subst}
 use mathlib.Core.Bool.{Bool, true, false, true≢false}
-use mathlib.Core.List.{List, [], _∷_, List·Memᴰ·head, List·Memᴰ·not-nil, List·Memᴰ·cases-cons}
+use mathlib.Core.List.{List, [], _∷_, flatten, List·Memᴰ·head, List·Memᴰ·not-nil, List·Memᴰ·cases-cons}
 use mathlib.Core.Logic.{inl, inr, ⊎-elim}
 use Prim.Native.Nat.{ℕ, _-_}
 use native.Mathlib.Omega.{arith}
@@ -22,8 +22,9 @@ use Rattle.spec_tilco.proofs.At.{at-getD}
 use Rattle.spec_tilco.proofs.Demand2.{added-keeps}
 use Rattle.read_head.specs.SheetHead.{signalLine, head}
 use Rattle.read_sheet.specs.Sheet.{ruleTo, ruleLine, rules, Contents, contents, sheetOf, meant}
-use Rattle.read_reading.specs.OneReading.{knownLine, reading}
-use Rattle.read_readings.specs.Readings.{readings}
+use Rattle.read_reading.specs.Spans.{marksFrom, marksOf, marksOfAll}
+use Rattle.read_reading.specs.OneEntry.{knownLine, entry}
+use Rattle.read_readings.specs.Readings.{inSpans, entries, readings}
 use Rattle.open_sheet.specs.Results.{Result, accepted, refused}
 use Rattle.spec_operations.specs.Gain.{Gain, gain}
 use Rattle.open_sheet.specs.SheetIn.{sheetIn, namesIn, blank}
@@ -60,11 +61,11 @@ pub sheet-accepted : sheetIn sheet-text ≡ accepted sheet
 sheet-accepted = in-fits sheet-text reads (omega arith) (omega arith)
 
 pub true-read : readings (namesIn sheet-text sheet) 1 true-text ≡ got (mark 0 0 true ∷ []) 22
-unfolding peek classOf nameByte starts run runAt runEnd namesAt sameText findName isSpelled every endDigits decimal isEndNumber numberOf wellEnded nameAt digits number inLine line numberLine rangedLine nameLine upTo knownLine reading readings
+unfolding peek classOf nameByte starts run runAt runEnd namesAt sameText findName isSpelled every endDigits decimal isEndNumber numberOf wellEnded nameAt digits number inLine line numberLine rangedLine nameLine upTo knownLine entry inSpans entries marksFrom marksOf flatten marksOfAll readings
 true-read = refl
 
 pub false-read : readings (namesIn sheet-text sheet) 1 false-text ≡ got (mark 0 0 false ∷ []) 22
-unfolding peek classOf nameByte starts run runAt runEnd namesAt sameText findName isSpelled every endDigits decimal isEndNumber numberOf wellEnded nameAt digits number inLine line numberLine rangedLine nameLine upTo knownLine reading readings
+unfolding peek classOf nameByte starts run runAt runEnd namesAt sameText findName isSpelled every endDigits decimal isEndNumber numberOf wellEnded nameAt digits number inLine line numberLine rangedLine nameLine upTo knownLine entry inSpans entries marksFrom marksOf flatten marksOfAll readings
 false-read = refl
 
 -- What an add of the first readings to the table without a mark has to make of it.

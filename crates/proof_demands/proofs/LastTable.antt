@@ -41,7 +41,7 @@ module _ {s : List ℕ} {k : Contents} {rs : List (List ℕ)} {U : List ℕ} {an
     pub by-marks : Some (calls s k rs) → Some (calls s k rs′) → ((m : Mark) → ReadMarks (marksIn s k rs) m ↔ ReadMarks (marksIn s k rs′) m) → U ≡ U′
     by-marks c c′ same = cuts-change-nothing (meant k) (window-some s k (in-sheet-text s (x .sheet))) (tableWords (meant k)) (as-run x .run) c (as-run x′ .run) c′ same
 
-    -- and so do two with the same readings, where a text of each is accepted.
+    -- and so do two with the same readings, where a text of each is accepted. Calls of both forms mix: what counts is the marks, whatever the form of each text.
     pub by-readings : {r r′ : List ℕ} {ms ms′ : List Mark} → List·Memᴰ r rs → ReadingsAccepted s k r ms → List·Memᴰ r′ rs′ → ReadingsAccepted s k r′ ms′
         → ((m : Mark) → ReadIn s k rs m ↔ ReadIn s k rs′ m) → U ≡ U′
     by-readings i y i′ y′ same =

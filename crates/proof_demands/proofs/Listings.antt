@@ -22,11 +22,11 @@ use Rattle.spec_tilco.specs.Table.{Standing, factsOf, Answer, Unsettled, True, 
 use Rattle.read_sheet.specs.Sheet.{Contents, meant}
 use Rattle.write_bytes.specs.Writes.{lastDigits, decimalText}
 use Rattle.write_bytes.proofs.Decimals.{digits-one, digits-then}
-use Rattle.write_lines.specs.LineTexts.{lineText}
+use Rattle.write_lines.specs.LineTexts.{oneIf, lineText}
 use Rattle.list_order.specs.Order.{inOrder}
 use Rattle.list_order.proofs.Sorting.{order-within}
 use Rattle.list_signals.specs.Signals.{signByte, signs, signalText, signalsText}
-use Rattle.list_table.specs.Listing.{oneIf, headText, listingText, refusalText}
+use Rattle.list_table.specs.Listing.{headText, listingText, refusalText}
 use Rattle.list_settled.specs.Prints.{Settles}
 use Rattle.list_settled.proofs.InOrder.{names-declarable}
 use Rattle.list_settled.proofs.EmptyTable.{Shown, refusal, listing, shown as shown-by}

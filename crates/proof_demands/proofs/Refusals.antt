@@ -41,7 +41,7 @@ use Rattle.open_sheet.proofs.Sheets.{in-refused, in-fits, in-over}
 use Rattle.proof_demands.specs.Refusals.{SheetReads, SheetAccepted, TakenUp, ReadingsAccepted, SheetRefused, TableRefused, AddRefused, AskRefused, SettleRefused, Unchanged}
 use Rattle.proof_demands.specs.Refusals.SheetRefused.{one, two-to-eight, nine}
 use Rattle.proof_demands.specs.Refusals.TableRefused.{of-the-sheet, fifteen, sixteen}
-use Rattle.proof_demands.specs.Refusals.AddRefused.{up-to-sixteen, ten, eleven-to-fourteen}
+use Rattle.proof_demands.specs.Refusals.AddRefused.{up-to-sixteen, ten, line-by-line}
 use Rattle.proof_demands.specs.Refusals.AskRefused.{up-to-sixteen as up-to-the-table, seventeen}
 use Rattle.proof_demands.specs.Refusals.SettleRefused.{up-to-nine, twenty-nine, ten-to-sixteen}
 use Rattle.spec_operations.proofs.Determined.{refused-alike}
@@ -185,7 +185,7 @@ module _ {s r T : List ℕ} where
     where
       go : Dec (mostBytes < length r) → AddRefused s r T n p
       go (yes l) = same-refusal (AddRefused s r T) (sym (readings-long (namesIn s k) (k .window) r l) ∙ e) (ten x l)
-      go (no l) = eleven-to-fourteen x (omega arith) (readings-refused (namesIn s k) (k .window) r (omega arith) n p .0 e)
+      go (no l) = line-by-line x (omega arith) (readings-refused (namesIn s k) (k .window) r (omega arith) n p .0 e)
 
 module _ {s r T U : List ℕ} where
   add-case : {n p : ℕ} → Adds s r T U (refused n p) → AddRefused s r T n p × Unchanged T U
@@ -195,7 +195,7 @@ module _ {s r T U : List ℕ} where
   case-add : {n p : ℕ} → AddRefused s r T n p → U ≡ T → Adds s r T U (refused n p)
   case-add (up-to-sixteen x) e = not-opened (case-table x) e
   case-add (ten {k} x l) e = not-read (up-taken x) (readings-long (namesIn s k) (k .window) r l) e
-  case-add (eleven-to-fourteen {k} {n} {p} x l f) e = not-read (up-taken x) (readings-refused (namesIn s k) (k .window) r l n p .1 f) e
+  case-add (line-by-line {k} {n} {p} x l f) e = not-read (up-taken x) (readings-refused (namesIn s k) (k .window) r l n p .1 f) e
 
   -- add's, which keep the table.
   pub add-refusals : {n p : ℕ} → Adds s r T U (refused n p) ↔ (AddRefused s r T n p × Unchanged T U)

@@ -1,23 +1,25 @@
--- Calls of add on one table, and a readings text cut between readings into the texts of such calls (demand 3).
--- Assumes nothing. `s` is the sheet's text and k its contents, R a readings text.
+-- Calls of add on one table, and a readings text cut between readings, or between spans, into the texts of such calls (demand 3; E5).
+-- Assumes nothing. `s` is the sheet's text and k its contents, R a readings text; `spans` tells its form.
 use mathlib.Core.Path.{_≡_}
+use mathlib.Core.Bool.{Bool}
 use mathlib.Core.List.{List, [], _∷_, _++_, flatten, List·Memᴰ}
 use Prim.Native.Nat.{ℕ, _≤_, _<_}
 use lib.ListN.{length, take}
 use Rattle.read_bytes.specs.Bytes.{bytes}
-use Rattle.spec_tilco.specs.Inference.{Mark}
+use Rattle.read_reading.specs.Spans.{Span}
 use Rattle.read_sheet.specs.Sheet.{Contents}
 use Rattle.open_sheet.specs.Results.{Result, refused}
 use Rattle.open_sheet.specs.SheetIn.{namesIn}
 use Rattle.spec_operations.specs.Gain.{Gain}
 use Rattle.spec_operations.specs.Operations.{Adds}
 use Rattle.spec_grammar.specs.Lines.{LineAt, after}
-use Rattle.spec_grammar.specs.ReadingLines.{Next, Right, Reached}
+use Rattle.spec_grammar.specs.ReadingLines.{HasForm, Next, Right, Reached}
 
--- "Any boundary between readings": the first place, and the place after each reading's third line. All lines before it are right.
+-- "Any boundary between readings", or between spans: the first place, and the place after each entry's last line. All lines before it are right.
 pub data Boundary (names : List (List ℕ)) (W : ℕ) (R : List ℕ) : ℕ → Type 0 where
   first : Boundary names W R 0
-  third-line : {p t x : ℕ} {ms ns : List Mark} {v : List ℕ} → Reached names W R (Next.value t x ms) p → LineAt R p (bytes "value=" ++ v) → Right names W (Next.value t x ms) v (Next.at ns)
+  last-line : {spans : Bool} {p f l x : ℕ} {es ds : List Span} {v : List ℕ} → HasForm R spans → Reached spans names W R (Next.value f l x es) p → LineAt R p (bytes "value=" ++ v)
+      → Right spans names W (Next.value f l x es) v (Next.ticks ds)
       → Boundary names W R (after p (bytes "value=" ++ v))
 
 -- R is cut into these parts, "one or more": joined they are R, and each begins at a boundary.

@@ -16,8 +16,7 @@ use Rattle.read_sheet.specs.Sheet.{Contents, meant}
 use Rattle.open_sheet.specs.SheetIn.{namesIn}
 use Rattle.spec_grammar.specs.SheetLines as sheets
 use Rattle.spec_grammar.specs.SheetLines.{SheetFault}
-use Rattle.spec_grammar.specs.ReadingLines as taking
-use Rattle.spec_grammar.specs.ReadingLines.{ReadingsFault}
+use Rattle.spec_grammar.specs.ReadingLines.{ReadingsRead, ReadingsFault}
 
 -- ---- what is accepted
 
@@ -38,10 +37,10 @@ pub record TakenUp (s T : List ℕ) (k : Contents) : Type 0 where
   pub long : length T ≡ tableWords (meant k)
   pub inside : (row tick : ℕ) (v : Bool) → Standing (meant k) T (mark row tick v) → tick < k .window
 
--- Each line of the readings is right, up to the end, and they say these marks. "At most 32,768 bytes."
+-- Each line of the readings is right in their form, up to the end, and they say these marks. "At most 32,768 bytes."
 pub record ReadingsAccepted (s : List ℕ) (k : Contents) (r : List ℕ) (ms : List Mark) : Type 0 where
   pub short : length r ≤ mostBytes
-  pub lines : taking.Reached (namesIn s k) (k .window) r (taking.Next.at ms) (length r)
+  pub lines : ReadingsRead (namesIn s k) (k .window) r ms
 
 -- ---- what is refused
 
@@ -58,11 +57,11 @@ pub data TableRefused (s T : List ℕ) : ℕ → ℕ → Type 0 where
   sixteen : {k : Contents} (row tick : ℕ) (v : Bool) → SheetAccepted s k → length T ≡ tableWords (meant k)
       → Standing (meant k) T (mark row tick v) → k .window ≤ tick → TableRefused s T 16 0
 
--- add's: the sheet's and the table's, "then 10 and the readings line by line".
+-- add's: the sheet's and the table's, "then 10 and the readings line by line": 11 to 14 and 21.
 pub data AddRefused (s r T : List ℕ) : ℕ → ℕ → Type 0 where
   up-to-sixteen : {n p : ℕ} → TableRefused s T n p → AddRefused s r T n p
   ten : {k : Contents} → TakenUp s T k → mostBytes < length r → AddRefused s r T 10 0
-  eleven-to-fourteen : {k : Contents} {n p : ℕ} → TakenUp s T k → length r ≤ mostBytes → ReadingsFault (namesIn s k) (k .window) r n p → AddRefused s r T n p
+  line-by-line : {k : Contents} {n p : ℕ} → TakenUp s T k → length r ≤ mostBytes → ReadingsFault (namesIn s k) (k .window) r n p → AddRefused s r T n p
 
 -- ask's: the sheet's and the table's, "then 17".
 pub data AskRefused (s T : List ℕ) (x t : ℕ) : ℕ → ℕ → Type 0 where

@@ -16,8 +16,9 @@ use Rattle.spec_ticks.proofs.Tables.{same-table}
 use Rattle.spec_tilco.specs.Inference.{Mark, mark}
 use Rattle.read_readings.specs.declared.whole.Outcome.{Outcome}
 use Rattle.read_readings.specs.declared.whole.Outcome.the-variants.{Accepted, Refused}
-use Rattle.read_readings.specs.MarkNumbers.{marksIn, ReadingsNoted}
-use Rattle.read_readings.specs.MarkNumbers.ReadingsNoted.{all-noted, refused-at}
+use Rattle.read_reading.specs.Spans.{Span}
+use Rattle.read_readings.specs.SpanNumbers.{spansIn, EntriesNoted}
+use Rattle.read_readings.specs.SpanNumbers.EntriesNoted.{all-noted, refused-at}
 use Rattle.table_marks.specs.Puts.{Puts}
 use Rattle.read_readings.specs.TakeReadings.{ReadingsTaken}
 use Rattle.read_readings.specs.TakeReadings.ReadingsTaken.{taken, kept}
@@ -27,20 +28,20 @@ use Rattle.table_marks.proofs.Marks.{puts-same}
 other-outcome : {k p : ℕ} → Accepted ≡ Refused k p → ⊥
 other-outcome e = let z : _≡_ {A = ℕ} 0 1 = cc in omega arith
 
--- A refused text leaves the table as it is.
-pub not-taken : {R : Read (List Mark)} {a : List ℕ} {v : Step} {k p : ℕ} (n : ℕ) (T : List ℕ) → ReadingsNoted R a v → v ≡ step.Refused k p → ReadingsTaken R n T T (Refused k p)
-not-taken n T (all-noted j q l e) x = absurd (not-both (ap says x))
-not-taken {k = k} {p = p} n T (refused-at j q e) x =
+-- A text that is refused, where its entries were to be noted, is refused where they are to be taken.
+pub not-noted : {R : Read (List Span)} {a : List ℕ} {v : Step} {k p : ℕ} → EntriesNoted R a v → v ≡ step.Refused k p → R ≡ refused k p
+not-noted (all-noted j q l e) x = absurd (not-both (ap says x))
+not-noted {k = k} {p = p} (refused-at j q e) x =
     let i : j ≡ k = cc in
     let h : q ≡ p = cc in
-    kept k p (cc) refl
+    cc
 
--- The marks of an accepted text are in the array.
-pub record Noted-as (R : Read (List Mark)) (a : List ℕ) (k q : ℕ) : Type 0 where
+-- The entries of an accepted text are in the array.
+pub record Noted-as (R : Read (List Span)) (a : List ℕ) (k q : ℕ) : Type 0 where
   pub few : k ≤ length a
-  pub all : R ≡ got (marksIn a k) q
+  pub all : R ≡ got (spansIn a k) q
 
-pub when-noted : {R : Read (List Mark)} {a : List ℕ} {v : Step} {k q : ℕ} → ReadingsNoted R a v → v ≡ step.Got k q → Noted-as R a k q
+pub when-noted : {R : Read (List Span)} {a : List ℕ} {v : Step} {k q : ℕ} → EntriesNoted R a v → v ≡ step.Got k q → Noted-as R a k q
 when-noted {a = a} {k = k} {q = q} (all-noted j u l e) x =
     let i : j ≡ k = cc in
     let h : u ≡ q = cc in

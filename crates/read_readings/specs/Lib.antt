@@ -1,4 +1,4 @@
 -- The definitions that the contracts cite, lowest layer first.
 pub mod Readings
-pub mod MarkNumbers
+pub mod SpanNumbers
 pub mod TakeReadings

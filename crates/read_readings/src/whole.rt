@@ -1,9 +1,10 @@
 // The readings of a whole text: it is read once, and no mark is put before all are accepted. Assumes nothing of the text.
 use crate::noted::number_of;
 use crate::noted::put_noted;
+use read_bytes::bytes::starts_at;
 use read_lines::Step;
-use read_reading::Reading;
-use read_reading::reading_at;
+use read_reading::Entry;
+use read_reading::entry_at;
 use spec_limits::BYTES;
 use spec_limits::READINGS;
 ghost use mathlib.Core.Path.{_≡_};
@@ -12,9 +13,9 @@ ghost use Rattle.read_lines.specs.declared.Step.the-variants.{Refused};
 ghost use Rattle.read_bytes.specs.Read.{Refusal};
 ghost use Rattle.read_bytes.specs.Read.Read.{refused};
 ghost use Rattle.read_names.specs.Slices.{before, after, namesOf};
-ghost use Rattle.read_reading.specs.OneReading.{readingOf};
-ghost use Rattle.read_readings.specs.Readings.{readings};
-ghost use Rattle.read_readings.specs.MarkNumbers.{CanNote, ReadingsNoted};
+ghost use Rattle.read_reading.specs.OneEntry.{entrySays};
+ghost use Rattle.read_readings.specs.Readings.{entries, readings};
+ghost use Rattle.read_readings.specs.SpanNumbers.{CanNote, EntriesNoted};
 ghost use Rattle.read_readings.specs.TakeReadings.{CanTake, ReadingsTaken};
 
 // A whole text is accepted, or a refusal's number and place are given.
@@ -23,44 +24,47 @@ pub enum Outcome {
     Refused(usize, usize),
 }
 
-// A reading's refusal as the text's. A reading that was taken does not come here.
-fn refused_reading(a: Reading) -> Step
-    requires { ⌜ Refusal (readingOf a) ⌝ }
-    ensures { λ v. ⌜ ((n p : ℕ) → readingOf a ≡ refused n p → v ≡ Refused n p) ⌝ }
+// An entry's refusal as the text's. An entry that was taken does not come here.
+fn refused_entry(a: Entry) -> Step
+    requires { ⌜ Refusal (entrySays a) ⌝ }
+    ensures { λ v. ⌜ ((n p : ℕ) → entrySays a ≡ refused n p → v ≡ Refused n p) ⌝ }
 {
     match a {
-        Reading::Taken {
-            tick,
-            signal: _,
+        Entry::Taken {
+            signal,
             value: _,
+            first: _,
+            last: _,
             next,
-        } => Step::Refused(tick, next),
-        Reading::Refused(n, p) => Step::Refused(n, p),
+        } => Step::Refused(signal, next),
+        Entry::Refused(n, p) => Step::Refused(n, p),
     }
 }
 
-// Notes the mark of each reading of the text: how many there are, and the text's end.
-fn note_readings(s: &[u8], places: &[u64], window: usize, r: &[u8], noted: &mut [u32]) -> Step
+// Notes each entry of the text: how many there are, and the text's end.
+pub fn note_entries(s: &[u8], places: &[u64], window: usize, r: &[u8], noted: &mut [u32]) -> Step
     requires { ⌜ CanNote (now places) window (now noted) ⌝ }
-    ensures { λ v. ⌜ ReadingsNoted (readings (namesOf s places) window (before r)) (after noted) v ⌝ }
+    ensures { λ v. ⌜ EntriesNoted (entries (namesOf s places) window (before r)) (after noted) v ⌝ }
 {
     if BYTES < r.len() {
         return Step::Refused(10, 0);
     }
+    let spans = starts_at(r, 0, b"from=");
     let mut count = 0;
     let mut at = 0;
     while at < r.len() {
-        let a = reading_at(s, places, window, r, at);
-        let Reading::Taken {
-            tick,
+        let a = entry_at(spans, s, places, window, r, at);
+        let Entry::Taken {
             signal,
             value,
+            first,
+            last,
             next,
         } = a
         else {
-            return refused_reading(a);
+            return refused_entry(a);
         };
-        noted[count] = number_of(signal, tick, value);
+        noted[count] = number_of(signal, value, first, last);
         count += 1;
         at = next;
     }
@@ -68,7 +72,7 @@ fn note_readings(s: &[u8], places: &[u64], window: usize, r: &[u8], noted: &mut 
 }
 
 // Takes the readings of the text into the table; at a refusal the table keeps every word.
-// A reading has at least 22 bytes, so a text of 32,768 bytes has at most 1,489. The array starts as ones, which vector stores write: noughts would be
+// An entry has at least 22 bytes, so a text of 32,768 bytes has at most 1,489. The array starts as ones, which vector stores write: noughts would be
 // written by `memset`, a byte an instruction as docs/BENCHMARKS.md counts them.
 pub fn take_readings(
     s: &[u8],
@@ -82,7 +86,7 @@ pub fn take_readings(
     ensures { λ v. ⌜ ReadingsTaken (readings (namesOf s places) window (before r)) n (before table) (after table) v ⌝ }
 {
     let mut noted = [1u32; READINGS];
-    let c = note_readings(s, places, window, r, &mut noted);
+    let c = note_entries(s, places, window, r, &mut noted);
     match c {
         Step::Got(count, _) => {
             put_noted(&noted, count, n, table);

@@ -1,7 +1,7 @@
 -- A name whose end breaks the rule for end numbers (E8): "4 covers the new rule in a signal line; such a name gives 6 in a rule and 12 elsewhere."
 -- Assumes that the text has at most 32,768 bytes. It can't be declared, so in a rule and in readings it is a name that is not.
 use mathlib.Core.Path.{_≡_, refl, sym, subst, _∙_}
-use mathlib.Core.Bool.{true, false, true≢false}
+use mathlib.Core.Bool.{Bool, true, false, true≢false}
 use mathlib.Core.List.{List, [], _∷_, _++_}
 use Prim.Native.Nat.{ℕ, suc, _+_, _<_, _≤_}
 use lib.ListN.{length}
@@ -13,9 +13,9 @@ use Rattle.read_names.specs.Spellings.{spellingAt, namesAt, findName}
 use Rattle.read_names.proofs.Names.{find-is, names-append}
 use Rattle.spec_tilco.specs.Lists.{All}
 use Rattle.spec_tilco.proofs.Lists.{all-append, all-nth}
-use Rattle.spec_tilco.specs.Inference.{Mark}
 use Rattle.spec_tilco.specs.Formula.{Written}
 use Rattle.read_sheet.specs.Sheet.{sheetOf}
+use Rattle.read_reading.specs.Spans.{Span}
 use Rattle.read_readings.specs.Readings.{readings}
 use Rattle.spec_grammar.specs.Tokens.{TokenAt, Tokens}
 use Rattle.spec_grammar.specs.Grammar.{Name, Declared}
@@ -75,8 +75,9 @@ module _ (s : List ℕ) where
     ill-ended-in-rule r a l t b n e g first =
         refusal-6 s fits _ .1 (record { next = _; place = p; reached = r; holds = BadFormula.formula a l (record { wrong = Wrong.name t b n (not-declared (reached-ended r) e) g; first = first }) })
 
--- "and 12 elsewhere": in readings.
-pub ill-ended-in-readings : (names : List (List ℕ)) (W : ℕ) (r : List ℕ) → length r ≤ mostBytes → {p t : ℕ} {ms : List Mark} {v : List ℕ}
-    → taking.Reached names W r (taking.Next.signal t ms) p → LineAt r p (bytes "signal=" ++ v) → wellEnded v ≡ false → readings names W r ≡ refused 12 (p + length (bytes "signal="))
-ill-ended-in-readings names W r fits {p} x a e =
-    refusal-12 names W r fits _ .1 (record { next = _; place = p; reached = x; holds = (taking.Unknown.name a (λ y n _. no-signal e n), refl) })
+-- "and 12 elsewhere": in readings of either form.
+pub ill-ended-in-readings : (names : List (List ℕ)) (W : ℕ) (r : List ℕ) → length r ≤ mostBytes → {spans : Bool} {p f l : ℕ} {es : List Span} {v : List ℕ}
+    → taking.HasForm r spans → taking.Reached spans names W r (taking.Next.signal f l es) p → LineAt r p (bytes "signal=" ++ v) → wellEnded v ≡ false
+    → readings names W r ≡ refused 12 (p + length (bytes "signal="))
+ill-ended-in-readings names W r fits {spans} {p} h x a e =
+    refusal-12 names W r fits _ .1 (spans, h, record { next = _; place = p; reached = x; holds = (taking.Unknown.name a (λ y n _. no-signal e n), refl) })

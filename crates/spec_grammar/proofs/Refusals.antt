@@ -1,6 +1,7 @@
 -- The rows of 01's table for texts, one by one: each refusal is given exactly in its case and at its place, at the first line at fault.
 -- Assumes that the text has at most 32,768 bytes, but for 1 and 10.
 use mathlib.Core.Path.{_≡_, refl, sym, ap, subst, _∙_}
+use mathlib.Core.Bool.{Bool, true, false, not}
 use mathlib.Core.Logic.{_↔_, _⊎_, inl, inr, ⊎-elim}
 use mathlib.Core.List.{List}
 use Prim.Native.Nat.{ℕ, _≤_, _<_}
@@ -10,12 +11,19 @@ use borrow.Author.Tests.{lt-leb}
 use lib.ListN.{length}
 use Rattle.spec_limits.specs.Limits.{mostBytes}
 use Rattle.read_bytes.specs.Read.Read.{refused}
+use Rattle.read_bytes.specs.Bytes.{byte, bytes, starts}
+use Rattle.read_bytes.proofs.Places.{inside}
 use Rattle.read_sheet.specs.Sheet.{sheetOf}
+use Rattle.read_reading.specs.Spans.{Span}
+use Rattle.read_reading.specs.OneEntry.{firstKey}
 use Rattle.read_readings.specs.Readings.{readings}
+use Rattle.read_readings.proofs.Turns.{readings-long}
 use Rattle.spec_grammar.specs.RuleFaults.{Wrong}
 use Rattle.spec_grammar.specs.SheetLines as sheets
 use Rattle.spec_grammar.specs.SheetLines.{Unformed, Followed, OutOfRange, BadName, BadLength, BadFormula, Fault, First, valueAt}
 use Rattle.spec_grammar.specs.ReadingLines as taking
+use Rattle.spec_grammar.proofs.Standing.{starts-head}
+use Rattle.spec_grammar.proofs.Lines.{starts-parts}
 use Rattle.spec_grammar.proofs.SheetLines.{sheet-refused}
 use Rattle.spec_grammar.proofs.ReadingLines.{readings-refused}
 
@@ -132,67 +140,101 @@ module _ (s : List ℕ) where
 
 -- ---- readings
 
-long-readings : (names : List (List ℕ)) (W : ℕ) (r : List ℕ) → mostBytes < length r → readings names W r ≡ refused 10 0
-unfolding readings
-long-readings names W r l = rw (lt-leb (length r) mostBytes l)
-
-range-number : {W n p : ℕ} {r : List ℕ} {c : taking.Next} → taking.OutOfRange W r p c n → (n ≡ 13) ⊎ (n ≡ 14)
-range-number (taking.OutOfRange.number taking.Ranged.tick a n b) = inl refl
+range-number : {spans : Bool} {W n p : ℕ} {r : List ℕ} {c : taking.Next} → taking.OutOfRange spans W r p c n → (n ≡ 13) ⊎ (n ≡ 14)
+range-number (taking.OutOfRange.number taking.Ranged.first a n b) = inl refl
+range-number (taking.OutOfRange.number taking.Ranged.last a n b) = inl refl
 range-number (taking.OutOfRange.number taking.Ranged.bit a n b) = inr refl
 
-module _ {names : List (List ℕ)} {W : ℕ} {r : List ℕ} {p : ℕ} {c : taking.Next} where
-  readings-number : {n i : ℕ} → taking.Fault names W r p c n i → 11 ≤ n
+module _ {spans : Bool} {names : List (List ℕ)} {W : ℕ} {r : List ℕ} {p : ℕ} {c : taking.Next} where
+  readings-number : {n i : ℕ} → taking.Fault spans names W r p c n i → 11 ≤ n
   readings-number (taking.Fault.unformed h) = omega arith
   readings-number (taking.Fault.name h) = omega arith
   readings-number (taking.Fault.range h) = ⊎-elim (λ k. omega arith) (λ k. omega arith) (range-number h)
+  readings-number (taking.Fault.to-below h) = omega arith
 
-  eleven : {n i : ℕ} → n ≡ 11 → taking.Fault names W r p c n i → taking.Unformed W r p c × (i ≡ p)
+  eleven : {n i : ℕ} → n ≡ 11 → taking.Fault spans names W r p c n i → taking.Unformed spans W r p c × (i ≡ p)
   eleven e (taking.Fault.unformed h) = (h, refl)
   eleven e (taking.Fault.name h) = absurd (omega arith)
   eleven e (taking.Fault.range h) = absurd (⊎-elim (λ k. omega arith) (λ k. omega arith) (range-number h))
+  eleven e (taking.Fault.to-below h) = absurd (omega arith)
 
-  twelve : {n i : ℕ} → n ≡ 12 → taking.Fault names W r p c n i → taking.Unknown names r p c × (i ≡ taking.valueAt c p)
+  twelve : {n i : ℕ} → n ≡ 12 → taking.Fault spans names W r p c n i → taking.Unknown names r p c × (i ≡ taking.valueAt spans c p)
   twelve e (taking.Fault.unformed h) = absurd (omega arith)
   twelve e (taking.Fault.name h) = (h, refl)
   twelve e (taking.Fault.range h) = absurd (⊎-elim (λ k. omega arith) (λ k. omega arith) (range-number h))
+  twelve e (taking.Fault.to-below h) = absurd (omega arith)
 
-  ranged : {n i : ℕ} → 12 < n → taking.Fault names W r p c n i → taking.OutOfRange W r p c n × (i ≡ taking.valueAt c p)
-  ranged e (taking.Fault.unformed h) = absurd (omega arith)
-  ranged e (taking.Fault.name h) = absurd (omega arith)
+  ranged : {n i : ℕ} → (n ≡ 13) ⊎ (n ≡ 14) → taking.Fault spans names W r p c n i → taking.OutOfRange spans W r p c n × (i ≡ taking.valueAt spans c p)
+  ranged e (taking.Fault.unformed h) = absurd (⊎-elim (λ k. omega arith) (λ k. omega arith) e)
+  ranged e (taking.Fault.name h) = absurd (⊎-elim (λ k. omega arith) (λ k. omega arith) e)
   ranged e (taking.Fault.range h) = (h, refl)
+  ranged e (taking.Fault.to-below h) = absurd (⊎-elim (λ k. omega arith) (λ k. omega arith) e)
+
+  twenty-one : {n i : ℕ} → n ≡ 21 → taking.Fault spans names W r p c n i → taking.Below W r p c × (i ≡ taking.valueAt spans c p)
+  twenty-one e (taking.Fault.unformed h) = absurd (omega arith)
+  twenty-one e (taking.Fault.name h) = absurd (omega arith)
+  twenty-one e (taking.Fault.range h) = absurd (⊎-elim (λ k. omega arith) (λ k. omega arith) (range-number h))
+  twenty-one e (taking.Fault.to-below h) = (h, refl)
+
+-- The two forms' first keys do not stand at one place,
+other-key : (spans : Bool) (r : List ℕ) (p : ℕ) → starts r p (firstKey (not spans)) ≡ true → starts r p (firstKey spans) ≡ true → ⊥
+other-key false r p h k = let a = starts-head r p (byte "f") (bytes "rom=") h in let b = starts-head r p (byte "a") (bytes "t=") k in absurd (omega arith)
+other-key true r p h k = let a = starts-head r p (byte "a") (bytes "t=") h in let b = starts-head r p (byte "f") (bytes "rom=") k in absurd (omega arith)
+
+-- and where one stands bytes are left.
+other-inside : (spans : Bool) (r : List ℕ) (p : ℕ) → starts r p (firstKey (not spans)) ≡ true → p < length r
+other-inside false r p h = let a = starts-head r p (byte "f") (bytes "rom=") h in inside r p (λ e. absurd (omega arith))
+other-inside true r p h = let a = starts-head r p (byte "a") (bytes "t=") h in inside r p (λ e. absurd (omega arith))
+
+-- The first line at fault of a text in its form: of what comes next at its place Q holds.
+abbrev pub FirstIn : List (List ℕ) → ℕ → List ℕ → (Bool → taking.Next → ℕ → Type 0) → Type 0
+FirstIn names W r Q = (spans : Bool) × taking.HasForm r spans × taking.First spans names W r (Q spans)
 
 module _ (names : List (List ℕ)) (W : ℕ) (r : List ℕ) where
   -- "Readings over their length": 0.
   pub refusal-10 : (i : ℕ) → (readings names W r ≡ refused 10 i) ↔ ((mostBytes < length r) × (i ≡ 0))
-  refusal-10 i = (λ e. go (decLt mostBytes (length r)) e, λ h. long-readings names W r (h .0) ∙ ap (refused 10) (sym (h .1)))
+  refusal-10 i = (λ e. go (decLt mostBytes (length r)) e, λ h. readings-long names W r (h .0) ∙ ap (refused 10) (sym (h .1)))
     where
       go : Dec (mostBytes < length r) → readings names W r ≡ refused 10 i → (mostBytes < length r) × (i ≡ 0)
-      go (yes l) e = (l, (let z = sym e ∙ long-readings names W r l in let k : i ≡ 0 = cc in k))
-      go (no l) e = let f = readings-refused names W r (omega arith) 10 i .0 e in let k = readings-number (f .holds) in absurd (omega arith)
+      go (yes l) e = (l, (let z = sym e ∙ readings-long names W r l in let k : i ≡ 0 = cc in k))
+      go (no l) e = let f = readings-refused names W r (omega arith) 10 i .0 e in let k = readings-number (f .first .holds) in absurd (omega arith)
 
   module _ (fits : length r ≤ mostBytes) where
-    readings-row : (n i : ℕ) (Q : taking.Next → ℕ → Type 0) → ((c : taking.Next) (p : ℕ) → taking.Fault names W r p c n i → Q c p) → ((c : taking.Next) (p : ℕ) → Q c p → taking.Fault names W r p c n i)
-        → (readings names W r ≡ refused n i) ↔ taking.First names W r Q
-    readings-row n i Q f g = (λ e. map _ Q f (readings-refused names W r fits n i .0 e), λ h. readings-refused names W r fits n i .1 (map Q _ g h))
+    readings-row : (n i : ℕ) (Q : Bool → taking.Next → ℕ → Type 0) → ((spans : Bool) (c : taking.Next) (p : ℕ) → taking.Fault spans names W r p c n i → Q spans c p)
+        → ((spans : Bool) (c : taking.Next) (p : ℕ) → Q spans c p → taking.Fault spans names W r p c n i) → (readings names W r ≡ refused n i) ↔ FirstIn names W r Q
+    readings-row n i Q f g = (
+      λ e. (let h = readings-refused names W r fits n i .0 e in (h .spans, h .form, map (h .spans) _ (Q (h .spans)) (f (h .spans)) (h .first))),
+      λ h. readings-refused names W r fits n i .1 (record { spans = h .0; form = h .1; first = map (h .0) (Q (h .0)) _ (g (h .0)) (h .2) }),
+    )
       where
-        map : (P Q : taking.Next → ℕ → Type 0) → ((c : taking.Next) (p : ℕ) → P c p → Q c p) → taking.First names W r P → taking.First names W r Q
-        map P Q f h = record { next = h .next; place = h .place; reached = h .reached; holds = f (h .next) (h .place) (h .holds) }
+        map : (spans : Bool) (P Q : taking.Next → ℕ → Type 0) → ((c : taking.Next) (p : ℕ) → P c p → Q c p) → taking.First spans names W r P → taking.First spans names W r Q
+        map spans P Q f h = record { next = h .next; place = h .place; reached = h .reached; holds = f (h .next) (h .place) (h .holds) }
 
-    at-value : {n i j p : ℕ} {c : taking.Next} → i ≡ j → taking.Fault names W r p c n j → taking.Fault names W r p c n i
-    at-value {n} {p = p} {c} e f = subst (taking.Fault names W r p c n) (sym e) f
+    at-value : {spans : Bool} {n i j p : ℕ} {c : taking.Next} → i ≡ j → taking.Fault spans names W r p c n j → taking.Fault spans names W r p c n i
+    at-value {spans} {n} {p = p} {c} e f = subst (taking.Fault spans names W r p c n) (sym e) f
 
     -- "A readings line is missing, not of its form or without LF": "as for 2".
-    pub refusal-11 : (i : ℕ) → (readings names W r ≡ refused 11 i) ↔ taking.First names W r (λ c p. taking.Unformed W r p c × (i ≡ p))
-    refusal-11 i = readings-row 11 i _ (λ c p f. eleven refl f) (λ c p h. at-value (h .1) (taking.Fault.unformed (h .0)))
+    pub refusal-11 : (i : ℕ) → (readings names W r ≡ refused 11 i) ↔ FirstIn names W r (λ spans c p. taking.Unformed spans W r p c × (i ≡ p))
+    refusal-11 i = readings-row 11 i _ (λ spans c p f. eleven refl f) (λ spans c p h. at-value (h .1) (taking.Fault.unformed (h .0)))
 
     -- "Unknown name": "first byte of the value".
-    pub refusal-12 : (i : ℕ) → (readings names W r ≡ refused 12 i) ↔ taking.First names W r (λ c p. taking.Unknown names r p c × (i ≡ taking.valueAt c p))
-    refusal-12 i = readings-row 12 i _ (λ c p f. twelve refl f) (λ c p h. at-value (h .1) (taking.Fault.name (h .0)))
+    pub refusal-12 : (i : ℕ) → (readings names W r ≡ refused 12 i) ↔ FirstIn names W r (λ spans c p. taking.Unknown names r p c × (i ≡ taking.valueAt spans c p))
+    refusal-12 i = readings-row 12 i _ (λ spans c p f. twelve refl f) (λ spans c p h. at-value (h .1) (taking.Fault.name (h .0)))
 
     -- "Tick outside the window": "first byte of the value".
-    pub refusal-13 : (i : ℕ) → (readings names W r ≡ refused 13 i) ↔ taking.First names W r (λ c p. taking.OutOfRange W r p c 13 × (i ≡ taking.valueAt c p))
-    refusal-13 i = readings-row 13 i _ (λ c p f. ranged (omega arith) f) (λ c p h. at-value (h .1) (taking.Fault.range (h .0)))
+    pub refusal-13 : (i : ℕ) → (readings names W r ≡ refused 13 i) ↔ FirstIn names W r (λ spans c p. taking.OutOfRange spans W r p c 13 × (i ≡ taking.valueAt spans c p))
+    refusal-13 i = readings-row 13 i _ (λ spans c p f. ranged (inl refl) f) (λ spans c p h. at-value (h .1) (taking.Fault.range (h .0)))
 
     -- "Value is a number other than 0 or 1": "first byte of the value".
-    pub refusal-14 : (i : ℕ) → (readings names W r ≡ refused 14 i) ↔ taking.First names W r (λ c p. taking.OutOfRange W r p c 14 × (i ≡ taking.valueAt c p))
-    refusal-14 i = readings-row 14 i _ (λ c p f. ranged (omega arith) f) (λ c p h. at-value (h .1) (taking.Fault.range (h .0)))
+    pub refusal-14 : (i : ℕ) → (readings names W r ≡ refused 14 i) ↔ FirstIn names W r (λ spans c p. taking.OutOfRange spans W r p c 14 × (i ≡ taking.valueAt spans c p))
+    refusal-14 i = readings-row 14 i _ (λ spans c p f. ranged (inr refl) f) (λ spans c p h. at-value (h .1) (taking.Fault.range (h .0)))
+
+    -- "21 when `to` is below `from`, at the `to` value, after 13 on that line."
+    pub refusal-21 : (i : ℕ) → (readings names W r ≡ refused 21 i) ↔ FirstIn names W r (λ spans c p. taking.Below W r p c × (i ≡ taking.valueAt spans c p))
+    refusal-21 i = readings-row 21 i _ (λ spans c p f. twenty-one refl f) (λ spans c p h. at-value (h .1) (taking.Fault.to-below (h .0)))
+
+    -- "A mixed text is 11": at the first line that has to begin an entry of the text's form, and begins with the other form's first key.
+    pub mixed-text : {spans : Bool} {es : List Span} {p : ℕ} → taking.HasForm r spans → taking.Reached spans names W r (taking.Next.ticks es) p → starts r p (firstKey (not spans)) ≡ true
+        → readings names W r ≡ refused 11 p
+    mixed-text {spans} {es} {p} h x k =
+        refusal-11 p .1 (spans, h, record { next = taking.Next.ticks es; place = p; reached = x; holds = (record { more = other-inside spans r p k; none = λ v a f. other-key spans r p k (starts-parts r p (firstKey spans) v (a .stands) .0) }, refl) })

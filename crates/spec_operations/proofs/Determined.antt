@@ -52,7 +52,8 @@ Long T k = length T ≡ tableWords (meant k)
 abbrev Fits : List ℕ → Contents → Type 0
 Fits T k = Inside (k .window) (Standing (meant k) T)
 
-one-sheet : {r : Result Contents} {k l : Contents} → r ≡ accepted k → r ≡ accepted l → k ≡ l
+-- One sheet has one meaning.
+pub one-sheet : {r : Result Contents} {k l : Contents} → r ≡ accepted k → r ≡ accepted l → k ≡ l
 one-sheet e f = accepted-one (sym e ∙ f)
 
 module _ {s T : List ℕ} where
@@ -98,7 +99,8 @@ told-one false false f g = refl
 
 -- ---- add
 
-abbrev Reads : List ℕ → List ℕ → Read (List Mark) → Contents → Type 0
+-- What is read of the text r for a sheet with these contents.
+abbrev pub Reads : List ℕ → List ℕ → Read (List Mark) → Contents → Type 0
 Reads s r R k = readings (namesIn s k) (k .window) r ≡ R
 
 -- Two accepted outcomes over one sheet and one list of readings.

@@ -79,3 +79,12 @@ last-digits-few (suc k) n = go (decLt n 10) (last-digits-few k (n / 10))
 pub decimal-few : (n : ℕ) → length (decimalText n) ≤ 20
 unfolding decimalText
 decimal-few n = last-digits-few 20 n
+
+-- Each has at least one.
+pub decimal-some : (n : ℕ) → 1 ≤ length (decimalText n)
+unfolding decimalText
+decimal-some n = go (decLt n 10)
+  where
+    go : Dec (n < 10) → 1 ≤ length (lastDigits 20 n)
+    go (yes l) = rw (digits-one 19 n l) (omega arith)
+    go (no l) = rw (digits-then 19 n (omega arith)) (omega (arith, length-append (lastDigits 19 (n / 10)) ((byte "0" + n % 10) ∷ [])))

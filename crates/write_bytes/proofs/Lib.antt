@@ -2,4 +2,6 @@
 pub mod Writing
 pub mod Leaves
 pub mod Decimals
+pub mod Standing
 pub mod ReadBack
+pub mod OneWriting

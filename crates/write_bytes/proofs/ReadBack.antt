@@ -1,14 +1,12 @@
 -- A number of at most five digits that is written is read back as itself.
 -- Assumes nothing.
 use mathlib.Core.Path.{_≡_, refl, sym, ap, _∙_}
-use mathlib.Core.Bool.{true, false, and-eq-true-iff}
-use mathlib.Core.List.{List, [], _∷_, _++_}
+use mathlib.Core.Bool.{true, false}
+use mathlib.Core.List.{List, [], _∷_}
 use Prim.Native.Nat.{ℕ, zero, suc, _+_, _-_, _*_, _/_, _%_, _^_, _<_}
 use native.Mathlib.Decide.{decLt, ℕ-discrete}
 use native.Mathlib.Nat.{add-zero}
 use native.Mathlib.Omega.{arith}
-use borrow.Author.Tests.{eqb-true}
-use lib.Dec.{eqb}
 use lib.ListN.{length, length-append}
 use Rattle.read_bytes.specs.Bytes.{byte, peek, between, digit, starts}
 use Rattle.read_bytes.specs.Numbers.{digits, number}
@@ -17,22 +15,9 @@ use Rattle.read_bytes.proofs.Tests.{between-in, between-is}
 use Rattle.read_bytes.proofs.Values.{digits-on, digits-off, number-zero, number-some}
 use Rattle.write_bytes.specs.Writes.{lastDigits, decimalText}
 use Rattle.write_bytes.proofs.Decimals.{tenth, digits-one, digits-then, decimal-most}
+use Rattle.write_bytes.proofs.Standing.{starts-both, starts-one}
 
 module _ (s : List ℕ) where
-  -- Bytes that stand one after the other.
-  starts-both : (p : ℕ) (ws vs : List ℕ) → starts s p (ws ++ vs) ≡ true → (starts s p ws ≡ true) × (starts s (p + length ws) vs ≡ true)
-  unfolding starts
-  starts-both p [] vs h = (refl, rw add-zero h)
-  starts-both p (x ∷ ws) vs h =
-      let a = and-eq-true-iff (eqb x (peek s p)) (starts s (p + 1) (ws ++ vs)) .0 h in
-      let b = starts-both (p + 1) ws vs (a .1) in
-      let e : p + suc (length ws) ≡ p + 1 + length ws = omega arith in
-      (rw (a .0) (b .0), rw e (b .1))
-
-  starts-one : (p x : ℕ) → starts s p (x ∷ []) ≡ true → x ≡ peek s p
-  unfolding starts
-  starts-one p x h = eqb-true x (peek s p) (and-eq-true-iff (eqb x (peek s p)) true .0 h .0)
-
   -- One digit is read.
   digit-read : (j p v d : ℕ) → d < 10 → byte "0" + d ≡ peek s p → digits s (1 + j) p v ≡ digits s j (p + 1) (10 * v + d)
   digit-read j p v d h e =
@@ -52,13 +37,13 @@ module _ (s : List ℕ) where
       go (yes l) i =
           let o = digits-one k n l in
           let z : 10 * 0 + n ≡ n = omega arith in
-          let r = digit-read j p 0 n l (starts-one p (byte "0" + n) (rw o at a)) in
+          let r = digit-read j p 0 n l (starts-one s p (byte "0" + n) (rw o at a)) in
           rw o (rw z at r)
       go (no l) i =
           let o = digits-then k n (omega arith) in
           let w = lastDigits k (n / 10) in
-          let b = starts-both p w ((byte "0" + n % 10) ∷ []) (rw o at a) in
-          let r = digit-read j (p + length w) (n / 10) (n % 10) (omega arith) (starts-one (p + length w) (byte "0" + n % 10) (b .1)) in
+          let b = starts-both s p w ((byte "0" + n % 10) ∷ []) (rw o at a) in
+          let r = digit-read j (p + length w) (n / 10) (n % 10) (omega arith) (starts-one s (p + length w) (byte "0" + n % 10) (b .1)) in
           let z : 10 * (n / 10) + n % 10 ≡ n = omega arith in
           let x : length w + (1 + j) ≡ length w + 1 + j = omega arith in
           let y : p + length w + 1 ≡ p + (length w + 1) = omega arith in
@@ -72,10 +57,10 @@ module _ (s : List ℕ) where
     where
       go : Dec (n < 10) → (0 < n / 10 → n / 10 < 10 ^ k → starts s p (lastDigits k (n / 10)) ≡ true → between (byte "1") (byte "9") (peek s p) ≡ true) → between (byte "1") (byte "9") (peek s p) ≡ true
       go (yes l) i =
-          let e = starts-one p (byte "0" + n) (rw (digits-one k n l) at a) in
+          let e = starts-one s p (byte "0" + n) (rw (digits-one k n l) at a) in
           between-in (byte "1") (byte "9") (peek s p) (omega arith) (omega arith)
       go (no l) i =
-          let b = starts-both p (lastDigits k (n / 10)) ((byte "0" + n % 10) ∷ []) (rw (digits-then k n (omega arith)) at a) in
+          let b = starts-both s p (lastDigits k (n / 10)) ((byte "0" + n % 10) ∷ []) (rw (digits-then k n (omega arith)) at a) in
           i (omega arith) (tenth k n h) (b .0)
 
   -- A number that stands at p, with no digit after it, is read there.
@@ -86,7 +71,7 @@ module _ (s : List ℕ) where
       go : Dec (n ≡ 0) → number s p ≡ Value n (p + length (lastDigits 20 n))
       go (yes e) =
           let o = digits-one 19 n (omega arith) in
-          let f = starts-one p (byte "0" + n) (rw o at a) in
+          let f = starts-one s p (byte "0" + n) (rw o at a) in
           let l : p + 1 ≡ p + length (lastDigits 20 n) = omega (arith, ap length o) in
           sym (number-zero s p (byte "0" + n) f (omega arith)) ∙ ap (Value 0) l ∙ ap (λ (x : ℕ). Value x (p + length (lastDigits 20 n))) (sym e)
       go (no e) =

@@ -1,2 +1,3 @@
 -- The laws, one idea a file.
 pub mod Lines
+pub mod Lengths

@@ -78,6 +78,8 @@ fn ends(random: &mut Random, text: &mut Vec<u8>) {
                 "window=3\n",
                 "at=0\n",
                 "at=0",
+                "from=0\n",
+                "to=0\n",
                 "signal=a\n",
                 "\0",
                 " ",

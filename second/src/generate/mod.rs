@@ -5,49 +5,85 @@ mod damage;
 mod draft;
 mod faults;
 mod formula;
+mod full;
 mod limit_formula;
 mod limits;
 pub mod listed;
+pub mod moves;
 mod names;
+mod parts;
 pub mod random;
 mod readings;
 mod sheet;
+mod spans;
 mod tables;
 mod windows;
 
 use crate::operations::read;
-use crate::text::name::Name;
+use crate::text::name::{self, Name};
+use moves::Move;
 use random::Random;
 
 pub enum Call {
     Check,
-    Add { readings: Vec<u8> },
-    Ask { signal: u64, tick: u64 },
+    Add {
+        readings: Vec<u8>,
+        /// The same readings for adds one after another; most often there are none.
+        parts: Vec<Vec<u8>>,
+    },
+    Ask {
+        signal: u64,
+        tick: u64,
+    },
 }
 
 pub struct Case {
     pub sheet: Vec<u8>,
     pub table: Vec<u64>,
     pub calls: Vec<Call>,
+    /// Calls that take no table.
+    pub moves: Vec<Move>,
 }
 
 /// What the rest of a case needs to know of its sheet; of a refused sheet it is made up.
 pub struct Shape {
     window: usize,
     names: Vec<String>,
+    /// The names as they are read.
+    declared: Vec<Name>,
     rows: usize,
 }
 
+/// One case in forty has moves whose texts are as long as allowed, or longer.
 pub fn case(seed: u64, number: u64) -> Case {
     let mut random = Random::new(seed, number);
+    if number % 40 == 0 {
+        return full_case(&mut random);
+    }
     let sheet = sheet::sheet(&mut random);
     let shape = shape(&sheet);
     let table = tables::table(&mut random, &shape);
     let calls = calls(&mut random, &shape);
+    let moves = (0..random.below(3)).map(|_| moves::any(&mut random, &shape));
+    let moves = moves.collect();
     Case {
         sheet,
         table,
         calls,
+        moves,
+    }
+}
+
+fn full_case(random: &mut Random) -> Case {
+    let sheet = full::sheet(random);
+    let shape = shape(&sheet);
+    let moves = (0..4).map(|_| moves::full(random, &shape));
+    let moves = moves.collect();
+    Case {
+        sheet,
+        table: vec![],
+        calls: vec![],
+        moves,
     }
 }
 
@@ -56,11 +92,13 @@ fn shape(sheet: &[u8]) -> Shape {
         Ok((sheet, rows)) => Shape {
             window: sheet.window,
             names: sheet.names.iter().map(Name::to_string).collect(),
+            declared: sheet.names,
             rows: rows.nodes.len(),
         },
         Err(_) => Shape {
             window: 4,
             names: vec!["a".to_string()],
+            declared: name::read(b"a").into_iter().collect(),
             rows: 3,
         },
     }
@@ -73,7 +111,8 @@ fn calls(random: &mut Random, shape: &Shape) -> Vec<Call> {
     }
     for _ in 0..random.weighted(&[3, 45, 30, 15, 7]) {
         let readings = readings::readings(random, shape.window, &shape.names);
-        calls.push(Call::Add { readings });
+        let parts = parts::parts(random, &readings, shape);
+        calls.push(Call::Add { readings, parts });
         for _ in 0..random.below(4) {
             calls.push(ask(random, shape));
         }

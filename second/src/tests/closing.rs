@@ -77,7 +77,7 @@ const MOST_CELLS: usize = 5_000;
 #[test]
 fn closing_is_the_least_closed_set() {
     let (mut compared, mut of_several_words) = (0, 0);
-    for number in 0..400 {
+    for number in 0..500 {
         let case = case(3, number);
         let Ok(sheet) = sheet::read(&case.sheet) else {
             continue;
@@ -87,15 +87,18 @@ fn closing_is_the_least_closed_set() {
             continue;
         }
         for call in &case.calls {
-            let Call::Add { readings } = call else {
+            let Call::Add { readings, .. } = call else {
                 continue;
             };
             let Ok(all) = readings::read(readings, sheet.window, &sheet.names) else {
                 continue;
             };
             let mut start = Marks::none(rows.nodes.len(), sheet.window);
-            all.iter()
-                .for_each(|one| start.set(one.signal, one.tick, one.value));
+            for span in all {
+                for tick in span.ticks() {
+                    start.set(span.signal, tick, span.value);
+                }
+            }
             assert_eq!(
                 close(&rows, &start),
                 swept(&rows, &start, sheet.window),

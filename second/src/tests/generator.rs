@@ -5,6 +5,7 @@ use crate::lower::lower;
 use crate::operations::{add, check, read};
 use crate::table::marks_of;
 use crate::text::name::{End, Name};
+use crate::text::readings::Form;
 use crate::text::{sheet, LONGEST_TEXT};
 
 #[test]
@@ -109,13 +110,16 @@ fn text_lengths_are_met() {
     for length in [LONGEST_TEXT, LONGEST_TEXT + 1] {
         assert!(met(|case| case.sheet.len() == length) > 5);
     }
-    let longest = |case: &Case| {
+    let longest = |case: &Case, form: Form| {
         case.calls.iter().any(|call| match call {
-            Call::Add { readings } if readings.len() == LONGEST_TEXT => {
-                add(&case.sheet, readings, &mut case.table.clone()).is_ok()
+            Call::Add { readings, .. } if readings.len() == LONGEST_TEXT => {
+                let added = add(&case.sheet, readings, &mut case.table.clone());
+                Form::of(readings) == form && added.is_ok()
             }
             _ => false,
         })
     };
-    assert!(met(longest) > 5);
+    for form in [Form::Readings, Form::Spans] {
+        assert!(met(|case| longest(case, form)) > 3, "{form:?}");
+    }
 }

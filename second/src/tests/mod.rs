@@ -1,14 +1,16 @@
-//! Unit tests: the proved cases, the refusal table, names, the lowering, the closing, tables of several words and the generator; and how they
-//! write texts.
+//! Unit tests: the proved cases, the refusal table, names, the lowering, the closing, tables of several words, spans, the moves and the
+//! generator; and how they write texts.
 
 mod borders;
 mod closing;
 mod generator;
 mod listed;
 mod lowering;
+mod moves;
 mod names;
 mod proved;
 mod refusals;
+mod spans;
 mod tables;
 
 use crate::text::Refusal;
@@ -36,6 +38,14 @@ fn sheet(window: usize, names: &str, rules: &[&str]) -> String {
 fn readings(all: &[(usize, &str, usize)]) -> String {
     let one = |(tick, name, value): &(usize, &str, usize)| {
         format!("at={tick}\nsignal={name}\nvalue={value}\n")
+    };
+    all.iter().map(one).collect()
+}
+
+/// Spans of first and last tick, name and value.
+fn spans(all: &[(usize, usize, &str, usize)]) -> String {
+    let one = |(first, last, name, value): &(usize, usize, &str, usize)| {
+        format!("from={first}\nto={last}\nsignal={name}\nvalue={value}\n")
     };
     all.iter().map(one).collect()
 }

@@ -3,7 +3,7 @@ use borrow.Author.Needs.{needs}
 use mathlib.Core.Path.{ap, _∙_}
 use Rattle.read_lines.specs.Lines.{says}
 use Rattle.read_bytes.proofs.Answers.{answered, hand-on}
-use Rattle.read_reading.specs.OneReading.{knownLine}
+use Rattle.read_reading.specs.OneEntry.{knownLine}
 use Rattle.read_reading.proofs.Lines.{name-place, known-is, known-not}
 use Rattle.read_reading.proofs.known_line.Statement.{statement}
 use Rattle.read_reading.proofs.known_line.Tie as tie

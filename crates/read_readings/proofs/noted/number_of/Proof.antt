@@ -6,14 +6,20 @@ use Rattle.read_readings.proofs.Numbers.{number-is}
 use Rattle.read_readings.proofs.noted.number_of.Statement.{statement}
 use Rattle.read_readings.proofs.noted.number_of.Tie as tie
 
-mul-cell : tie.Need-mul-cell
-mul-cell c = search needs
+mul-number : tie.Need-mul-number
+mul-number c = search needs
 
-add-cell : tie.Need-add-cell
-add-cell c = search needs
+add-number : tie.Need-add-number
+add-number c = search needs
 
-mul-cell-2 : tie.Need-mul-cell-2
-mul-cell-2 c = search needs
+mul-number-2 : tie.Need-mul-number-2
+mul-number-2 c = search needs
+
+mul-number-3 : tie.Need-mul-number-3
+mul-number-3 c = search needs
+
+add-number-2 : tie.Need-add-number-2
+add-number-2 c = search needs
 
 add-result : tie.Need-add-result
 add-result c = search needs
@@ -25,12 +31,22 @@ cast-result-2 : tie.Need-cast-result-2
 cast-result-2 c = search needs
 
 returns : tie.Need-returns
-returns c = number-is _ _ _ 1 (omega arith) (omega arith) (omega arith) (sym (c .if1 .taken))
+returns c = number-is _ _ 1 _ _ (omega arith) (omega arith) (omega arith) (omega arith) (sym (c .if1 .taken))
 
 returns-2 : tie.Need-returns-2
-returns-2 c = number-is _ _ _ 0 (omega arith) (omega arith) (omega arith) (sym (c .if1 .left))
+returns-2 c = number-is _ _ 0 _ _ (omega arith) (omega arith) (omega arith) (omega arith) (sym (c .if1 .left))
 
 pub number-of-spec : {M : Type 1} → statement M
 number-of-spec =
     tie.close
-    (tie.spec mul-cell add-cell mul-cell-2 add-result cast-result cast-result-2 returns returns-2)
+    (tie.spec
+    mul-number
+    add-number
+    mul-number-2
+    mul-number-3
+    add-number-2
+    add-result
+    cast-result
+    cast-result-2
+    returns
+    returns-2)

@@ -1,0 +1,106 @@
+-- The text of a move, joined span by joined span; and of a span, reading by reading.
+-- Assumes nothing.
+use mathlib.Core.Path.{_≡_, refl, sym, ap, _∙_}
+use mathlib.Core.Bool.{Bool, true, false}
+use mathlib.Core.List.{List, [], _∷_, _++_, append-nil, append-assoc, map, flatten}
+use Prim.Native.Nat.{ℕ, suc, _+_, _-_, _*_, _<_, _≤_}
+use native.Mathlib.Omega.{arith}
+use lib.ListN.{length}
+use Rattle.spec_limits.specs.Limits.{mostBytes, mostNameBytes}
+use Rattle.spec_tilco.proofs.Lists.{all-nth}
+use Rattle.write_bytes.specs.Writes.{Counted, Wrote}
+use Rattle.read_reading.specs.Spans.{Span, span}
+use Rattle.read_readings.specs.SpanNumbers.{rowSpans, spanOf}
+use Rattle.write_readings.specs.EntryTexts.{entryText, entriesText}
+use Rattle.write_readings.proofs.Lengths.{entry-counted}
+use Rattle.join_spans.specs.Joining.{merged, singlesFrom, singles, allSingles, moveTo}
+use Rattle.join_spans.specs.Runs.{inRow, spansFrom, RunFrom}
+use Rattle.join_spans.proofs.RunSpans.{from-end}
+use Rattle.op_moves.specs.MovedText.{runEntries, movedText, Writable, CanWrite}
+use Rattle.op_moves.specs.UpTo.{WritesUpTo}
+use Rattle.op_moves.proofs.Progress.{whole-up-to}
+
+module _ (spans : Bool) (names : List (List ℕ)) where
+  -- Entries one after the other.
+  pub entries-cons : (e : Span) (es : List Span) → entriesText spans names (e ∷ es) ≡ entryText spans names e ++ entriesText spans names es
+  unfolding entriesText flatten
+  entries-cons e es = refl
+
+  entries-append : (es ds : List Span) → entriesText spans names (es ++ ds) ≡ entriesText spans names es ++ entriesText spans names ds
+  unfolding entriesText flatten
+  entries-append [] ds = refl
+  entries-append (e ∷ es) ds = ap (λ (t : List ℕ). entryText spans names e ++ t) (entries-append es ds) ∙ sym (append-assoc (entryText spans names e) (entriesText spans names es) (entriesText spans names ds))
+
+  -- The text of joined spans.
+  pub runsText : List Span → List ℕ
+  runsText [] = []
+  runsText (e ∷ es) = entriesText spans names (runEntries spans e) ++ runsText es
+
+-- One entry alone.
+pub one-entry : (spans : Bool) (names : List (List ℕ)) (e : Span) → entriesText spans names (e ∷ []) ≡ entryText spans names e
+unfolding entriesText flatten
+one-entry spans names e = append-nil (entryText spans names e)
+
+-- A move's text is that of the joined spans.
+runs-of : (spans : Bool) (names : List (List ℕ)) (es : List Span) → entriesText spans names (flatten (map (runEntries spans) es)) ≡ runsText spans names es
+unfolding runsText flatten entriesText
+runs-of spans names [] = refl
+runs-of spans names (e ∷ es) =
+    entries-append spans names (runEntries spans e) (flatten (map (runEntries spans) es)) ∙ ap (λ (t : List ℕ). entriesText spans names (runEntries spans e) ++ t) (runs-of spans names es)
+
+itself : (es : List Span) → flatten (map (runEntries true) es) ≡ es
+unfolding flatten
+itself [] = refl
+itself (e ∷ es) = ap (λ (ds : List Span). e ∷ ds) (itself es)
+
+pub moved-runs : (spans : Bool) (names : List (List ℕ)) (a : List ℕ) → movedText spans names a ≡ runsText spans names (merged (spansFrom a 0))
+unfolding moveTo allSingles
+moved-runs true names a = ap (entriesText true names) (sym (itself (merged (map spanOf a)))) ∙ runs-of true names (merged (map spanOf a))
+moved-runs false names a = runs-of false names (merged (map spanOf a))
+
+-- From an index on: a joined span, and what comes after it; at the end nothing.
+pub next-run : (spans : Bool) (names : List (List ℕ)) {a : List ℕ} {i row f l next : ℕ} → RunFrom a i row f l next
+    → runsText spans names (merged (spansFrom a i)) ≡ entriesText spans names (runEntries spans (inRow row f l)) ++ runsText spans names (merged (spansFrom a next))
+unfolding runsText
+next-run spans names r = ap (runsText spans names) (r .comes)
+
+pub no-run : (spans : Bool) (names : List (List ℕ)) (a : List ℕ) (i : ℕ) → length a ≤ i → runsText spans names (merged (spansFrom a i)) ≡ []
+unfolding runsText merged
+no-run spans names a i h = ap (λ (es : List Span). runsText spans names (merged es)) (from-end a i h)
+
+-- The readings of a span: one, and those after its tick.
+pub next-single : (names : List (List ℕ)) (x : ℕ) (v : Bool) (t l : ℕ) → t ≤ l
+    → entriesText false names (singlesFrom x v t (l + 1 - t)) ≡ entryText false names (span x v t t) ++ entriesText false names (singlesFrom x v (t + 1) (l + 1 - (t + 1)))
+unfolding singlesFrom
+next-single names x v t l h =
+    let n : l + 1 - t ≡ suc (l + 1 - (t + 1)) = omega arith in
+    rw n (entries-cons false names (span x v t t) (singlesFrom x v (t + 1) (l + 1 - (t + 1))))
+
+pub no-single : (names : List (List ℕ)) (x : ℕ) (v : Bool) (t l : ℕ) → l < t → entriesText false names (singlesFrom x v t (l + 1 - t)) ≡ []
+unfolding singlesFrom entriesText flatten
+no-single names x v t l h = let n : l + 1 - t ≡ 0 = omega arith in rw n
+
+pub all-singles : (names : List (List ℕ)) (x : ℕ) (v : Bool) (f l : ℕ) → entriesText false names (singles (span x v f l)) ≡ entriesText false names (singlesFrom x v f (l + 1 - f))
+unfolding singles
+all-singles names x v f l = refl
+
+-- The places of an entry of the span's signal can be counted.
+pub can-count : (spans : Bool) (names : List (List ℕ)) (d : Span) {used at : ℕ} {e : Span} → Writable names used e → d .signal ≡ e .signal → at ≤ mostBytes → Counted at (entryText spans names d)
+can-count spans names d {e = e} w i h =
+    let l = all-nth (λ n. length n ≤ mostNameBytes) [] names (d .signal) (w .short) (omega (arith, w .signal)) in
+    entry-counted spans names d (omega arith)
+
+-- What is written of a joined span: itself, or its readings.
+pub run-whole : {spans : Bool} (names : List (List ℕ)) (e : Span) {limit b u : ℕ} {m m₁ : List ℕ} → spans ≡ true → Wrote (entryText true names e) b m m₁ u
+    → WritesUpTo limit (entriesText spans names (runEntries spans e)) b m m₁ u
+run-whole names e h w = rw (h, one-entry true names e) (whole-up-to w)
+
+pub run-singles : {spans : Bool} (names : List (List ℕ)) (e : Span) {limit b u : ℕ} {m m₁ : List ℕ} → spans ≡ false → WritesUpTo limit (entriesText false names (singles e)) b m m₁ u
+    → WritesUpTo limit (entriesText spans names (runEntries spans e)) b m m₁ u
+run-singles names e h w = rw h w
+
+-- A joined span can be written: its row is one of the signals'.
+pub run-writable : {names : List (List ℕ)} {a : List ℕ} {i row f l next used : ℕ} → CanWrite names a → i < length a → RunFrom a i row f l next → used ≤ mostBytes → Writable names used (inRow row f l)
+run-writable {names} {a} {i} c h r near =
+    let w = all-nth (λ v. v < 2 * rowSpans * length names) 0 a i (c .rows) h in
+    record { signal = omega (arith, r .row-is); short = c .short; ticks = r .tick; near = near }

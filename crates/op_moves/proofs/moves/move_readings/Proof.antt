@@ -1,0 +1,71 @@
+-- `move_readings` meets its contract. Assumes nothing.
+use borrow.Author.Needs.{needs}
+use native.Mathlib.Omega.{arith}
+use mathlib.Core.Path.{refl}
+use lib.ListN.{length-take}
+use Rattle.open_sheet.proofs.Buffers.{fresh}
+use Rattle.open_table.proofs.Tables.{when-sheet, when-refused}
+use Rattle.spec_moves.specs.Moves.Moves.{not-opened}
+use Rattle.op_moves.proofs.moves.move_readings.Statement.{statement}
+use Rattle.op_moves.proofs.moves.move_readings.Tie as tie
+
+slice-aggregate-open-sheet : tie.Need-slice-aggregate-open-sheet
+slice-aggregate-open-sheet c = search needs
+
+slice-aggregate-open-sheet-2 : tie.Need-slice-aggregate-open-sheet-2
+slice-aggregate-open-sheet-2 c = search needs
+
+slice-aggregate-open-sheet-3 : tie.Need-slice-aggregate-open-sheet-3
+slice-aggregate-open-sheet-3 c = search needs
+
+open-sheet-requires : tie.Need-open-sheet-requires
+open-sheet-requires c κs = fresh
+
+enum-known-o : tie.Need-enum-known-o
+enum-known-o c = search needs
+
+array-share-prefix-places : tie.Need-array-share-prefix-places
+array-share-prefix-places c =
+    let at-open-sheet = c .before .before .before .before .before .before in
+    let h = when-sheet (at-open-sheet .open-sheet .ensures) (c .before .o .given .1) in omega (arith, h .0)
+
+slice-aggregate-move-opened : tie.Need-slice-aggregate-move-opened
+slice-aggregate-move-opened c =
+    let at-open-sheet = c .before .before .before .before .before .before .before in
+    let h = when-sheet (at-open-sheet .open-sheet .ensures) (c .before .before .o .given .1) in simp length-take (omega (arith, h .0))
+
+move-opened-requires : tie.Need-move-opened-requires
+move-opened-requires c κs =
+    let at-open-sheet = c .before .before .before .before .before .before .before .before in
+    let h = when-sheet (at-open-sheet .open-sheet .ensures) (c .before .before .before .o .given .1) .1 in record { contents = h .contents; holds = h .holds; names-are = h .names-are; window-is = h .window-is }
+
+enum-known-o-2 : tie.Need-enum-known-o-2
+enum-known-o-2 c = search needs
+
+same-length : tie.Need-same-length
+same-length c = search needs
+
+returns : tie.Need-returns
+returns c = search needs
+
+returns-2 : tie.Need-returns-2
+returns-2 c =
+    let at-open-sheet = c .before .before .before .before .before .before in
+    not-opened (when-refused (at-open-sheet .open-sheet .ensures) (c .before .o2 .given .1)) refl
+
+pub move-readings-spec : {M : Type 1} → statement M
+move-readings-spec =
+    tie.close
+    (tie.spec
+    slice-aggregate-open-sheet
+    slice-aggregate-open-sheet-2
+    slice-aggregate-open-sheet-3
+    open-sheet-requires
+    enum-known-o
+    array-share-prefix-places
+    slice-aggregate-move-opened
+    move-opened-requires
+    enum-known-o-2
+    same-length
+    returns
+    returns-2)

@@ -1,0 +1,96 @@
+// The two moves: the sheet's and the text's refusals, then 20, or the text written. Assumes nothing.
+use crate::texts::moved_length;
+use crate::texts::write_moved;
+use open_sheet::Opening;
+use open_sheet::open_sheet;
+use read_lines::Step;
+use read_readings::noted::ROW_SPANS;
+use read_readings::whole::note_entries;
+use sort_numbers::sort_below;
+use spec_limits::BYTES;
+use spec_limits::READINGS;
+use spec_limits::ROWS;
+use spec_limits::SIGNALS;
+use spec_limits::TOPS;
+ghost use mathlib.Core.Bool.{true, false};
+ghost use Rattle.read_names.specs.Spellings.{namesAt};
+ghost use Rattle.read_names.specs.Slices.{before, after, namesOf};
+ghost use Rattle.spec_moves.specs.Moves.{Moves};
+ghost use Rattle.op_moves.specs.MovedText.{CanWrite, WritesMoved};
+ghost use Rattle.op_moves.specs.MovingSays.{movingSays, Opened};
+
+// How long the written text is, or a refusal's number and place.
+pub enum Moving {
+    Written(usize),
+    Refused(usize, usize),
+}
+
+// Writes the text of the move, if it is short enough and there is room for it. It is measured first, so that a refusal writes nothing.
+fn write_noted(spans: bool, s: &[u8], places: &[u64], noted: &mut [u32], out: &mut [u8]) -> Moving
+    requires { ⌜ CanWrite (namesAt (now s) (now places)) (now noted) ⌝ }
+    ensures { λ r. ⌜ WritesMoved spans (namesOf s places) (before noted) (before out) (after out) (movingSays r) ⌝ }
+{
+    sort_below(noted, 2 * ROW_SPANS * places.len());
+    let length = moved_length(spans, s, places, noted);
+    if BYTES < length {
+        return Moving::Refused(20, 0);
+    }
+    if out.len() < length {
+        return Moving::Refused(20, 0);
+    }
+    write_moved(spans, s, places, noted, out);
+    Moving::Written(length)
+}
+
+// Reads the readings of an opened sheet, and writes the text of the move.
+fn move_opened(
+    spans: bool,
+    s: &[u8],
+    places: &[u64],
+    window: usize,
+    readings: &[u8],
+    out: &mut [u8],
+) -> Moving
+    requires { ⌜ Opened (now s) (now places) window ⌝ }
+    ensures { λ r. ⌜ Moves spans (before s) (before readings) (before out) (after out) (movingSays r) ⌝ }
+{
+    let mut noted = [1u32; READINGS];
+    let c = note_entries(s, places, window, readings, &mut noted);
+    match c {
+        Step::Got(count, _) => write_noted(spans, s, places, &mut noted[..count], out),
+        Step::Refused(n, p) => Moving::Refused(n, p),
+    }
+}
+
+// Opens the sheet, and moves the readings.
+fn move_readings(spans: bool, s: &[u8], readings: &[u8], out: &mut [u8]) -> Moving
+    ensures { λ r. ⌜ Moves spans (before s) (before readings) (before out) (after out) (movingSays r) ⌝ }
+{
+    let mut places = [0u64; SIGNALS];
+    let mut rows = [8u64; ROWS];
+    let mut tops = [0u16; TOPS];
+    let o = open_sheet(s, &mut places, &mut rows, &mut tops);
+    match o {
+        Opening::Sheet {
+            window,
+            signals,
+            tops: _,
+            count: _,
+        } => move_opened(spans, s, &places[..signals], window, readings, out),
+        Opening::Refused(n, p) => Moving::Refused(n, p),
+    }
+}
+
+// Writes the readings as spans.
+pub fn to_spans(s: &[u8], readings: &[u8], out: &mut [u8]) -> Moving
+    ensures { λ r. ⌜ Moves true (before s) (before readings) (before out) (after out) (movingSays r) ⌝ }
+{
+    move_readings(true, s, readings, out)
+}
+
+// Writes the readings one by one.
+pub fn to_readings(s: &[u8], readings: &[u8], out: &mut [u8]) -> Moving
+    ensures { λ r. ⌜ Moves false (before s) (before readings) (before out) (after out) (movingSays r) ⌝ }
+{
+    move_readings(false, s, readings, out)
+}

@@ -1,0 +1,54 @@
+// The lines of readings and of spans, written into a lent buffer. Assumes that the places of an entry can be counted. The names stand at `places` of the
+// sheet text `s`.
+use write_lines::one_if;
+use write_lines::write_name_line;
+use write_lines::write_number_line;
+ghost use Prim.Native.Nat.{_<_};
+ghost use lib.ListN.{length};
+ghost use Rattle.read_names.specs.Spellings.{namesAt};
+ghost use Rattle.read_reading.specs.Spans.{span};
+ghost use Rattle.write_bytes.specs.Writes.{Counted, Wrote};
+ghost use Rattle.write_readings.specs.EntryTexts.{valueText, entryText};
+
+// An entry's last two lines, whatever its ticks are: its signal's name, and its value.
+fn write_value(
+    s: &[u8],
+    places: &[u64],
+    signal: usize,
+    value: bool,
+    out: &mut [u8],
+    used: usize,
+) -> usize
+    requires { ⌜ (signal < length (now places)) × Counted used (valueText (namesAt (now s) (now places)) (span signal value 0 0)) ⌝ }
+    ensures { λ r. ⌜ Wrote (valueText (namesAt (now (s .entry)) (now (places .entry))) (span signal value 0 0)) used (now (out .entry)) (now (out .exit)) r ⌝ }
+{
+    let name = places[signal] as usize;
+    let line = write_name_line(s, name, out, used);
+    let bit = one_if(value);
+    write_number_line(b"value=", bit, out, line)
+}
+
+// The lines of an entry: those of a span, or of a reading, whose tick is `first`.
+pub fn write_entry(
+    spans: bool,
+    s: &[u8],
+    places: &[u64],
+    signal: usize,
+    value: bool,
+    first: usize,
+    last: usize,
+    out: &mut [u8],
+    used: usize,
+) -> usize
+    requires { ⌜ (signal < length (now places)) × Counted used (entryText spans (namesAt (now s) (now places)) (span signal value first last)) ⌝ }
+    ensures { λ r. ⌜ Wrote (entryText spans (namesAt (now (s .entry)) (now (places .entry))) (span signal value first last)) used (now (out .entry)) (now (out .exit)) r ⌝ }
+{
+    if spans {
+        let to = write_number_line(b"from=", first, out, used);
+        let rest = write_number_line(b"to=", last, out, to);
+        write_value(s, places, signal, value, out, rest)
+    } else {
+        let rest = write_number_line(b"at=", first, out, used);
+        write_value(s, places, signal, value, out, rest)
+    }
+}
