@@ -44,8 +44,8 @@ module _ (row f l w : ℕ) where
   unfolding meets
   meets-is = rw (rank-row row f l, rank-of w)
 
-  pub same-row : w / rowSpans ≡ row → leb (w / mostTicks % mostTicks) (l + 1) ≡ meets (inRow row f l) (spanOf w)
-  same-row e = sym (meets-is ∙ rw (eq-eqb row (w / rowSpans) (sym e)))
+  pub same-row : {k : ℕ} → k ≡ l + 1 → w / rowSpans ≡ row → leb (w / mostTicks % mostTicks) k ≡ meets (inRow row f l) (spanOf w)
+  same-row next e = sym (meets-is ∙ rw (eq-eqb row (w / rowSpans) (sym e), next))
 
   pub other-row : (w / rowSpans ≡ row → ⊥) → false ≡ meets (inRow row f l) (spanOf w)
   other-row n = sym (meets-is ∙ rw (ne-eqb row (w / rowSpans) (λ e. n (sym e))))

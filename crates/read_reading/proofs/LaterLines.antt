@@ -69,7 +69,7 @@ module _ (r x : List ℕ) where
   last-kept false W f p e = e
   last-kept true W f p e =
       let t = to-line W r f p e in
-      sym (to-is W (r ++ x) f p (rangedLine-kept r x p (bytes "to=") 11 13 0 (W - 1) (t .line)) (t .order))
+      sym (to-is W (r ++ x) f p (rangedLine-kept r x p (bytes "to=") 11 13 0 (W - 1) (t .line)) refl (t .order))
 
   -- An entry.
   pub entry-kept : (spans : Bool) (names : List (List ℕ)) (W p : ℕ) {e : Span} {q : ℕ} → entry spans names W r p ≡ got e q → entry spans names W (r ++ x) p ≡ got e q

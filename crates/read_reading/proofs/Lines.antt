@@ -83,20 +83,20 @@ pub record Within (k W : ℕ) (e : Span) : Type 0 where
   pub order : e .first ≤ e .last
   pub ticks : e .last < W
 
--- The line `to=`: each answer.
-module _ (W : ℕ) (r : List ℕ) (f p : ℕ) where
-  pub to-refused : {n k : ℕ} → tickLine W r p (bytes "to=") ≡ refused n k → refused n k ≡ toLine W r f p
+-- The line `to=`: each answer. c is the refusal of a tick outside the window.
+module _ (W : ℕ) (r : List ℕ) (f p : ℕ) {c : ℕ} where
+  pub to-refused : {n k : ℕ} → rangedLine r p (bytes "to=") 11 c 0 (W - 1) ≡ refused n k → c ≡ 13 → refused n k ≡ toLine W r f p
   unfolding toLine
-  to-refused a = rw a
+  to-refused a thirteen = rw (rw thirteen at a)
 
-  module _ {l q : ℕ} (a : tickLine W r p (bytes "to=") ≡ got l q) where
+  module _ {l q : ℕ} (a : rangedLine r p (bytes "to=") 11 c 0 (W - 1) ≡ got l q) (thirteen : c ≡ 13) where
     pub to-is : f ≤ l → got l q ≡ toLine W r f p
     unfolding toLine
-    to-is h = rw (a, le-leb f l h)
+    to-is h = rw (rw thirteen at a, le-leb f l h)
 
     pub to-below : l < f → refused 21 (p + length (bytes "to=")) ≡ toLine W r f p
     unfolding toLine
-    to-below h = rw (a, lt-leb f l h)
+    to-below h = rw (rw thirteen at a, lt-leb f l h)
 
 -- An accepted line `to=`: its tick is not below the first.
 pub record To-line (W : ℕ) (r : List ℕ) (f p l q : ℕ) : Type 0 where

@@ -3,6 +3,7 @@ use spec_limits::TICKS;
 use table_spans::put_span;
 ghost use mathlib.Core.Path.{_≡_};
 ghost use Prim.Native.Nat.{_<_, _≤_};
+ghost use lib.Dec.{eqb};
 ghost use lib.ListN.{length};
 ghost use Rattle.spec_limits.specs.Limits.{mostTicks, mostSignals};
 ghost use Rattle.spec_tilco.specs.Lists.{All};
@@ -13,17 +14,20 @@ ghost use Rattle.read_readings.specs.SpanNumbers.{spanOf, spansIn, SpanR
 // rowSpans: a row's marks of one value have numbers for so many spans.
 pub const ROW_SPANS: usize = TICKS * TICKS;
 
+// Which of a signal's two rows of marks has those of the value, value 0 first.
+fn side(value: bool) -> usize
+    ensures { λ r. ⌜ (r < 2) × (eqb r 1 ≡ value) ⌝ }
+{
+    if value { 1 } else { 0 }
+}
+
 // The number of a span.
 pub fn number_of(signal: usize, value: bool, first: usize, last: usize) -> u32
     requires { ⌜ (signal < mostSignals) × (first < mostTicks) × (last < mostTicks) ⌝ }
     ensures { λ w. ⌜ spanOf w ≡ span signal value first last ⌝ }
 {
-    let number = last + TICKS * first + 2 * ROW_SPANS * signal;
-    if value {
-        (number + ROW_SPANS) as u32
-    } else {
-        number as u32
-    }
+    let row = 2 * signal + side(value);
+    (last + TICKS * (first + TICKS * row)) as u32
 }
 
 // Puts the marks of the spans that the array's first `count` numbers are into the table.

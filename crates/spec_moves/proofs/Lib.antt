@@ -6,3 +6,4 @@ pub mod OneOrder
 pub mod Fewest
 pub mod ReadableNames
 pub mod Determined
+pub mod Examples

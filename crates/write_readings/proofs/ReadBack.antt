@@ -54,7 +54,7 @@ module _ (names : List (List ℕ)) (readable : Readable names) (W : ℕ) (few : 
       let rest = stands-rest from (to ++ valueText names e) st in
       let a = tick-back (bytes "from=") (e .first) (omega (arith, within .order, within .ticks)) (stands-first from (to ++ valueText names e) st) in
       let t = tick-back (bytes "to=") (e .last) (within .ticks) (stands-first to (valueText names e) rest) in
-      let b = sym (to-is W r (e .first) (p + length from) t (within .order)) in
+      let b = sym (to-is W r (e .first) (p + length from) t refl (within .order)) in
       let n : p + length from + length to + length (valueText names e) ≡ p + length (from ++ (to ++ valueText names e)) = omega (arith, length-append from (to ++ valueText names e), length-append to (valueText names e)) in
       value-back true p a b (stands-rest to (valueText names e) rest) ∙ ap (got e) n
   entry-reads false p one st =

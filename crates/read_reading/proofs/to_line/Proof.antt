@@ -1,5 +1,6 @@
 -- `to_line` meets its contract. Assumes nothing.
 use borrow.Author.Needs.{needs}
+use native.Mathlib.Omega.{arith}
 use mathlib.Core.Path.{ap, _∙_}
 use Rattle.read_lines.specs.Lines.{says}
 use Rattle.read_bytes.proofs.Answers.{answered}
@@ -25,7 +26,7 @@ enum-told c = search needs
 returns : tie.Need-returns
 returns c =
     let e = c .enum-told .given .1 in
-    ap says e ∙ to-refused _ _ _ _ (answered says (c .before .before .ranged-line .ensures) e)
+    ap says e ∙ to-refused _ _ _ _ (answered says (c .before .before .ranged-line .ensures) e) (omega arith)
 
 add-t14 : tie.Need-add-t14
 add-t14 c = search needs
@@ -33,12 +34,12 @@ add-t14 c = search needs
 returns-2 : tie.Need-returns-2
 returns-2 c =
     let at-ranged-line = c .before .before .before .before in
-    to-is _ _ _ _ (answered says (at-ranged-line .ranged-line .ensures) (c .before .before .l .given .1)) (c .if1 .taken)
+    to-is _ _ _ _ (answered says (at-ranged-line .ranged-line .ensures) (c .before .before .l .given .1)) (omega arith) (omega arith)
 
 returns-3 : tie.Need-returns-3
 returns-3 c =
     let at-ranged-line = c .before .before .before .before in
-    to-below _ _ _ _ (answered says (at-ranged-line .ranged-line .ensures) (c .before .before .l .given .1)) (c .if1 .left)
+    to-below _ _ _ _ (answered says (at-ranged-line .ranged-line .ensures) (c .before .before .l .given .1)) (omega arith) (omega arith)
 
 pub to-line-spec : {M : Type 1} → statement M
 to-line-spec =

@@ -49,7 +49,7 @@ loop-again c =
     let at-if1 = c .before .before .before .before in
     let at-loop-test = at-if1 .before in
     let at-loop = at-loop-test .before in
-    goes-on (at-loop .loop .inv) (at-if1 .if1 .left) (next-single _ _ _ _ _ (at-loop-test .loop-test .taken)) (whole-up-to (c .before .before .write-entry .ensures))
+    goes-on (at-loop .loop .inv) (at-if1 .if1 .left) (next-single _ _ _ _ _ (omega arith)) (whole-up-to (c .before .before .write-entry .ensures))
 
 same-length-2 : tie.Need-same-length-2 Inv-loop μ-loop
 same-length-2 c = c .before .loop .inv .wrote .size
