@@ -3,13 +3,12 @@
 use mathlib.Core.Path.{_≡_, refl, sym, ap, subst, _∙_}
 use mathlib.Core.Bool.{Bool, true}
 use mathlib.Core.List.{List, [], _∷_, _++_, map, List·Memᴰ, List·Memᴰ·head, List·Memᴰ·tail, List·Memᴰ·not-nil, List·Memᴰ·cases-cons}
-use mathlib.Core.Logic.{inl, inr, ⊎-elim, _↔_}
-use Prim.Native.Nat.{ℕ, _+_, _*_, _/_, _%_, _<_, _≤_}
+use mathlib.Core.Logic.{inl, inr, ⊎-elim}
+use Prim.Native.Nat.{ℕ, _+_, _*_, _/_, _<_, _≤_}
 use native.Mathlib.Decide.{decLt}
 use native.Mathlib.Omega.{arith}
 use lib.ListN.{length, drop}
 use lib.Seq.{sets-eq}
-use Rattle.spec_limits.specs.Limits.{mostTicks, mostNameBytes}
 use Rattle.spec_tilco.specs.Inference.{Mark}
 use Rattle.spec_tilco.specs.Lists.{All}
 use Rattle.spec_tilco.specs.Table.{ReadMarks}
@@ -17,11 +16,11 @@ use Rattle.spec_tilco.proofs.Lists.{all-of, all-at}
 use Rattle.sort_numbers.specs.Sorts as sorts
 use Rattle.sort_numbers.specs.Sorts.{Sorts}
 use Rattle.sort_numbers.proofs.Ascending.{ascending-first, ascending-rest}
-use Rattle.read_reading.specs.Spans.{Span, marksOf, marksOfAll}
+use Rattle.read_reading.specs.Spans.{Span, marksOfAll}
 use Rattle.read_reading.proofs.SpanMarks.{in-one, one-in}
 use Rattle.read_readings.specs.SpanNumbers.{rowSpans, spanOf}
 use Rattle.write_bytes.specs.Writes.{Wrote}
-use Rattle.spec_moves.specs.InOrder.{rank, Shaped, SameMarks, MovedTo}
+use Rattle.spec_moves.specs.InOrder.{Shaped, SameMarks, MovedTo}
 use Rattle.join_spans.specs.Joining.{Ascends, Ascending, moveTo}
 use Rattle.join_spans.proofs.RunSpans.{rank-of}
 use Rattle.join_spans.proofs.Moves.{moved-to}

@@ -1,10 +1,10 @@
 -- What each outcome of writing a move's text, and of reading what is moved, says of the buffer and of the answer.
 -- Assumes what each law states.
-use mathlib.Core.Path.{_≡_, refl, sym, ap, subst, _∙_}
+use mathlib.Core.Path.{_≡_, refl, sym, ap, subst}
 use mathlib.Core.Bool.{Bool, true}
 use mathlib.Core.List.{List, [], _∷_, map}
 use mathlib.Core.Logic.{inl, inr}
-use Prim.Native.Nat.{ℕ, _+_, _*_, _/_, _<_, _≤_}
+use Prim.Native.Nat.{ℕ, _*_, _<_, _≤_}
 use native.Mathlib.Decide.{decLt}
 use native.Mathlib.Omega.{arith}
 use lib.ListN.{length, take}
@@ -15,7 +15,6 @@ use Rattle.read_bytes.specs.Read.Read.{got, refused as unread}
 use Rattle.read_names.specs.Spellings.{namesAt}
 use Rattle.read_names.proofs.Names.{names-many}
 use Rattle.read_head.proofs.DeclaredNames.{head-names}
-use Rattle.read_sheet.specs.Sheet.{Contents}
 use Rattle.read_sheet.proofs.Wholes.{sheet-head}
 use Rattle.read_reading.specs.Spans.{Span, marksOfAll}
 use Rattle.read_reading.proofs.Lines.{Within}
@@ -25,7 +24,6 @@ use Rattle.read_readings.proofs.Turns.{readings-are, readings-off}
 use Rattle.read_readings.proofs.Bounds.{entries-within}
 use Rattle.read_readings.proofs.Outcomes.{Noted-as}
 use Rattle.open_sheet.specs.Results.{Result, accepted, refused}
-use Rattle.open_sheet.specs.SheetIn.{sheetIn, namesIn}
 use Rattle.open_table.proofs.Tables.{InSheet, in-sheet}
 use Rattle.write_readings.specs.EntryTexts.{entriesText}
 use Rattle.spec_moves.specs.InOrder.{Shaped, MovedTo}

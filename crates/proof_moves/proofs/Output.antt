@@ -24,7 +24,7 @@ use Rattle.open_sheet.specs.Results.{accepted}
 use Rattle.open_sheet.specs.SheetIn.{namesIn}
 use Rattle.open_table.proofs.Tables.{in-sheet}
 use Rattle.write_readings.specs.EntryTexts.{entriesText}
-use Rattle.write_readings.proofs.WholeTexts.{allEntries, Writable, form-told, entries-back}
+use Rattle.write_readings.proofs.WholeTexts.{allEntries, OfForm, form-told, entries-back}
 use Rattle.spec_moves.specs.InOrder.{Shaped, SameMarks}
 use Rattle.spec_moves.specs.Moves.{Written, Moves}
 use Rattle.spec_moves.specs.Moves.Moves.{moved}
@@ -57,8 +57,8 @@ module _ {spans : Bool} {s r t : List ℕ} (w : Written spans s r t) where
   window-few = omega (arith, in-sheet s (w .sheet) .sizes .window-high)
 
   -- Each written entry can be read back: it is of a declared signal at ticks of the window, as the marks are.
-  writable : All (Writable spans (length (namesIn s (w .contents))) (w .contents .window)) (w .entries)
-  writable = all-of (Writable spans k W) (w .entries) each
+  writable : All (OfForm spans (length (namesIn s (w .contents))) (w .contents .window)) (w .entries)
+  writable = all-of (OfForm spans k W) (w .entries) each
     where
       k : ℕ
       k = length (namesIn s (w .contents))
@@ -66,7 +66,7 @@ module _ {spans : Bool} {s r t : List ℕ} (w : Written spans s r t) where
       W : ℕ
       W = w .contents .window
 
-      each : (e : Span) → List·Memᴰ e (w .entries) → Writable spans k W e
+      each : (e : Span) → List·Memᴰ e (w .entries) → OfForm spans k W e
       each e i =
           let a = readings-within (namesIn s (w .contents)) W r window-some (w .reads) in
           let b = moved-within k W (w .moved) (λ x t v j. all-at (MarkWithin k W) (w .marks) a (mark x t v) j) in

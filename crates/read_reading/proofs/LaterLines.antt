@@ -5,7 +5,7 @@ use mathlib.Core.Bool.{Bool, true, false}
 use mathlib.Core.List.{List, _++_}
 use Prim.Native.Nat.{ℕ, _+_, _-_}
 use native.Mathlib.Nat.{add-assoc}
-use lib.Dec.{leb, ltb, eqb}
+use lib.Dec.{leb, ltb}
 use lib.ListN.{length}
 use Rattle.read_bytes.specs.Read.Read.{got, refused}
 use Rattle.read_bytes.specs.Bytes.{bytes, nameByte}
@@ -15,7 +15,7 @@ use Rattle.read_bytes.proofs.Answers.{came}
 use Rattle.read_bytes.proofs.Later.{later, pick-map, runAt-later}
 use Rattle.read_lines.proofs.LinesLater.{then-moved, rangedLine-later, nameLine-later}
 use Rattle.read_lines.proofs.Prefix.{rangedLine-kept, nameLine-kept, word-kept}
-use Rattle.read_reading.specs.Spans.{Span, span}
+use Rattle.read_reading.specs.Spans.{Span}
 use Rattle.read_reading.specs.OneEntry.{knownLine, tickLine, firstKey, toLine, lastTick, entry}
 use Rattle.read_reading.proofs.Lines.{to-line, to-is, lines-of, entry-is}
 

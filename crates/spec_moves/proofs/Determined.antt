@@ -8,10 +8,8 @@ use Prim.Native.Nat.{ℕ, _<_, _≤_}
 use native.Mathlib.Omega.{arith}
 use lib.ListN.{length, drop}
 use Rattle.spec_limits.specs.Limits.{mostBytes}
-use Rattle.read_bytes.specs.Read.{Read}
 use Rattle.read_bytes.specs.Read.Read.{got, refused as unread}
 use Rattle.read_bytes.proofs.Answers.{not-both, same-value}
-use Rattle.spec_tilco.specs.Inference.{Mark}
 use Rattle.read_sheet.specs.Sheet.{Contents}
 use Rattle.read_reading.specs.Spans.{Span}
 use Rattle.read_readings.specs.Readings.{readings}

@@ -37,7 +37,8 @@ both-from {r} ws vs a b = record {
   ends = omega (arith, a .ends, b .ends, length-append ws vs);
 }
 
--- LINES
+-- ---- lines
+
 -- A key, a value that ends at an LF, and the LF.
 line-from : {r : List ℕ} {p v lf : ℕ} (key value : List ℕ) → Placed r p key v lf → starts r v value ≡ true → lf ≡ v + length value → From-to r p (lineText key value) (lf + 1)
 unfolding lineText
@@ -74,7 +75,8 @@ known-line-text names {r} {p} {i} {q} h =
     let l = line-from (bytes "signal=") (spellingAt r (w .value)) (w .at) (spelling-stands r (w .value)) (named r (w .value) (w .what .0) .ends) in
     rw (← same) (subst (From-to r p (lineText (bytes "signal=") (spellingAt r (w .value)))) (w .next ∙ t .2) l)
 
--- ENTRIES
+-- ---- entries
+
 -- A number up to 1 is the value that it says.
 bit-is : (bit : ℕ) → bit ≤ 1 → oneIf (eqb bit 1) ≡ bit
 bit-is zero h = refl

@@ -30,7 +30,8 @@ pub record Readable (names : List (List ℕ)) : Type 0 where
   pub whole : All WholeName names
   pub differ : Differ names
 
--- WHERE A SPELLING STANDS
+-- ---- where a spelling stands
+
 module _ (s : List ℕ) (p : ℕ) (w : List ℕ) where
   -- Letters and digits that stand alone are the spelling there.
   pub spelling-alone : every nameByte w ≡ true → starts s p w ≡ true → peek s (p + length w) ≡ byte "\n" → spellingAt s p ≡ w
@@ -53,7 +54,8 @@ alone w all =
     let a : starts w 0 w ≡ true = rw append-nil at (starts-self w []) in
     spelling-alone w 0 w all a (peek-out w (0 + length w) (omega arith))
 
--- WHERE A NAME STANDS
+-- ---- where a name stands
+
 -- Two places with the same spelling, of which the first has a name.
 module _ (s : List ℕ) (p : ℕ) {q : ℕ} {n : EndNumber} (h : nameAt s p ≡ Name q n) (t : List ℕ) (o : ℕ) (same : spellingAt t o ≡ spellingAt s p) where
   first-same : peek t o ≡ peek s p
@@ -103,7 +105,8 @@ name-back s p w h a lf =
     let e = spelling-alone s p w all a lf in
     (name-same w 0 h s p (e ∙ sym (alone w all)) ∙ rw e, e)
 
--- NUMBERS OF NAMES
+-- ---- numbers of names
+
 -- Each of the names is found,
 find-some : (names : List (List ℕ)) (i : ℕ) → i < length names → findName (getD names i []) names < length names
 find-some [] i h = absurd (omega arith)

@@ -2,7 +2,7 @@
 -- Assumes nothing. `spans` tells the text's form, `names` are the declared names, W the window, r a text.
 use mathlib.Core.Path.{_≡_, refl, sym, ap, _∙_}
 use mathlib.Core.Bool.{Bool, true, false}
-use mathlib.Core.List.{List, [], _∷_, _++_, append-assoc, append-nil, map, flatten}
+use mathlib.Core.List.{List, [], _∷_, _++_, append-assoc, append-nil, flatten}
 use Prim.Native.Nat.{ℕ, zero, suc, _+_, _-_, _≤_}
 use native.Mathlib.Omega.{arith}
 use borrow.Author.Tests.{ltb-false}
@@ -31,7 +31,7 @@ abbrev pub allEntries : Bool → List (List ℕ) → ℕ → List ℕ → Read (
 allEntries spans names W r = upTo (entry spans names W r) (length r) (length r) [] 0
 
 -- An entry that is one of the form's: within bounds, and a reading has one tick.
-pub record Writable (spans : Bool) (k W : ℕ) (e : Span) : Type 0 where
+pub record OfForm (spans : Bool) (k W : ℕ) (e : Span) : Type 0 where
   pub within : Within k W e
   pub one-tick : spans ≡ false → e .first ≡ e .last
 
@@ -57,10 +57,11 @@ unfolding entriesText flatten entryText lineText starts peek
 form-told true names e es = refl
 form-told false names e es = refl
 
--- WHAT IS WRITTEN IS READ BACK
+-- ---- what is written is read back
+
 module _ (spans : Bool) (names : List (List ℕ)) (readable : Readable names) (W : ℕ) (few : W ≤ 100000) where
   -- Entries that stand from p to the text's end are read after those before.
-  entries-read : (r : List ℕ) (es : List Span) (n : ℕ) (t : List Span) (p : ℕ) → All (Writable spans (length names) W) es → length es ≤ n → Standing r p (entriesText spans names es)
+  entries-read : (r : List ℕ) (es : List Span) (n : ℕ) (t : List Span) (p : ℕ) → All (OfForm spans (length names) W) es → length es ≤ n → Standing r p (entriesText spans names es)
       → length r ≡ p + length (entriesText spans names es) → upTo (entry spans names W r) (length r) n t p ≡ got (t ++ es) (length r)
   unfolding entriesText flatten
   entries-read r [] n t p w h st e =
@@ -76,12 +77,13 @@ module _ (spans : Bool) (names : List (List ℕ)) (readable : Readable names) (W
       ∙ ap (λ (u : List Span). got u (length r)) (append-assoc t (a ∷ []) es)
 
   -- A text of entries is read as them.
-  pub entries-back : (es : List Span) → All (Writable spans (length names) W) es → allEntries spans names W (entriesText spans names es) ≡ got es (length (entriesText spans names es))
+  pub entries-back : (es : List Span) → All (OfForm spans (length names) W) es → allEntries spans names W (entriesText spans names es) ≡ got es (length (entriesText spans names es))
   entries-back es w =
       let r = entriesText spans names es in
       entries-read r es (length r) [] 0 w (entries-few spans names es) (rw append-nil at (stands-self r [])) (omega arith)
 
--- A TEXT IS DETERMINED BY ITS ENTRIES
+-- ---- a text is determined by its entries
+
 -- What was read from p to q, after the entries t: the entries, and their writing.
 record Rest (spans : Bool) (names : List (List ℕ)) (r : List ℕ) (t : List Span) (p : ℕ) (u : List Span) (q : ℕ) : Type 0 where
   pub entries : List Span

@@ -1,5 +1,4 @@
 -- `larger` meets its contract. Assumes nothing.
-use borrow.Author.Needs.{needs}
 use borrow.Author.Tests.{lt-ltb, le-ltb}
 use Rattle.join_spans.proofs.larger.Statement.{statement}
 use Rattle.join_spans.proofs.larger.Tie as tie
