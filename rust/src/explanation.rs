@@ -43,6 +43,8 @@ struct Spot<'a> {
     at: usize,
     /// Whether the text ends before this byte, and no line begins here.
     past_the_text: bool,
+    /// Whether the text, if it is readings, is one of spans: its first key tells.
+    of_spans: bool,
 }
 
 impl<'a> Spot<'a> {
@@ -56,6 +58,7 @@ impl<'a> Spot<'a> {
             bytes: &bytes[start..end],
             at: place - start,
             past_the_text: start == bytes.len(),
+            of_spans: bytes.starts_with(b"from="),
         }
     }
 
@@ -145,6 +148,8 @@ fn sentence_at(refusal: Refusal, spot: &Spot<'_>) -> &'static str {
     match refusal.number() {
         2 | 11 if spot.past_the_text => "a line is missing here",
         2 => "this line is not of its form, out of order or without LF, or it follows the last line",
+        11 if is_of_the_other_form(spot) && spot.of_spans => "this is a line of single readings, in a text of spans",
+        11 if is_of_the_other_form(spot) => "this is a line of spans, in a text of single readings",
         11 => "this line is not of its form or without LF",
         3 if spot.bytes.starts_with(b"window=") => "the window is 1 to 4,096 ticks",
         3 if spot.bytes.starts_with(b"signals=") => "a sheet has 1 to 64 signals",
@@ -157,6 +162,12 @@ fn sentence_at(refusal: Refusal, spot: &Spot<'_>) -> &'static str {
         5 => "the formula cannot go on with this",
         _ => refusal.sentence(),
     }
+}
+
+/// Has the spot's line a key that only the other form has? The first line has no other form: its key tells that of the text.
+fn is_of_the_other_form(spot: &Spot<'_>) -> bool {
+    let keys: &[&[u8]] = if spot.of_spans { &[b"at="] } else { &[b"from=", b"to="] };
+    spot.line > 1 && keys.iter().any(|key| spot.bytes.starts_with(key))
 }
 
 /// Is the spot the first byte of a rule that has no byte, or over 256?

@@ -2,7 +2,8 @@
 //!
 //! A sheet says what must be true of its signals, tick by tick. Given readings, [`add`] settles signals as true or false at ticks of the
 //! window; each value holds in every history that obeys the sheet and agrees with the readings. These are safe functions over the proved
-//! reader, a static library: its three operations each take the sheet's text, and keep nothing between calls but the [`Table`] that they are lent.
+//! reader, a static library: [`check`], [`add`], [`ask`] and two moves each take the sheet's text, and keep nothing between calls but the [`Table`]
+//! that they are lent.
 //!
 //! ```
 //! use mikhakun::{add, ask, check, Table, Value};
@@ -24,6 +25,18 @@
 //! # Ok::<(), mikhakun::Refusal>(())
 //! ```
 //!
+//! A readings text is of single readings, as above, or of spans, and its first key tells which. [`to_spans`] and [`to_readings`] move it from
+//! either form to one of them:
+//!
+//! ```
+//! let sheet = b"window=10\nsignals=1\nsignal=clear2\nrules=0\n";
+//! let spans = b"from=3\nto=5\nsignal=clear2\nvalue=1\n";
+//! let readings = mikhakun::to_readings(sheet, spans)?;
+//! assert_eq!(readings, b"at=3\nsignal=clear2\nvalue=1\nat=4\nsignal=clear2\nvalue=1\nat=5\nsignal=clear2\nvalue=1\n");
+//! assert_eq!(mikhakun::to_spans(sheet, &readings)?, spans);
+//! # Ok::<(), mikhakun::Refusal>(())
+//! ```
+//!
 //! What is refused says why and where:
 //!
 //! ```
@@ -40,12 +53,14 @@
 
 mod explanation;
 mod ffi;
+mod moves;
 mod name;
 mod refusal;
 mod table;
 mod value;
 
 pub use explanation::Explanation;
+pub use moves::{to_readings, to_readings_into, to_spans, to_spans_into, LONGEST_TEXT};
 pub use refusal::{Refusal, Text};
 pub use table::Table;
 pub use value::Value;
@@ -73,7 +88,8 @@ pub fn check(sheet: &[u8]) -> Result<usize, Refusal> {
     answer(number, place, || rows as usize)
 }
 
-/// Adds readings to the table and closes it, or refuses and leaves every word of the table: 1 to 9, 15, 16, 10 to 14, in this order.
+/// Adds readings, single ones or spans, to the table and closes it, or refuses and leaves every word of the table: 1 to 9, 15, 16, 10, then 11 to 14
+/// and 21 line by line, in this order.
 ///
 /// The table then has exactly the marks that a finite chain of the inference rules leads to from the sheet's rules, the readings and what it held.
 ///
@@ -84,7 +100,7 @@ pub fn check(sheet: &[u8]) -> Result<usize, Refusal> {
 /// let mut table = Table::for_sheet(sheet)?;
 /// let added = add(sheet, b"at=0\nsignal=a\nvalue=1\n", &mut table)?;
 /// assert_eq!(added.new_facts, 3);
-/// assert_eq!(add(sheet, b"", &mut table)?.new_facts, 0);
+/// assert_eq!(add(sheet, b"from=1\nto=2\nsignal=a\nvalue=1\n", &mut table)?.new_facts, 0);
 /// # Ok::<(), mikhakun::Refusal>(())
 /// ```
 pub fn add(sheet: &[u8], readings: &[u8], table: &mut Table) -> Result<Added, Refusal> {

@@ -3,7 +3,7 @@
 use crate::Explanation;
 use std::fmt;
 
-/// Why a call was refused: a number from 1 to 17, and a place counted in bytes from 0.
+/// Why a call was refused: a number, 1 to 17, 20 or 21, and a place counted in bytes from 0.
 #[derive(Clone, Copy, Debug, PartialEq, Eq, Hash)]
 pub struct Refusal {
     number: u64,
@@ -24,7 +24,7 @@ impl Refusal {
         Refusal { number, place }
     }
 
-    /// Its number, 1 to 17.
+    /// Its number, 1 to 17, 20 or 21.
     pub fn number(&self) -> u64 {
         self.number
     }
@@ -34,11 +34,11 @@ impl Refusal {
         self.place
     }
 
-    /// The text that the place is in; none where the refusal is of a whole text, of the table or of what was asked.
+    /// The text that the place is in; none where the refusal is of a whole text, of the table, of what was asked or of the buffer.
     pub fn text(&self) -> Option<Text> {
         match self.number {
             2..=8 => Some(Text::Sheet),
-            11..=14 => Some(Text::Readings),
+            11..=14 | 21 => Some(Text::Readings),
             _ => None,
         }
     }
@@ -61,13 +61,15 @@ impl Refusal {
             8 => "a 33rd ( or ! is open here",
             9 => "the sheet has over 32 hidden signals or over 1,024 rows",
             10 => "the readings have over 32,768 bytes",
-            11 => "a readings line is missing, not of its form or without LF",
+            11 => "a readings line is missing, not of its form, of the other form or without LF",
             12 => "no signal of the sheet has this name",
             13 => "the tick is outside the window",
             14 => "the value is a number other than 0 or 1",
             15 => "the table's length is not that of the sheet's rows and window",
             16 => "the table has a mark at a tick outside the window",
             17 => "the signal or the tick asked for is outside its range",
+            20 => "what is to be written is longer than the buffer, or over 32,768 bytes",
+            21 => "the span's to= is below its from=",
             _ => "there is no refusal of this number",
         }
     }
@@ -112,7 +114,11 @@ mod tests {
 
     #[test]
     fn each_number_has_its_own_sentence() {
-        let sentences: std::collections::HashSet<_> = (0..=17).map(|n| Refusal::new(n, 0).sentence()).collect();
-        assert_eq!(sentences.len(), 18);
+        let none = Refusal::new(0, 0).sentence();
+        let sentences: std::collections::HashSet<_> = (0..=17).chain([20, 21]).map(|n| Refusal::new(n, 0).sentence()).collect();
+        assert_eq!(sentences.len(), 20);
+        for number in [18, 19, 22, u64::MAX] {
+            assert_eq!(Refusal::new(number, 0).sentence(), none);
+        }
     }
 }

@@ -1,6 +1,6 @@
 //! The calls that the gate runs and compares, made once more through the static library: `crates/run_operations/stdout` has each call with its answer.
 
-use mikhakun::{add, ask, check, Refusal, Table};
+use mikhakun::{add, ask, check, to_readings, to_spans, Refusal, Table};
 
 /// A call, or a text or table for the calls that follow: the words of its heading, the lines under it, and the answer's lines.
 #[derive(Default)]
@@ -71,9 +71,26 @@ fn added(sheet: &[u8], readings: &[u8], table: &mut Table) -> Vec<String> {
     std::iter::once(told).chain(words.map(|(at, word)| format!("word {at} {word}"))).collect()
 }
 
+/// Moved to either form, accepted readings have the same answer; what the moves refuse too, they refuse alike. Answers how many moves were accepted.
+fn same_when_moved(sheet: &[u8], readings: &[u8], table: &Table) -> usize {
+    let moved = [to_spans(sheet, readings), to_readings(sheet, readings)];
+    match add(sheet, readings, &mut table.clone()) {
+        Ok(_) => {
+            let answer = added(sheet, readings, &mut table.clone());
+            let texts = moved.iter().filter_map(|text| text.as_ref().map_err(|refusal| assert_eq!(refusal.number(), 20)).ok());
+            texts.inspect(|text| assert_eq!(added(sheet, text, &mut table.clone()), answer)).count()
+        }
+        Err(refusal) => {
+            let of_the_table = matches!(refusal.number(), 15 | 16);
+            assert!(of_the_table || moved.iter().all(|text| *text == Err(refusal)), "{refusal}");
+            0
+        }
+    }
+}
+
 #[test]
 fn every_call_has_the_answer_of_the_gate() {
-    let (mut sheet, mut table, mut calls) = (Vec::new(), Table::empty(0, 0), 0);
+    let (mut sheet, mut table, mut calls, mut moved) = (Vec::new(), Table::empty(0, 0), 0, 0);
     for entry in entries() {
         let answer = match entry.kind() {
             "sheet" => {
@@ -85,12 +102,15 @@ fn every_call_has_the_answer_of_the_gate() {
                 continue;
             }
             "check" => vec![check(&sheet).map_or_else(refused, |rows| format!("rows {rows}"))],
-            "add" => added(&sheet, &entry.text(), &mut table),
+            "add" => {
+                moved += same_when_moved(&sheet, &entry.text(), &table);
+                added(&sheet, &entry.text(), &mut table)
+            }
             "ask" => vec![ask(&sheet, &table, entry.number(1), entry.number(2)).map_or_else(refused, |value| value.to_string())],
             other => panic!("a heading of no known kind: {other}"),
         };
         assert_eq!(answer, entry.answer, "{}", entry.heading.join(" "));
         calls += 1;
     }
-    assert!(calls > 500, "only {calls} calls");
+    assert!(calls > 500 && moved > 200, "only {calls} calls and {moved} moves");
 }

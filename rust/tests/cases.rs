@@ -1,6 +1,6 @@
 //! P1 to P10, and signals that a listing has in another order: what follows from each sheet and its readings, one sign a tick as in the listing.
 
-use mikhakun::{add, ask, check, Added, Table};
+use mikhakun::{add, ask, check, to_readings, to_spans, Added, Table};
 
 /// A case: what it is called, the window, the signals, the rules, the readings as tick, signal and value, and what follows.
 struct Case {
@@ -84,6 +84,20 @@ fn readings_one_by_one_in_any_order_give_the_same_table() {
         }
         assert_eq!(cut, whole, "{}", case.name);
         assert_eq!(sum, facts, "{}", case.name);
+    }
+}
+
+#[test]
+fn readings_moved_to_either_form_give_the_same_table() {
+    for case in CASES {
+        let (sheet, readings) = (case.sheet(), case.texts().concat());
+        let closed = |text: &[u8]| {
+            let mut table = Table::for_sheet(&sheet).unwrap();
+            (add(&sheet, text, &mut table).unwrap(), table)
+        };
+        for text in [to_spans(&sheet, &readings).unwrap(), to_readings(&sheet, &readings).unwrap()] {
+            assert_eq!(closed(&text), closed(&readings), "{}", case.name);
+        }
     }
 }
 

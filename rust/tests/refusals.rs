@@ -1,6 +1,6 @@
 //! Each refusal number, with its place and what its explanation says.
 
-use mikhakun::{add, ask, check, Refusal, Table};
+use mikhakun::{add, ask, check, to_readings, to_readings_into, to_spans, to_spans_into, Refusal, Table};
 
 const SHEET: &[u8] = b"window=10\nsignals=2\nsignal=clear2\nsignal=go10\nrules=1\nrule=clear2@[-3,0]=>go10\n";
 
@@ -12,7 +12,20 @@ fn refused_sheet(sheet: &[u8]) -> Refusal {
     let mut table = Table::empty(0, 0);
     assert_eq!(add(sheet, b"", &mut table), Err(refusal));
     assert_eq!(ask(sheet, &table, 0, 0), Err(refusal));
+    refused_moves(sheet, &[b'x'; 32_769], refusal);
     refusal
+}
+
+/// Both moves are refused so, before they look for room, and the buffer keeps every byte.
+fn refused_moves(sheet: &[u8], readings: &[u8], refusal: Refusal) {
+    assert_eq!(to_spans(sheet, readings), Err(refusal));
+    assert_eq!(to_readings(sheet, readings), Err(refusal));
+    for room in [0, 50] {
+        let mut buffer = vec![b'.'; room];
+        assert_eq!(to_spans_into(sheet, readings, &mut buffer), Err(refusal));
+        assert_eq!(to_readings_into(sheet, readings, &mut buffer), Err(refusal));
+        assert_eq!(buffer, vec![b'.'; room]);
+    }
 }
 
 /// The sheet is refused by this number at this place, and the explanation is this.
@@ -35,7 +48,7 @@ fn name_case(name: &str, sentence: &str) {
     sheet_case(4, &format!("window=1\nsignals=1\nsignal={name}\n"), 26, &explanation);
 }
 
-/// The readings are refused by this number at this place, the explanation is this, and the table keeps every word.
+/// The readings are refused by this number at this place, in add and in the moves, the explanation is this, and the table keeps every word.
 fn readings_case(number: u64, readings: &str, place: usize, explanation: &str) {
     let mut table = Table::for_sheet(SHEET).unwrap();
     add(SHEET, b"at=1\nsignal=go10\nvalue=0\n", &mut table).unwrap();
@@ -44,6 +57,17 @@ fn readings_case(number: u64, readings: &str, place: usize, explanation: &str) {
     assert_eq!((refusal.number(), refusal.place()), (number, place), "{readings}");
     assert_eq!(refusal.explain(SHEET, readings.as_bytes()).to_string(), explanation, "{readings}");
     assert_eq!(table, before, "{readings}");
+    refused_moves(SHEET, readings.as_bytes(), refusal);
+}
+
+/// The same of the readings' line that this text ends with, at a byte of it.
+fn line_case(number: u64, readings: &str, at: usize, sentence: &str) {
+    let ended = readings.strip_suffix('\n').unwrap_or(readings);
+    let start = ended.rfind('\n').map_or(0, |lf| lf + 1);
+    let (line, count) = (&ended[start..], ended.matches('\n').count() + 1);
+    let caret = format!("    {:at$}^", "");
+    let explanation = format!("readings, line {count}, column {}: {sentence} (refusal {number})\n    {line}\n{caret}", at + 1);
+    readings_case(number, readings, start + at, &explanation);
 }
 
 /// The refusal is this one, which has no place in a text.
@@ -150,7 +174,9 @@ fn a_sheet_over_its_size() {
 #[test]
 fn readings_over_their_length() {
     let mut table = Table::for_sheet(SHEET).unwrap();
-    placeless(add(SHEET, &[b'a'; 32_769], &mut table).unwrap_err(), 10, "the readings have over 32,768 bytes");
+    let refusal = add(SHEET, &[b'a'; 32_769], &mut table).unwrap_err();
+    placeless(refusal, 10, "the readings have over 32,768 bytes");
+    refused_moves(SHEET, &[b'a'; 32_769], refusal);
 }
 
 #[test]
@@ -189,6 +215,57 @@ fn a_readings_line() {
         23,
         "readings, line 3, column 7: the value is a number other than 0 or 1 (refusal 14)\n    value=2\n          ^",
     );
+}
+
+#[test]
+fn a_line_of_spans() {
+    let form = "this line is not of its form or without LF";
+    let span = "from=1\nto=2\nsignal=go10\nvalue=0\n";
+    let missing = "a line is missing here (refusal 11)\n    \n    ^";
+    readings_case(11, "from=1\n", 7, &format!("readings, line 2, column 1: {missing}"));
+    readings_case(11, "from=1\nto=2\n", 12, &format!("readings, line 3, column 1: {missing}"));
+    readings_case(11, "from=1\nto=2\nsignal=go10\n", 24, &format!("readings, line 4, column 1: {missing}"));
+    for text in
+        ["from=", "from=01\n", "from=-1\n", "to=1\n", "from=1\nto=2", "from=1\nto=02\n", "from=1\nfrom=1\n", "from=1\nsignal=go10\n"]
+    {
+        line_case(11, text, 0, form);
+    }
+    for text in ["to=2\n", "value=1\n", "from=1"] {
+        line_case(11, &format!("{span}{text}"), 0, form);
+    }
+    line_case(12, &format!("{span}from=1\nto=2\nsignal=go2\n"), 7, "no signal of the sheet has this name");
+    line_case(13, "from=10\n", 5, "the tick is outside the window");
+    line_case(13, "from=1\nto=10\n", 3, "the tick is outside the window");
+    line_case(14, "from=1\nto=2\nsignal=go10\nvalue=2\n", 6, "the value is a number other than 0 or 1");
+}
+
+#[test]
+fn a_line_of_the_other_form() {
+    let (single, span) = ("at=1\nsignal=go10\nvalue=0\n", "from=1\nto=2\nsignal=go10\nvalue=0\n");
+    let in_single = "this is a line of spans, in a text of single readings";
+    let in_spans = "this is a line of single readings, in a text of spans";
+    line_case(11, &format!("{single}from=1\n"), 0, in_single);
+    line_case(11, &format!("{single}at=1\nto=2\n"), 0, in_single);
+    line_case(11, "at=1\nto=2\n", 0, in_single);
+    line_case(11, &format!("{span}at=1\n"), 0, in_spans);
+    line_case(11, "from=1\nat=2\n", 0, in_spans);
+}
+
+#[test]
+fn a_last_tick_below_the_first() {
+    let below = "the span's to= is below its from=";
+    for text in ["from=1\nto=0\n", "from=9\nto=8\n", "from=1\nto=2\nsignal=go10\nvalue=0\nfrom=3\nto=2\n"] {
+        line_case(21, text, 3, below);
+    }
+    let refusal = to_spans(SHEET, b"from=1\nto=0\nsignal=go2\n").unwrap_err();
+    assert_eq!(refusal.to_string(), format!("readings, byte 10: {below} (refusal 21)"));
+}
+
+#[test]
+fn no_room() {
+    let sentence = "what is to be written is longer than the buffer, or over 32,768 bytes";
+    placeless(to_spans_into(SHEET, b"at=1\nsignal=go10\nvalue=0\n", &mut [0; 31]).unwrap_err(), 20, sentence);
+    placeless(to_readings_into(SHEET, b"at=1\nsignal=go10\nvalue=0\n", &mut [0; 24]).unwrap_err(), 20, sentence);
 }
 
 #[test]

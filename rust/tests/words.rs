@@ -1,6 +1,6 @@
 //! Windows of several words: marks that go over the borders of words, the table's layout and length, and the widest window.
 
-use mikhakun::{add, ask, check, Refusal, Table, Value};
+use mikhakun::{add, ask, check, to_readings, to_spans, Refusal, Table, Value};
 
 const WINDOWS: [usize; 10] = [1, 63, 64, 65, 127, 128, 129, 192, 4_095, 4_096];
 const A: usize = 0;
@@ -16,6 +16,10 @@ fn sheet(window: usize, offset: i64) -> Vec<u8> {
 
 fn readings(ticks: &[usize], name: &str, value: u8) -> Vec<u8> {
     ticks.iter().flat_map(|tick| format!("at={tick}\nsignal={name}\nvalue={value}\n").into_bytes()).collect()
+}
+
+fn span(first: usize, last: usize, name: &str, value: u8) -> Vec<u8> {
+    format!("from={first}\nto={last}\nsignal={name}\nvalue={value}\n").into_bytes()
 }
 
 fn row_words(window: usize) -> usize {
@@ -81,6 +85,40 @@ fn a_mark_is_carried_through_the_whole_window() {
             assert_eq!(ticks_in(&table, window, A, value == 1).len(), window);
         }
     }
+}
+
+/// Spans whose ends are near borders: short ones, the longest, and those that end at one.
+fn spans_near_borders(window: usize) -> Vec<(usize, usize)> {
+    let near = near_borders(window);
+    let within = |first: usize| near.iter().filter(move |&&last| first <= last && last <= first + 130).map(move |&last| (first, last));
+    near.iter().flat_map(|&first| within(first)).chain([(0, window - 1)]).collect()
+}
+
+#[test]
+fn a_span_is_each_of_its_ticks_over_every_border() {
+    for window in WINDOWS.into_iter().filter(|&window| window < 200) {
+        for (first, last) in spans_near_borders(window) {
+            let ticks: Vec<usize> = (first..=last).collect();
+            for (offset, name, value) in [(1, "a", 1), (-63, "b", 0)] {
+                let sheet = sheet(window, offset);
+                let (span, single) = (span(first, last, name, value), readings(&ticks, name, value));
+                assert_eq!(marks_after(&sheet, window, &span), marks_after(&sheet, window, &single), "{window} {first} {last}");
+                assert_eq!(to_readings(&sheet, &span), Ok(single.clone()), "{window} {first} {last}");
+                assert_eq!(to_spans(&sheet, &single), Ok(span), "{window} {first} {last}");
+            }
+        }
+    }
+}
+
+#[test]
+fn a_span_over_the_widest_window() {
+    let widest = sheet(4_096, 1);
+    let [true_a, _, true_b, _] = marks_after(&widest, 4_096, &span(0, 4_095, "a", 1));
+    assert_eq!((true_a, true_b), ((0..4_096).collect(), (1..4_096).collect()));
+    assert_eq!(to_spans(&widest, &span(0, 4_095, "a", 1)), Ok(span(0, 4_095, "a", 1)));
+    assert_eq!(to_readings(&widest, &span(0, 4_095, "a", 1)).map_err(|refusal| refusal.number()), Err(20));
+    let past = to_spans(&widest, &span(0, 4_096, "a", 1)).unwrap_err();
+    assert_eq!((past.number(), past.place()), (13, 10));
 }
 
 #[test]

@@ -1,5 +1,5 @@
-/* Checks the shipped example, adds its readings, asks, and is refused, through the static library; then the same over windows of several words;
- * then names that end in a number. Prints what differs from what is wanted, and 'N passed, M failed' at the end. */
+/* Checks the shipped example, adds its readings, asks, moves them to spans and back, and is refused, through the static library; then the same over
+ * windows of several words; then names that end in a number. Prints what differs from what is wanted, and 'N passed, M failed' at the end. */
 #include "mikhakun.h"
 
 #include <stdio.h>
@@ -12,6 +12,8 @@ static const char SHEET[] = "window=10\nsignals=3\nsignal=clear2\nsignal=go10\ns
                             "rules=2\nrule=clear2@[-3,0]=>go10\nrule=go10=>open10@[2,2]\n";
 static const char READINGS[] = "at=3\nsignal=clear2\nvalue=1\nat=4\nsignal=clear2\nvalue=1\n"
                                "at=5\nsignal=clear2\nvalue=1\nat=6\nsignal=clear2\nvalue=1\n";
+
+static const char SPANS[] = "from=3\nto=6\nsignal=clear2\nvalue=1\n";
 
 static int passed, failed;
 
@@ -82,6 +84,81 @@ static void clash_is_told(uint64_t *table) {
     same("the clash", clash, 1);
     same("ask after a clash", mikhakun_ask(bytes(SHEET), strlen(SHEET), table, 30, 0, 0, &value, &place), 0);
     same("the contradiction", value, MIKHAKUN_CONTRADICTION);
+}
+
+typedef uint64_t Move(const uint8_t *, size_t, const uint8_t *, size_t, uint8_t *, size_t, uint64_t *, uint64_t *);
+enum { LONGEST_TEXT = 32768, MOST_ROOM = LONGEST_TEXT + 100, UNTOUCHED = '.' };
+static uint8_t out[MOST_ROOM];
+
+/* How many bytes of the buffer from `from` on are not as they were before the move. */
+static uint64_t touched(size_t from) {
+    uint64_t count = 0;
+    for (size_t at = from; at < MOST_ROOM; at++)
+        count += out[at] != UNTOUCHED;
+    return count;
+}
+
+/* The move writes the text wanted, its length and nothing else, in room that is just enough and in all there is. */
+static void moves(const char *what, Move *move, const char *readings, const char *wanted) {
+    const size_t rooms[] = {strlen(wanted), MOST_ROOM};
+    for (size_t i = 0; i < 2; i++) {
+        uint64_t length = UNWRITTEN, place = UNWRITTEN;
+        memset(out, UNTOUCHED, sizeof out);
+        same(what, move(bytes(SHEET), strlen(SHEET), bytes(readings), strlen(readings), out, rooms[i], &length, &place), 0);
+        same("length of a move", length, strlen(wanted));
+        same("text of a move", (uint64_t)memcmp(out, wanted, strlen(wanted)), 0);
+        same("bytes after a move", touched(strlen(wanted)), 0);
+        same("place after a move", place, UNWRITTEN);
+    }
+}
+
+/* The move is refused by this number at this place: no byte is written, and no length. */
+static void no_move(const char *what, Move *move, const char *sheet, const char *readings, size_t room, uint64_t number, uint64_t at) {
+    uint64_t length = UNWRITTEN, place = UNWRITTEN;
+    memset(out, UNTOUCHED, sizeof out);
+    same(what, move(bytes(sheet), strlen(sheet), bytes(readings), strlen(readings), out, room, &length, &place), number);
+    same("place of a refused move", place, at);
+    same("length of a refused move", length, UNWRITTEN);
+    same("bytes after a refused move", touched(0), 0);
+}
+
+/* The readings as spans and back, from either form; an empty text is both. */
+static void moved_there_and_back(void) {
+    moves("readings to spans", mikhakun_to_spans, READINGS, SPANS);
+    moves("spans to readings", mikhakun_to_readings, SPANS, READINGS);
+    moves("spans to spans", mikhakun_to_spans, SPANS, SPANS);
+    moves("readings to readings", mikhakun_to_readings, READINGS, READINGS);
+    moves("nothing to spans", mikhakun_to_spans, "", "");
+    moves("nothing to readings", mikhakun_to_readings, "", "");
+    moves("spans that touch", mikhakun_to_spans, "from=5\nto=6\nsignal=clear2\nvalue=1\nfrom=3\nto=4\nsignal=clear2\nvalue=1\n", SPANS);
+}
+
+/* What the moves refuse, and add with them, but for the room. */
+static void refused_moves(void) {
+    static const char below[] = "from=6\nto=3\nsignal=clear2\nvalue=1\n", mixed[] = "at=3\nsignal=clear2\nvalue=1\nfrom=4\n";
+    static const char night[] = "window=4096\nsignals=1\nsignal=shut\nrules=0\n", shut[] = "from=0\nto=4095\nsignal=shut\nvalue=1\n";
+    Move *const both[] = {mikhakun_to_spans, mikhakun_to_readings};
+    uint64_t table[30] = {0}, fresh = UNWRITTEN, clash = UNWRITTEN, place = UNWRITTEN;
+    for (size_t i = 0; i < 2; i++) {
+        no_move("move by a torn sheet", both[i], "window=10\n", READINGS, MOST_ROOM, MIKHAKUN_SHEET_LINE, strlen("window=10\n"));
+        no_move("move of to below from", both[i], SHEET, below, MOST_ROOM, MIKHAKUN_TO_BELOW_FROM, strlen("from=6\nto="));
+        no_move("move of a mixed text", both[i], SHEET, mixed, MOST_ROOM, MIKHAKUN_READINGS_LINE, (uint64_t)(strstr(mixed, "from=") - mixed));
+        no_move("move without room", both[i], SHEET, SPANS, 0, MIKHAKUN_NO_ROOM, 0);
+    }
+    no_move("spans and a byte too little", mikhakun_to_spans, SHEET, READINGS, strlen(SPANS) - 1, MIKHAKUN_NO_ROOM, 0);
+    no_move("readings and a byte too little", mikhakun_to_readings, SHEET, SPANS, strlen(READINGS) - 1, MIKHAKUN_NO_ROOM, 0);
+    no_move("readings over 32,768 bytes", mikhakun_to_readings, night, shut, MOST_ROOM, MIKHAKUN_NO_ROOM, 0);
+    same("add of to below from", mikhakun_add(bytes(SHEET), strlen(SHEET), bytes(below), strlen(below), table, 30, &fresh, &clash, &place), MIKHAKUN_TO_BELOW_FROM);
+    same("place of to", place, strlen("from=6\nto="));
+}
+
+/* The spans give the table that the readings gave. */
+static void add_spans(const uint64_t *wanted) {
+    uint64_t table[30] = {0}, fresh = UNWRITTEN, clash = UNWRITTEN, place = UNWRITTEN;
+    same("add of spans", mikhakun_add(bytes(SHEET), strlen(SHEET), bytes(SPANS), strlen(SPANS), table, 30, &fresh, &clash, &place), 0);
+    same("new facts of spans", fresh, 6);
+    same("clash of spans", clash, 0);
+    same("table of spans", (uint64_t)memcmp(table, wanted, sizeof table), 0);
 }
 
 /* A sheet of such a window whose rule carries a mark of a to b a tick later, or one of b back, and its empty table. */
@@ -189,6 +266,9 @@ int main(void) {
     check_refuses();
     add_and_ask(table);
     refusals_keep_the_table(table);
+    add_spans(table);
+    moved_there_and_back();
+    refused_moves();
     clash_is_told(table);
     free(table);
     for (size_t i = 0; i < sizeof windows / sizeof *windows; i++)

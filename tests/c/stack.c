@@ -1,5 +1,6 @@
-/* How much stack a call takes: check, add and ask run on a painted stack, on sheets whose one rule is as deep as a rule can be, in many ways. The rules
- * that took most are tried again over the widest window, whose table is 64 times as long, and there one with the most rows.
+/* How much stack a call takes: check, add, ask and the moves run on a painted stack, on sheets whose one rule is as deep as a rule can be, in many ways.
+ * What is added and moved is two equal spans. The rules that took most are tried again over the widest window, whose table is 64 times as long, and there
+ * one with the most rows, with the longest texts of both forms.
  * Prints the most that each took, and 'N passed, M failed' at the end: a call passes if it never took more than include/mikhakun.h asks for, the rule
  * of the most rows if it has them. */
 #define _POSIX_C_SOURCE 200809L
@@ -10,7 +11,8 @@
 #include <string.h>
 #include <ucontext.h>
 
-enum { ASKED = 72 * 1024, STACK = 2 * ASKED, PAINT = 0xA5, LONGEST_RULE = 256, MOST_OPEN = 32, MOST_ROWS = 1024, NARROW = 64, WIDEST = 4096 };
+enum { ASKED = 72 * 1024, STACK = 2 * ASKED, PAINT = 0xA5, LONGEST_RULE = 256, MOST_OPEN = 32, MOST_ROWS = 1024, NARROW = 64, WIDEST = 4096,
+       LONGEST_TEXT = 32768, LONGEST_ENTRY = 40 };
 
 /* What is put around a rule's core, over and over; what the core is; and what fills the rest of the rule behind it. */
 static const struct { const char *open, *close; } NESTS[] = {
@@ -22,17 +24,24 @@ static const struct { const char *core, *fill; } ENDS[] = {{"a", "&a"}, {"a", "@
 /* A signal, four times 127 looks and the 126 gates that join them, and 11 gates: MOST_ROWS rows. */
 static const char MANY_ROWS[] = "a@[-63,63]@[-63,63]@[-63,63]@[-63,63]&a&a&a&a&a&a&a&a&a&a&a";
 
-static uint8_t stack[STACK];
+/* Equal entries take the moves furthest down, as they put entries in order by halving. */
+static const char EQUAL_SPANS[] = "from=0\nto=63\nsignal=a\nvalue=1\nfrom=0\nto=63\nsignal=a\nvalue=1\n";
+
+static uint8_t stack[STACK], out[LONGEST_TEXT];
 static ucontext_t outside, inside;
-static char sheet[LONGEST_RULE + 64];
-static uint64_t table[2 * MOST_ROWS * (WIDEST / 64)], words, rows, place, fresh, clash, value, number;
+static char sheet[LONGEST_RULE + 64], readings[LONGEST_TEXT + 1];
+static size_t readings_len;
+static uint64_t table[2 * MOST_ROWS * (WIDEST / 64)], words, rows, place, fresh, clash, value, length, number;
 
 static void check(void) { number = mikhakun_check((uint8_t *)sheet, strlen(sheet), &rows, &place); }
-static void add(void) { number = mikhakun_add((uint8_t *)sheet, strlen(sheet), (const uint8_t *)"", 0, table, words, &fresh, &clash, &place); }
+static void add(void) { number = mikhakun_add((uint8_t *)sheet, strlen(sheet), (uint8_t *)readings, readings_len, table, words, &fresh, &clash, &place); }
 static void ask(void) { number = mikhakun_ask((uint8_t *)sheet, strlen(sheet), table, words, 0, 0, &value, &place); }
+static void to_spans(void) { number = mikhakun_to_spans((uint8_t *)sheet, strlen(sheet), (uint8_t *)readings, readings_len, out, sizeof out, &length, &place); }
+static void to_readings(void) { number = mikhakun_to_readings((uint8_t *)sheet, strlen(sheet), (uint8_t *)readings, readings_len, out, sizeof out, &length, &place); }
 
 static struct { const char *name; void (*call)(void); size_t most; int window; char rule[LONGEST_RULE + 1]; } calls[] = {
     {.name = "check", .call = check}, {.name = "add", .call = add}, {.name = "ask", .call = ask},
+    {.name = "to_spans", .call = to_spans}, {.name = "to_readings", .call = to_readings},
 };
 
 /* How many bytes a call takes of the stack, which is painted before it: from the top down to the last byte whose paint is gone. Paints it again. */
@@ -72,6 +81,19 @@ static int deep_rule(char *rule, size_t outer, size_t depth, size_t inner, size_
     return 1;
 }
 
+static void short_text(void) { readings_len = strlen(strcpy(readings, EQUAL_SPANS)); }
+
+/* A text as long as a text can be, from the last tick of the widest window down: spans of two ticks, or single readings. */
+static void longest_text(int spans)
+{
+    readings_len = 0;
+    for (int tick = WIDEST - 2; readings_len + LONGEST_ENTRY <= LONGEST_TEXT; tick--) {
+        char *at = readings + readings_len;
+        if (spans) readings_len += (size_t)sprintf(at, "from=%d\nto=%d\nsignal=a\nvalue=1\n", tick, tick + 1);
+        else readings_len += (size_t)sprintf(at, "at=%d\nsignal=a\nvalue=1\n", tick);
+    }
+}
+
 /* Makes each call on the sheet of this rule over this window, which is accepted, but for its size. The table is empty before and after. */
 static void try_rule(const char *rule, int window)
 {
@@ -92,17 +114,28 @@ static void try_rule(const char *rule, int window)
     memset(table, 0, words * sizeof *table);
 }
 
+/* The rules that took most, and the one of the most rows, over the widest window. */
+static void try_widest(void)
+{
+    char rule[LONGEST_RULE + 1];
+    for (size_t i = 0; i < COUNT(calls); i++) try_rule(strcpy(rule, calls[i].rule), WIDEST);
+    try_rule(MANY_ROWS, WIDEST);
+}
+
 int main(void)
 {
     char rule[LONGEST_RULE + 1];
     memset(stack, PAINT, sizeof stack);
+    short_text();
     for (size_t outer = 0; outer < COUNT(NESTS); outer++)
         for (size_t inner = 0; inner < COUNT(NESTS); inner++)
             for (size_t depth = 0; depth <= MOST_OPEN; depth++)
                 for (size_t end = 0; end < COUNT(ENDS); end++)
                     if (deep_rule(rule, outer, depth, inner, end)) try_rule(rule, NARROW);
-    for (size_t i = 0; i < COUNT(calls); i++) try_rule(strcpy(rule, calls[i].rule), WIDEST);
-    try_rule(MANY_ROWS, WIDEST);
+    for (int spans = 0; spans < 2; spans++) {
+        longest_text(spans);
+        try_widest();
+    }
     int failed = rows != MOST_ROWS;
     for (size_t i = 0; i < COUNT(calls); i++) {
         printf("%s took %zu bytes of stack at most, with window=%d and the rule %s\n", calls[i].name, calls[i].most, calls[i].window, calls[i].rule);

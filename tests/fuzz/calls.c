@@ -1,11 +1,13 @@
 /* One input of the fuzzer: a sheet, readings, a lent table and a question. It makes the calls and sees that each keeps what include/mikhakun.h
- * promises: what it may answer, what it writes and what it leaves. The first breach is told in a line and ends the program.
+ * promises: what it may answer, what it writes and what it leaves. The first breach is told in a line and ends the program. What the moves must write is
+ * made from what the readings add to a table without rules.
  *
  * The input is the sheet's bytes, a zero byte, the readings' bytes, a zero byte, and then, each a byte: the signal asked for, the tick in its word, that
  * word, by how many words the table is too long, and three for each mark of the table that is lent: its word (two bytes) and its tick there. What is
- * missing counts as 0. The longest tables take milliseconds to close, so an input in 32 is lent one, by its length; of the others such a sheet is only checked.
+ * missing counts as 0. The longest tables take milliseconds to close, so an input in 32 is lent one, by its length; of the others such a sheet is only checked
+ * and the readings moved.
  *
- * The library is machine code that no sanitizer has prepared. So each text and table ends or begins where memory that nobody may touch begins
+ * The library is machine code that no sanitizer has prepared. So each text, table and buffer ends or begins where memory that nobody may touch begins
  * or ends, and the calls run above such memory too, on a stack of the 72 KB that a call may take and 2 for what makes it: a step too far in any of them is a crash. */
 #define _GNU_SOURCE
 #include <stdio.h>
@@ -16,15 +18,17 @@
 
 #include "../../include/mikhakun.h"
 
-enum { PAGE = 4096, LONGEST_INPUT = 1 << 17, OFTEN_LENT = 2 * 1024 * 8, MOST_WORDS = 2 * 1024 * 64 + 255, STACK = (72 + 2) * 1024 };
+enum { PAGE = 4096, LONGEST_INPUT = 1 << 17, OFTEN_LENT = 2 * 1024 * 8, MOST_WORDS = 2 * 1024 * 64 + 255, STACK = (72 + 2) * 1024,
+       LONGEST_TEXT = 32768, LONGEST_ENTRY = 64, MOST_ROOM = LONGEST_TEXT + LONGEST_ENTRY, MOST_SIGNALS = 64, MOST_SAID = 2 * MOST_SIGNALS * 64 };
 static const uint64_t UNWRITTEN = 0x5EC02D5EC02D5EC0;
 
 /* What the fuzzer is told beside the blocks of code that were reached: which answers were given, and how large the results were. */
-enum { CHECK = 0, ADD = 20, ASK = 40, ROWS = 60, FRESH = 80, VALUE = 100, KINDS = 120 };
+enum { CHECK = 0, ADD = 30, ASK = 60, TO_SPANS = 90, TO_READINGS = 120, ROWS = 150, FRESH = 180, VALUE = 210, WRITTEN = 240, KINDS = 300 };
 static uint8_t told[KINDS] __attribute__((section("__libfuzzer_extra_counters")));
 
-/* How many inputs there were, and in how many of them the sheet was accepted, the add, and an add to a table of several words a row and value. */
-uint64_t inputs, sheets, adds, wide_adds;
+/* How many inputs there were, and in how many of them the sheet was accepted, the add, an add to a table of several words a row and value, the readings
+ * (whatever the table), and readings that were spans. */
+uint64_t inputs, sheets, adds, wide_adds, texts, span_texts;
 
 static void must_hold(int holds, const char *what)
 {
@@ -53,12 +57,13 @@ static void *lend(Area area, const void *from, size_t bytes, int low)
     return at;
 }
 
-static Area sheet_area, readings_area, table_area, stack_area;
+static Area sheet_area, readings_area, moved_area, out_area, table_area, stack_area;
 
 /* The input, taken apart. */
 typedef struct { const uint8_t *start; size_t len; } Text;
 static Text sheet, readings, rest;
 static int low, any_length;
+static size_t some_room;
 static const uint8_t *lent_sheet, *lent_readings;
 
 /* The bytes before the next zero byte, which are taken from `from`. */
@@ -90,8 +95,9 @@ static int bits(uint64_t number)
 static uint64_t before[MOST_WORDS], *table;
 static size_t words;
 
-/* An accepted sheet: how many signals it has, its window, and how many words a row has there for each value. */
+/* An accepted sheet: how many signals it has, their names, its window, and how many words a row has there for each value. */
 static uint64_t signals, window, row_words;
+static Text names[MOST_SIGNALS];
 
 static int table_kept(void) { return memcmp(before, table, 8 * words) == 0; }
 
@@ -101,17 +107,27 @@ static int place_allowed(uint64_t number, uint64_t place)
     if (number == 2) return place <= sheet.len;
     if (number >= 3 && number <= 8) return place < sheet.len;
     if (number == 11) return place <= readings.len;
-    if (number >= 12 && number <= 14) return place < readings.len;
+    if ((number >= 12 && number <= 14) || number == 21) return place < readings.len;
     return place == 0;
+}
+
+/* Which numbers a call may answer. */
+static int number_allowed(int call, uint64_t number)
+{
+    int of_readings = (number >= 10 && number <= 14) || number == 21, of_table = number == 15 || number == 16;
+    if (number <= 9) return 1;
+    if (call == ADD) return of_readings || of_table;
+    if (call == ASK) return of_table || number == 17;
+    return (call == TO_SPANS || call == TO_READINGS) && (of_readings || number == 20);
 }
 
 /* A call's answer: the number, and the place of a refusal. */
 typedef struct { uint64_t number, place, value, clash; } Answer;
 
 /* What holds after every call: results are written exactly at acceptance, the place exactly at a refusal, and the texts stay. */
-static void must_be_whole(int call, Answer a, uint64_t last)
+static void must_be_whole(int call, Answer a)
 {
-    MUST(a.number <= last);
+    MUST(number_allowed(call, a.number));
     told[call + a.number] = 1;
     MUST((a.number == 0) == (a.value != UNWRITTEN));
     MUST(a.number == 0 ? a.place == UNWRITTEN : place_allowed(a.number, a.place));
@@ -123,7 +139,7 @@ static Answer check(void)
 {
     Answer a = { 0, UNWRITTEN, UNWRITTEN, 0 };
     a.number = mikhakun_check(lent_sheet, sheet.len, &a.value, &a.place);
-    must_be_whole(CHECK, a, 9);
+    must_be_whole(CHECK, a);
     return a;
 }
 
@@ -132,7 +148,7 @@ static Answer add(const uint8_t *text, size_t len)
     Answer a = { 0, UNWRITTEN, UNWRITTEN, UNWRITTEN };
     memcpy(before, table, 8 * words);
     a.number = mikhakun_add(lent_sheet, sheet.len, text, len, table, words, &a.value, &a.clash, &a.place);
-    must_be_whole(ADD, a, 16);
+    must_be_whole(ADD, a);
     MUST((a.number == 0) == (a.clash != UNWRITTEN));
     MUST(a.number == 0 || table_kept());
     return a;
@@ -143,10 +159,39 @@ static Answer ask(uint64_t signal, uint64_t tick)
     Answer a = { 0, UNWRITTEN, UNWRITTEN, 0 };
     memcpy(before, table, 8 * words);
     a.number = mikhakun_ask(lent_sheet, sheet.len, table, words, signal, tick, &a.value, &a.place);
-    must_be_whole(ASK, a, 17);
-    MUST(a.number < 10 || a.number > 14);
+    must_be_whole(ASK, a);
     MUST(table_kept());
     return a;
+}
+
+/* The forms of readings, each with the move to it. */
+enum { SPANS, SINGLE, FORMS };
+typedef uint64_t Move(const uint8_t *, size_t, const uint8_t *, size_t, uint8_t *, size_t, uint64_t *, uint64_t *);
+static Move *const to_form[FORMS] = { mikhakun_to_spans, mikhakun_to_readings };
+
+/* What the lent buffer holds before a move: bytes that no text has. */
+static uint8_t unwritten[MOST_ROOM], *out;
+
+/* A move of a text into a buffer of so many bytes: it writes the text, whose length it answers, and nothing else. */
+static Answer move(int form, Text text, size_t room)
+{
+    Answer a = { 0, UNWRITTEN, UNWRITTEN, 0 };
+    out = lend(out_area, unwritten, room, low);
+    a.number = to_form[form](lent_sheet, sheet.len, text.start, text.len, out, room, &a.value, &a.place);
+    must_be_whole(form == SPANS ? TO_SPANS : TO_READINGS, a);
+    size_t written = a.number == 0 ? a.value : 0;
+    MUST(written <= room && written <= LONGEST_TEXT);
+    MUST(memcmp(out + written, unwritten, room - written) == 0);
+    return a;
+}
+
+/* Both moves of the readings are refused so. */
+static void must_not_move(uint64_t number, uint64_t place)
+{
+    for (int form = 0; form < FORMS; form++) {
+        Answer a = move(form, (Text){ lent_readings, readings.len }, some_room);
+        MUST(a.number == number && a.place == place);
+    }
 }
 
 /* The lent table: so many words, with the marks that the rest names. */
@@ -237,6 +282,7 @@ static void read_numbers(void)
     char *next;
     window = strtoul((const char *)sheet.start + strlen("window="), &next, 10);
     signals = strtoul(next + strlen("\nsignals="), NULL, 10);
+    MUST(signals >= 1 && signals <= MOST_SIGNALS);
     row_words = window / 64 + (window % 64 != 0);
     MUST(window >= 1 && window <= 4096);
     MUST(mikhakun_window(lent_sheet) == window);
@@ -250,18 +296,123 @@ static int end_number_allowed(const uint8_t *name, const uint8_t *end)
     return end - first <= 1 || (end - first <= 4 && *first != '0');
 }
 
-/* The lines of an accepted sheet end in LF, and the names that it declares in such digits. */
-static void must_have_end_numbers(void)
+/* Takes the names that an accepted sheet declares. Its lines end in LF, and its names in such digits. */
+static void read_names(void)
 {
     static const char key[] = "signal=";
     const uint8_t *line = sheet.start, *end = line + sheet.len;
+    size_t count = 0;
     while (line < end) {
-        const uint8_t *lf = memchr(line, '\n', (size_t)(end - line));
+        const uint8_t *lf = memchr(line, '\n', (size_t)(end - line)), *name = line + strlen(key);
         MUST(lf != NULL);
-        int is_signal = (size_t)(lf - line) >= strlen(key) && memcmp(line, key, strlen(key)) == 0;
-        MUST(!is_signal || end_number_allowed(line + strlen(key), lf));
+        if ((size_t)(lf - line) >= strlen(key) && memcmp(line, key, strlen(key)) == 0) {
+            MUST(count < signals && end_number_allowed(name, lf));
+            names[count++] = (Text){ name, (size_t)(lf - name) };
+        }
         line = lf + 1;
     }
+    MUST(count == signals);
+}
+
+/* Adds a text to the empty table of the sheet without its rules: that has then the marks that the text says, and no others. */
+static Answer say(Text text, uint64_t *marks)
+{
+    static const char no_rules[] = "rules=0\n";
+    static uint8_t bare[LONGEST_TEXT];
+    Answer a = { 0, UNWRITTEN, UNWRITTEN, UNWRITTEN };
+    size_t head = (size_t)(names[signals - 1].start - sheet.start) + names[signals - 1].len + 1, length = 2 * signals * row_words;
+    memcpy(bare, sheet.start, head);
+    memcpy(bare + head, no_rules, strlen(no_rules));
+    memset(marks, 0, 8 * length);
+    a.number = mikhakun_add(bare, head + strlen(no_rules), text.start, text.len, marks, length, &a.value, &a.clash, &a.place);
+    must_be_whole(ADD, a);
+    MUST(a.number == 0 || (a.number >= 10 && a.number != 15 && a.number != 16));
+    return a;
+}
+
+/* What the readings say, and what each move must write of that: a text, or one over LONGEST_TEXT, cut somewhere after that. */
+static uint64_t said[MOST_SAID];
+static struct { char text[MOST_ROOM]; size_t len; } wanted[FORMS];
+
+/* The first tick from `tick` on that has a mark, or has none; the window's end, if there is none. */
+static uint64_t next_tick(const uint64_t *row, uint64_t tick, int has_mark)
+{
+    while (tick < window && (int)(row[tick / 64] >> tick % 64 & 1) != has_mark) tick++;
+    return tick;
+}
+
+/* Writes an entry: a span, or a reading of its first tick. */
+static void want_entry(int form, uint64_t first, uint64_t last, Text name, int value)
+{
+    char *at = wanted[form].text + wanted[form].len;
+    int length = form == SPANS
+        ? sprintf(at, "from=%lu\nto=%lu\nsignal=%.*s\nvalue=%d\n", first, last, (int)name.len, (const char *)name.start, value)
+        : sprintf(at, "at=%lu\nsignal=%.*s\nvalue=%d\n", first, (int)name.len, (const char *)name.start, value);
+    wanted[form].len += (size_t)length;
+}
+
+/* Writes what the marks of a row say: by its longest spans, or by its ticks. */
+static void want_row(int form, const uint64_t *row, Text name, int value)
+{
+    uint64_t after;
+    for (uint64_t first = next_tick(row, 0, 1); first < window && wanted[form].len <= LONGEST_TEXT; first = next_tick(row, after, 1)) {
+        after = form == SPANS ? next_tick(row, first, 0) : first + 1;
+        want_entry(form, first, after - 1, name, value);
+    }
+}
+
+/* By signal, then value with 0 first. The words of truth stand before those of falsehood. */
+static void want(int form)
+{
+    wanted[form].len = 0;
+    for (uint64_t signal = 0; signal < signals; signal++)
+        for (int value = 0; value < 2; value++)
+            want_row(form, said + (2 * signal + (value == 0)) * row_words, names[signal], value);
+    told[WRITTEN + 20 * form + bits(wanted[form].len)] = 1;
+}
+
+/* The move writes what is wanted where it has room for it, or is refused by 20. */
+static void must_move(int form, Text text)
+{
+    size_t length = wanted[form].len;
+    if (length > LONGEST_TEXT) {
+        MUST(move(form, text, MOST_ROOM).number == 20);
+        return;
+    }
+    Answer a = move(form, text, length + some_room);
+    MUST(a.number == 0 && a.value == length && memcmp(out, wanted[form].text, length) == 0);
+    MUST(length == 0 || move(form, text, length - 1).number == 20);
+}
+
+/* A written text says the same, moved again it is the same, and moved on it is what the readings are in that form. */
+static void must_come_back(int form)
+{
+    static uint64_t said_again[MOST_SAID];
+    Text written = { lend(moved_area, wanted[form].text, wanted[form].len, low), wanted[form].len };
+    MUST(say(written, said_again).number == 0);
+    MUST(memcmp(said_again, said, 8 * 2 * signals * row_words) == 0);
+    for (int to = 0; to < FORMS; to++) must_move(to, written);
+    MUST(memcmp(written.start, wanted[form].text, written.len) == 0);
+}
+
+/* The moves of readings, for an accepted sheet: what add refuses of them is refused. What is of a form already gets no longer. */
+static Answer must_be_moved(void)
+{
+    Text given = { lent_readings, readings.len };
+    Answer a = say(given, said);
+    if (a.number != 0) {
+        must_not_move(a.number, a.place);
+        return a;
+    }
+    int form = readings.len > 0 && readings.start[0] == 'f' ? SPANS : SINGLE;
+    texts++;
+    span_texts += form == SPANS;
+    for (int to = 0; to < FORMS; to++) want(to);
+    MUST(wanted[form].len <= readings.len);
+    for (int to = 0; to < FORMS; to++) must_move(to, given);
+    for (int from = 0; from < FORMS; from++)
+        if (wanted[from].len <= LONGEST_TEXT) must_come_back(from);
+    return a;
 }
 
 /* A table of another length than the sheet's is refused. */
@@ -278,7 +429,8 @@ static void accepted_sheet(uint64_t rows)
     MUST(rows >= 1 && rows <= 1024);
     told[ROWS + bits(rows)] = 1;
     read_numbers();
-    must_have_end_numbers();
+    read_names();
+    Answer moved = must_be_moved();
     size_t length = mikhakun_words(rows, window), too_long = rest.len > 3 ? rest.start[3] : 0;
     MUST(length == 2 * rows * row_words);
     if (length > OFTEN_LENT && !any_length) return;
@@ -291,8 +443,7 @@ static void accepted_sheet(uint64_t rows)
     }
     must_be_told();
     Answer added = add(lent_readings, readings.len);
-    MUST(added.number == 0 || added.number >= 10);
-    MUST(added.number != 15 && added.number != 16);
+    MUST(added.number == moved.number && added.place == moved.place);
     if (added.number == 0) must_be_closed(added);
     adds += added.number == 0;
     wide_adds += added.number == 0 && row_words > 1;
@@ -309,6 +460,7 @@ static void calls(void)
     } else {
         lend_table(number_at(3) % OFTEN_LENT);
         must_be_refused(checked.number, checked.place);
+        must_not_move(checked.number, checked.place);
     }
 }
 
@@ -318,6 +470,9 @@ int LLVMFuzzerTestOneInput(const uint8_t *data, size_t size)
     if (stack_area.start == NULL) {
         sheet_area = area(LONGEST_INPUT);
         readings_area = area(LONGEST_INPUT);
+        moved_area = area(LONGEST_TEXT);
+        out_area = area(MOST_ROOM);
+        memset(unwritten, 0xA5, sizeof unwritten);
         table_area = area(8 * MOST_WORDS);
         stack_area = area(STACK);
     }
@@ -327,6 +482,7 @@ int LLVMFuzzerTestOneInput(const uint8_t *data, size_t size)
     readings = part(&rest);
     low = size % 2;
     any_length = size / 2 % 32 == 0;
+    some_room = size % LONGEST_ENTRY;
     lent_sheet = lend(sheet_area, sheet.start, sheet.len, low);
     lent_readings = lend(readings_area, readings.start, readings.len, low);
     getcontext(&inside);

@@ -1,19 +1,19 @@
 /* How libFuzzer changes an input (see calls.c for its form). Changed at any byte, most sheets are refused in their first lines; so most changes are
- * to one line, or to what follows the sheet, and the numbers of signals and rules are then made to fit the lines. */
+ * to one line, or to what follows the sheet, and the numbers of signals and rules are then made to fit the lines. Some give the readings their other form. */
 #include <stdint.h>
 #include <stdio.h>
 #include <string.h>
 
 size_t LLVMFuzzerMutate(uint8_t *data, size_t size, size_t most);
 
-/* Right numbers can make an input longer, but not to twice its length. */
+/* Right numbers can make an input longer, but not to twice its length; another form, not to three times. */
 enum { LONGEST = 1 << 17 };
-static char changed[2 * LONGEST];
+static char changed[3 * LONGEST];
 
-/* Where the sheet ends: at the first zero byte. */
-static size_t sheet_end(const char *text, size_t size)
+/* Where the text at `from` ends: at the next zero byte. */
+static size_t text_end(const char *text, size_t from, size_t size)
 {
-    const char *zero = size == 0 ? NULL : memchr(text, 0, size);
+    const char *zero = from == size ? NULL : memchr(text + from, 0, size - from);
     return zero == NULL ? size : (size_t)(zero - text);
 }
 
@@ -39,7 +39,7 @@ static unsigned lines_with(const char *text, size_t end, const char *key)
 /* Copies the input with the right numbers in the lines `signals=` and `rules=`; answers its new length. */
 static size_t with_right_numbers(const char *text, size_t size)
 {
-    size_t end = sheet_end(text, size), length = 0, next;
+    size_t end = text_end(text, 0, size), length = 0, next;
     unsigned signals = lines_with(text, end, "signal="), rules = lines_with(text, end, "rule=");
     for (size_t from = 0; from < end; from = next) {
         next = line_end(text, from, end);
@@ -56,6 +56,44 @@ static size_t with_right_numbers(const char *text, size_t size)
     return length + size - end;
 }
 
+/* Puts bytes behind those of the changed input; answers its new length. */
+static size_t put(size_t length, const char *bytes, size_t count)
+{
+    memcpy(changed + length, bytes, count);
+    return length + count;
+}
+
+/* Copies the input with the readings in their other form, line by line: spans of one tick, or readings of the first ticks. Answers its new length. */
+static size_t in_the_other_form(const char *text, size_t size)
+{
+    size_t from = text_end(text, 0, size), next;
+    from += from < size;
+    size_t end = text_end(text, from, size), length = put(0, text, from);
+    for (; from < end; from = next) {
+        next = line_end(text, from, end);
+        if (starts(text, from, end, "at=")) {
+            length = put(length, "from=", strlen("from="));
+            length = put(length, text + from + strlen("at="), next - from - strlen("at="));
+            length = put(length, "to=", strlen("to="));
+            length = put(length, text + from + strlen("at="), next - from - strlen("at="));
+        } else if (starts(text, from, end, "from=")) {
+            length = put(length, "at=", strlen("at="));
+            length = put(length, text + from + strlen("from="), next - from - strlen("from="));
+        } else if (!starts(text, from, end, "to=")) {
+            length = put(length, text + from, next - from);
+        }
+    }
+    return put(length, text + end, size - end);
+}
+
+/* Takes the changed input, cut to what there is room for. */
+static size_t take_changed(uint8_t *data, size_t size, size_t most)
+{
+    if (size > most) size = most;
+    memcpy(data, changed, size);
+    return size;
+}
+
 /* Changes the bytes from `from` to `to` alone; answers the input's new length. */
 static size_t change(uint8_t *data, size_t size, size_t most, size_t from, size_t to)
 {
@@ -67,19 +105,28 @@ static size_t change(uint8_t *data, size_t size, size_t most, size_t from, size_
     return from + length + after;
 }
 
+/* Changes the line with the byte `chosen` of those from `from` to `end`, which there are. */
+static size_t change_line(uint8_t *data, size_t size, size_t most, size_t from, size_t end, size_t chosen)
+{
+    size_t to = from;
+    for (chosen = from + chosen % (end - from); to <= chosen; to = line_end((char *)data, to, end)) from = to;
+    return change(data, size, most, from, to);
+}
+
+/* Changes a line of the sheet, a line of the readings, all that follows the sheet, or anything. */
+static size_t change_some(uint8_t *data, size_t size, size_t most, unsigned seed)
+{
+    size_t end = text_end((char *)data, 0, size), next = end + (end < size), readings_end = text_end((char *)data, next, size);
+    if (seed % 8 >= 4 && end > 0) return change_line(data, size, most, 0, end, seed / 1024);
+    if (seed % 8 >= 2 && readings_end > next && seed / 32 % 2) return change_line(data, size, most, next, readings_end, seed / 1024);
+    return change(data, size, most, seed % 8 >= 2 ? end : 0, size);
+}
+
 size_t LLVMFuzzerCustomMutator(uint8_t *data, size_t size, size_t most, unsigned seed)
 {
-    size_t end = sheet_end((char *)data, size), from = 0, to = size;
     if (size == 0 || most > LONGEST) return LLVMFuzzerMutate(data, size, most);
-    if (seed % 4 == 1) from = end;
-    if (seed % 4 >= 2 && end > 0) {
-        size_t chosen = seed / 16 % end;
-        for (to = 0; to <= chosen; to = line_end((char *)data, to, end)) from = to;
-    }
-    size = change(data, size, most, from, to);
-    if (seed / 4 % 4 == 0) return size;
-    size = with_right_numbers((char *)data, size);
-    if (size > most) size = most;
-    memcpy(data, changed, size);
-    return size;
+    if (seed / 64 % 16 == 0) return take_changed(data, in_the_other_form((char *)data, size), most);
+    size = change_some(data, size, most, seed);
+    if (seed / 8 % 4 == 0) return size;
+    return take_changed(data, with_right_numbers((char *)data, size), most);
 }
