@@ -1,8 +1,8 @@
 //! The calls that the gate runs and compares, made once more through the static library: `crates/run_operations/stdout` has each call with its answer.
 
-use mikhakun::{add, ask, check, to_readings, to_spans, Refusal, Table};
+use mikhakun::{add, ask, check, to_readings, to_readings_into, to_spans, to_spans_into, Refusal, Table};
 
-/// A call, or a text or table for the calls that follow: the words of its heading, the lines under it, and the answer's lines.
+/// A call, or a text or table for the calls that follow: the words of its heading, the lines under it, and the answer's lines, those of a written text among them.
 #[derive(Default)]
 struct Entry {
     heading: Vec<String>,
@@ -20,7 +20,9 @@ fn entries() -> Vec<Entry> {
         } else if let Some(answer) = line.strip_prefix("--- ") {
             entries.last_mut().unwrap().answer.push(answer.to_string());
         } else {
-            entries.last_mut().unwrap().body.push(line.to_string());
+            let entry = entries.last_mut().unwrap();
+            let lines = if entry.answer.is_empty() { &mut entry.body } else { &mut entry.answer };
+            lines.push(line.to_string());
         }
     }
     entries
@@ -71,6 +73,23 @@ fn added(sheet: &[u8], readings: &[u8], table: &mut Table) -> Vec<String> {
     std::iter::once(told).chain(words.map(|(at, word)| format!("word {at} {word}"))).collect()
 }
 
+/// The answer's lines to a move into a buffer full of dots: the text, or its last 100 bytes if it has over 32,000, and the byte after it.
+fn moved(entry: &Entry, sheet: &[u8]) -> Vec<String> {
+    let mut buffer = vec![b'.'; entry.number(1)];
+    let to_form = if entry.kind() == "spans" { to_spans_into } else { to_readings_into };
+    let (mut lines, length) = match to_form(sheet, &entry.text(), &mut buffer) {
+        Ok(length) => (vec![format!("length {length}")], length),
+        Err(refusal) => (vec![refused(refusal)], 0),
+    };
+    let from = if length > 32_000 { length - 100 } else { 0 };
+    if from > 0 {
+        lines.push("its end".to_string());
+    }
+    lines.extend(String::from_utf8_lossy(&buffer[from..length]).lines().map(str::to_string));
+    lines.extend(buffer.get(length).map(|&byte| format!("then {}", char::from(byte))));
+    lines
+}
+
 /// Moved to either form, accepted readings have the same answer; what the moves refuse too, they refuse alike. Answers how many moves were accepted.
 fn same_when_moved(sheet: &[u8], readings: &[u8], table: &Table) -> usize {
     let moved = [to_spans(sheet, readings), to_readings(sheet, readings)];
@@ -90,7 +109,7 @@ fn same_when_moved(sheet: &[u8], readings: &[u8], table: &Table) -> usize {
 
 #[test]
 fn every_call_has_the_answer_of_the_gate() {
-    let (mut sheet, mut table, mut calls, mut moved) = (Vec::new(), Table::empty(0, 0), 0, 0);
+    let (mut sheet, mut table, mut calls, mut moves) = (Vec::new(), Table::empty(0, 0), 0, 0);
     for entry in entries() {
         let answer = match entry.kind() {
             "sheet" => {
@@ -103,14 +122,15 @@ fn every_call_has_the_answer_of_the_gate() {
             }
             "check" => vec![check(&sheet).map_or_else(refused, |rows| format!("rows {rows}"))],
             "add" => {
-                moved += same_when_moved(&sheet, &entry.text(), &table);
+                moves += same_when_moved(&sheet, &entry.text(), &table);
                 added(&sheet, &entry.text(), &mut table)
             }
+            "spans" | "singles" => moved(&entry, &sheet),
             "ask" => vec![ask(&sheet, &table, entry.number(1), entry.number(2)).map_or_else(refused, |value| value.to_string())],
             other => panic!("a heading of no known kind: {other}"),
         };
         assert_eq!(answer, entry.answer, "{}", entry.heading.join(" "));
         calls += 1;
     }
-    assert!(calls > 500 && moved > 200, "only {calls} calls and {moved} moves");
+    assert!(calls > 800 && moves > 200, "only {calls} calls and {moves} moves");
 }
