@@ -20,10 +20,10 @@ use Rattle.read_names.specs.Spellings.{spellingAt, spellingEnd, namesAt, findNa
 use Rattle.read_bytes.specs.Numbers.{number}
 use Rattle.read_lines.specs.Lines.{lineEnd, line, wholeNumber, wholeName, numberLine, rangedLine, nameLine, inTurn, upTo}
 use Rattle.spec_tilco.specs.Formula.{Op, And, Or, Implies, Iff, Written}
-use Rattle.read_interval.specs.declared.Span.{Span as Interval}
-use Rattle.read_interval.specs.declared.Span.the-variants as span
-use Rattle.read_interval.specs.Interval.{endAt, endThen, endAfter, near, leftOut, spanOf, closeAt, commaAt, interval}
-use Rattle.read_parts.specs.FormulaText.{Reader, declared, spanThen, times, timedPart, signText, repeats, more, level, formula, negated, thenParen, inParens, second, arguments, sinceUntil, nameOrKeep, plainPartBy, plainPartIn, inside, plainPart, rule}
+use Rattle.read_interval.specs.declared.Offsets.{Offsets}
+use Rattle.read_interval.specs.declared.Offsets.the-variants as offsets
+use Rattle.read_interval.specs.Interval.{endAt, endThen, endAfter, near, leftOut, offsetsOf, closeAt, commaAt, interval}
+use Rattle.read_parts.specs.FormulaText.{Reader, declared, offsetsThen, times, timedPart, signText, repeats, more, level, formula, negated, thenParen, inParens, second, arguments, sinceUntil, nameOrKeep, plainPartBy, plainPartIn, inside, plainPart, rule}
 use Rattle.read_head.specs.SheetHead.{signalLine, headOf, head}
 use Rattle.read_sheet.specs.Sheet.{ruleTo, ruleLine, rules, contents, sheetOf}
 use Rattle.read_reading.specs.Spans.{Span}
@@ -92,35 +92,35 @@ module _ (s : List ℕ) (p : ℕ) (key : List ℕ) (form : ℕ) (f : Listed form
 
 -- ---- intervals
 
-abbrev SpanNumbered : Interval → Type 0
-SpanNumbered (span.Over first more q) = Unit {0}
-SpanNumbered (span.Refused n p) = Listed n
+abbrev OffsetsNumbered : Offsets → Type 0
+OffsetsNumbered (offsets.Over first more q) = Unit {0}
+OffsetsNumbered (offsets.Refused n p) = Listed n
 
-pick-span : (b : Bool) (X Y : Interval) → SpanNumbered X → SpanNumbered Y → SpanNumbered (pick b (λ _. X) Y)
-pick-span true X Y x y = x
-pick-span false X Y x y = y
+pick-offsets : (b : Bool) (X Y : Offsets) → OffsetsNumbered X → OffsetsNumbered Y → OffsetsNumbered (pick b (λ _. X) Y)
+pick-offsets true X Y x y = x
+pick-offsets false X Y x y = y
 
-end-after : (b : Bool) (s : List ℕ) (p : ℕ) (k : ℕ → ℕ → Interval) → ((v q : ℕ) → SpanNumbered (k v q)) → SpanNumbered (endAfter b s p k)
+end-after : (b : Bool) (s : List ℕ) (p : ℕ) (k : ℕ → ℕ → Offsets) → ((v q : ℕ) → OffsetsNumbered (k v q)) → OffsetsNumbered (endAfter b s p k)
 unfolding endAfter
-end-after b s p k h = pick-span b (endThen (endAt s (p + 1)) (p + 1) k) (span.Refused 5 p) (go (endAt s (p + 1))) tt
+end-after b s p k h = pick-offsets b (endThen (endAt s (p + 1)) (p + 1) k) (offsets.Refused 5 p) (go (endAt s (p + 1))) tt
   where
-    go : (x : Number) → SpanNumbered (endThen x (p + 1) k)
+    go : (x : Number) → OffsetsNumbered (endThen x (p + 1) k)
     go (Value v q) = h v q
     go Missing = tt
 
-span-numbered : (p o v w c x : ℕ) → SpanNumbered (spanOf p o v w c x)
-unfolding spanOf
-span-numbered p o v w c x =
+offsets-numbered : (p o v w c x : ℕ) → OffsetsNumbered (offsetsOf p o v w c x)
+unfolding offsetsOf
+offsets-numbered p o v w c x =
     let lo = v + leftOut o (byte "(") in
     let hi = w - leftOut c (byte ")") in
-    pick-span (near v && near w && leb lo hi) (span.Over (lo - 9936) (hi - lo) x) (span.Refused 7 p) tt tt
+    pick-offsets (near v && near w && leb lo hi) (offsets.Over (lo - 9936) (hi - lo) x) (offsets.Refused 7 p) tt tt
 
-interval-numbered : (s : List ℕ) (p : ℕ) → SpanNumbered (interval s p)
+interval-numbered : (s : List ℕ) (p : ℕ) → OffsetsNumbered (interval s p)
 unfolding interval commaAt closeAt
 interval-numbered s p =
     end-after (oneOf (peek s p) (bytes "[(")) s p (commaAt s p (peek s p)) (λ v q.
     end-after (eqb (peek s q) (byte ",")) s q (closeAt s p (peek s p) v) (λ w x.
-    pick-span (oneOf (peek s x) (bytes "])")) (spanOf p (peek s p) v w (peek s x) (x + 1)) (span.Refused 5 x) (span-numbered p (peek s p) v w (peek s x) (x + 1)) tt))
+    pick-offsets (oneOf (peek s x) (bytes "])")) (offsetsOf p (peek s p) v w (peek s x) (x + 1)) (offsets.Refused 5 x) (offsets-numbered p (peek s p) v w (peek s x) (x + 1)) tt))
 
 -- ---- formulas
 
@@ -136,15 +136,15 @@ module _ (s : List ℕ) where
   unfolding times
   times-numbered zero f p = tt
   times-numbered (suc k) f p =
-      pick-numbered (oneOf (peek s p) (bytes "@?")) (spanThen (interval s (p + 1)) K) (got f p)
+      pick-numbered (oneOf (peek s p) (bytes "@?")) (offsetsThen (interval s (p + 1)) K) (got f p)
       (go (interval s (p + 1)) (interval-numbered s (p + 1)) (λ first more q. times-numbered k (Written.time (eqb (peek s p) (byte "@")) first more f) q)) tt
     where
       K : ℕ → ℕ → ℕ → Read Written
       K first more q = times s k (Written.time (eqb (peek s p) (byte "@")) first more f) q
 
-      go : (x : Interval) → SpanNumbered x → ((first more q : ℕ) → Numbered (K first more q)) → Numbered (spanThen x K)
-      go (span.Over first more q) h r = r first more q
-      go (span.Refused n q) h r = h
+      go : (x : Offsets) → OffsetsNumbered x → ((first more q : ℕ) → Numbered (K first more q)) → Numbered (offsetsThen x K)
+      go (offsets.Over first more q) h r = r first more q
+      go (offsets.Refused n q) h r = h
 
   timed-numbered : (P : Reader) → Reads P → Reads (timedPart P s)
   unfolding timedPart

@@ -12,7 +12,7 @@ use Rattle.read_bytes.specs.Numbers.{decimal, digits, number}
 use Rattle.read_lines.specs.Lines.{inLine, line, numberLine, rangedLine, nameLine, inTurn, upTo}
 use Rattle.spec_tilco.specs.Lists.{All}
 use Rattle.spec_tilco.specs.Table.{words}
-use Rattle.read_interval.specs.Interval.{signed, endAt, spanOf, endAfter, closeAt, commaAt, interval}
+use Rattle.read_interval.specs.Interval.{signed, endAt, offsetsOf, endAfter, closeAt, commaAt, interval}
 use Rattle.read_parts.specs.FormulaText.{declared, times, timedPart, more, level, second, sinceUntil, nameOrKeep, plainPartIn, inside, plainPart, rule}
 use Rattle.read_head.specs.SheetHead.{signalLine, head}
 use Rattle.read_sheet.specs.Sheet.{ruleTo, ruleLine, rules, sheetOf}
@@ -37,7 +37,7 @@ Passes e = T (textsPass (bytes (e .sheet)) (bytes (e .readings)) (bytes (e .list
 -- By computation: each sheet and its readings are read, the table is closed, and its listing is the one expected. P7's and P8's sheets are read as
 -- their second halves want them.
 computed : All Passes textCases × ReadAs p7-read (sheetIn (bytes (p7 .sheet))) × ReadAs p8-read (sheetIn (bytes (p8 .sheet)))
-unfolding ones onesIn bit tally words peek classOf nameByte starts run runAt runEnd namesAt sameText findName isSpelled every endDigits decimal isEndNumber numberOf wellEnded nameAt digits number inLine line numberLine rangedLine nameLine inTurn upTo signed endAt spanOf endAfter closeAt commaAt interval declared times timedPart more level second sinceUntil nameOrKeep plainPartIn inside plainPart rule signalLine head ruleTo ruleLine rules sheetOf knownLine toLine entry inSpans entries marksFrom marksOf marksOfAll flatten readings lastDigits decimalText lineText stem compareBytes nameBefore insert orderFrom signs signalText signalsText headText listingText fits sheetIn
+unfolding ones onesIn bit tally words peek classOf nameByte starts run runAt runEnd namesAt sameText findName isSpelled every endDigits decimal isEndNumber numberOf wellEnded nameAt digits number inLine line numberLine rangedLine nameLine inTurn upTo signed endAt offsetsOf endAfter closeAt commaAt interval declared times timedPart more level second sinceUntil nameOrKeep plainPartIn inside plainPart rule signalLine head ruleTo ruleLine rules sheetOf knownLine toLine entry inSpans entries marksFrom marksOf marksOfAll flatten readings lastDigits decimalText lineText stem compareBytes nameBefore insert orderFrom signs signalText signalsText headText listingText fits sheetIn
 computed = ((tt, (tt, (tt, (tt, (tt, (tt, (tt, (tt, (tt, (tt, (tt, tt))))))))))), refl, refl)
 
 all-said : All InHistories textCases

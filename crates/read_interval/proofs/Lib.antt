@@ -1,4 +1,4 @@
 -- The laws, one idea a file.
 pub mod Ends
-pub mod Spans
-pub mod SpansLater
+pub mod Intervals
+pub mod OffsetsLater

@@ -8,7 +8,7 @@ ghost use mathlib.Core.Path.{_≡_};
 ghost use Prim.Native.Nat.{_≤_};
 ghost use lib.ListN.{length};
 ghost use Rattle.read_bytes.specs.Numbers as number;
-ghost use Rattle.read_interval.specs.Interval.{endAt, leftOut, spanOf, closeAt, commaAt, interval};
+ghost use Rattle.read_interval.specs.Interval.{endAt, leftOut, offsetsOf, closeAt, commaAt, interval};
 ghost use Rattle.read_interval.specs.Interval as spec;
 
 // endZero: the end 0 as it is kept.
@@ -23,8 +23,8 @@ const GREATEST: usize = END_ZERO + END;
 // overOffset
 const OVER_OFFSET: usize = END_ZERO - OFFSET_ZERO;
 
-// The first whole number of an interval with 64 added, how many more follow, and the place after it; or a refusal's number and place.
-pub enum Span {
+// The offsets of an interval: its first whole number with 64 added, how many more follow, and the place after it; or a refusal's number and place.
+pub enum Offsets {
     Over(usize, usize, usize),
     Refused(usize, usize),
 }
@@ -86,24 +86,24 @@ fn near(v: usize) -> bool
     }
 }
 
-// The whole interval from the bracket `o` at `at` to the bracket `c`, with the ends `v` and `w`; `x` is the place after it.
-fn span_of(at: usize, o: u8, v: usize, w: usize, c: u8, x: usize) -> Span
-    ensures { λ r. ⌜ r ≡ spanOf at o v w c x ⌝ }
+// The offsets of the whole interval from the bracket `o` at `at` to the bracket `c`, with the ends `v` and `w`; `x` is the place after it.
+fn offsets_of(at: usize, o: u8, v: usize, w: usize, c: u8, x: usize) -> Offsets
+    ensures { λ r. ⌜ r ≡ offsetsOf at o v w c x ⌝ }
 {
     if near(v) {
         if near(w) {
             let lo = v + left_out(o, b'(');
             let hi = w - left_out(c, b')');
             if lo <= hi {
-                return Span::Over(lo - OVER_OFFSET, hi - lo, x);
+                return Offsets::Over(lo - OVER_OFFSET, hi - lo, x);
             }
         }
     }
-    Span::Refused(7, at)
+    Offsets::Refused(7, at)
 }
 
 // The closing bracket at `x`, after the ends `v` and `w`.
-fn close_at(s: &[u8], at: usize, o: u8, v: usize, w: usize, x: usize) -> Span
+fn close_at(s: &[u8], at: usize, o: u8, v: usize, w: usize, x: usize) -> Offsets
     requires { ⌜ x ≤ length (now s) ⌝ }
     ensures { λ r. ⌜ r ≡ closeAt (now (s .entry)) at o v w x ⌝ }
 {
@@ -111,31 +111,31 @@ fn close_at(s: &[u8], at: usize, o: u8, v: usize, w: usize, x: usize) -> Span
     match c {
         b']' | b')' => {
             let next = x + 1;
-            span_of(at, o, v, w, c, next)
+            offsets_of(at, o, v, w, c, next)
         }
-        _ => Span::Refused(5, x),
+        _ => Offsets::Refused(5, x),
     }
 }
 
 // The comma at `q`, after the end `v`, and what follows it.
-fn comma_at(s: &[u8], at: usize, o: u8, v: usize, q: usize) -> Span
+fn comma_at(s: &[u8], at: usize, o: u8, v: usize, q: usize) -> Offsets
     requires { ⌜ q ≤ length (now s) ⌝ }
     ensures { λ r. ⌜ r ≡ commaAt (now (s .entry)) at o v q ⌝ }
 {
     let b = byte_at(s, q);
     if b != b',' {
-        return Span::Refused(5, q);
+        return Offsets::Refused(5, q);
     }
     let next = q + 1;
     let d = end_at(s, next);
     let Number::Value(w, x) = d else {
-        return Span::Refused(5, next);
+        return Offsets::Refused(5, next);
     };
     close_at(s, at, o, v, w, x)
 }
 
 // The interval at `at`.
-pub fn interval_at(s: &[u8], at: usize) -> Span
+pub fn interval_at(s: &[u8], at: usize) -> Offsets
     requires { ⌜ at ≤ length (now s) ⌝ }
     ensures { λ r. ⌜ r ≡ interval (now (s .entry)) at ⌝ }
 {
@@ -145,10 +145,10 @@ pub fn interval_at(s: &[u8], at: usize) -> Span
             let next = at + 1;
             let d = end_at(s, next);
             let Number::Value(v, q) = d else {
-                return Span::Refused(5, next);
+                return Offsets::Refused(5, next);
             };
             comma_at(s, at, o, v, q)
         }
-        _ => Span::Refused(5, at),
+        _ => Offsets::Refused(5, at),
     }
 }

@@ -22,13 +22,13 @@ use Rattle.read_bytes.proofs.Places.{peek-out}
 use Rattle.read_bytes.proofs.Later.{later, eqb-later, peek-later, starts-later, runAt-later, runEnd-later}
 use Rattle.read_names.proofs.NamesLater.{isWord-later}
 use Rattle.spec_tilco.specs.Formula.{Op, And, Or, Implies, Iff, Written}
-use Rattle.read_interval.specs.declared.Span.{Span}
-use Rattle.read_interval.specs.declared.Span.the-variants.{Over, Refused}
+use Rattle.read_interval.specs.declared.Offsets.{Offsets}
+use Rattle.read_interval.specs.declared.Offsets.the-variants.{Over, Refused}
 use Rattle.read_interval.specs.Interval.{interval}
-use Rattle.read_parts.specs.FormulaText.{Reader, declared, spanThen, times, timedPart, signText, repeats, more, level, formula, negated, thenParen, inParens, second, arguments, sinceUntil, nameOrKeep, plainPartBy, plainPartIn, inside, plainPart, rule}
-use Rattle.read_interval.proofs.Spans.{Sound, interval-sound}
+use Rattle.read_parts.specs.FormulaText.{Reader, declared, offsetsThen, times, timedPart, signText, repeats, more, level, formula, negated, thenParen, inParens, second, arguments, sinceUntil, nameOrKeep, plainPartBy, plainPartIn, inside, plainPart, rule}
+use Rattle.read_interval.proofs.Intervals.{Sound, interval-sound}
 use Rattle.read_parts.proofs.Steps.{sign-some, more-none, times-none}
-use Rattle.read_interval.proofs.SpansLater.{laterSpan, interval-later}
+use Rattle.read_interval.proofs.OffsetsLater.{laterOffsets, interval-later}
 
 -- The first answer is the second one d later, and what is read ends at i or after it.
 data Moved (d i : ℕ) : Read Written → Read Written → Type 0 where
@@ -91,10 +91,10 @@ word-ahead t i = omega arith
 module _ (u t : List ℕ) where
   -- ---- timed parts
 
-  span-moved : (i : ℕ) (S : Span) (K K′ : ℕ → ℕ → ℕ → Read Written) → Sound t (i + 1) S → ((first more q : ℕ) → i < q → Moved (length u) i (K first more (length u + q)) (K′ first more q))
-      → Moved (length u) i (spanThen (laterSpan (length u) S) K) (spanThen S K′)
-  span-moved i (Over first more q) K K′ h k = k first more q (omega (arith, h .0 .ahead))
-  span-moved i (Refused n p) K K′ h k = refuses
+  offsets-moved : (i : ℕ) (S : Offsets) (K K′ : ℕ → ℕ → ℕ → Read Written) → Sound t (i + 1) S → ((first more q : ℕ) → i < q → Moved (length u) i (K first more (length u + q)) (K′ first more q))
+      → Moved (length u) i (offsetsThen (laterOffsets (length u) S) K) (offsetsThen S K′)
+  offsets-moved i (Over first more q) K K′ h k = k first more q (omega (arith, h .0 .ahead))
+  offsets-moved i (Refused n p) K K′ h k = refuses
 
   times-stop : (n m : ℕ) (f : Written) (i : ℕ) → length t ≤ i → Moved (length u) i (times (u ++ t) n f (length u + i)) (times t m f i)
   times-stop n m f i h =
@@ -109,7 +109,7 @@ module _ (u t : List ℕ) where
   times-moved (suc n) (suc m) f i h k =
       rw (add-assoc (length u) i 1, peek-later u t i, interval-later u t (i + 1))
       (pick-moved (oneOf (peek t i) (bytes "@?"))
-      (span-moved i (interval t (i + 1)) _ _ (interval-sound t (i + 1))
+      (offsets-moved i (interval t (i + 1)) _ _ (interval-sound t (i + 1))
       (λ first more q j. earlier (omega arith) (times-moved n m (Written.time (eqb (peek t i) (byte "@")) first more f) q (omega arith) (omega arith))))
       (reads {q = i} (omega arith)))
 

@@ -141,12 +141,12 @@ wrap {a} {a₁} {L} {k} {m} {h} {q} {u} {h₂} a₂ p pk (parsed f eq w ar sm he
     (rw e (arena-put (Deny (u - 1)) ar room (omega (arith, w .fresh)))) (rw e (same-then sm (same-put a₁ m u (Deny (u - 1)) (omega (arith, w .fresh)))))
     (rw (e, last) (held-neg ar room (omega (arith, w .fresh)) he)) hs
 
--- An interval over what stands last, and then what follows.
-pub spanned : {a a′ : List ℕ} {L m h x q : ℕ} {r : Parsed} (a₂ : List ℕ) (p first more : ℕ) (always : Bool) (f : Written) (K : Written → ℕ → Read Written)
+-- What stands last over an interval's offsets, and then what follows.
+pub over-offsets : {a a′ : List ℕ} {L m h x q : ℕ} {r : Parsed} (a₂ : List ℕ) (p first more : ℕ) (always : Bool) (f : Written) (K : Written → ℕ → Read Written)
     → 0 < m → p < q → 1 ≤ first → first + more ≤ mostOffset → Arena m a → NodeRoom a m 1 → Held a x (m - 1) f → h ≡ x + hiddens f → a₂ ≡ putNode a m (Time always (m - 1) first more)
     → ((g : Written) → Held a₂ x ((m + 1) - 1) g → h ≡ x + hiddens g → Arena (m + 1) a₂ → Parses a₂ a′ L 0 q (m + 1) h x (K g q) r)
     → Parses a a′ L 0 p m h x (K (Written.time always first more f) q) r
-spanned {a} {a′} {L} {m} {h} {x} {q} {r} a₂ p first more always f K some pq low high ar room he hs e next =
+over-offsets {a} {a′} {L} {m} {h} {x} {q} {r} a₂ p first more always f K some pq low high ar room he hs e next =
     let last : (m + 1) - 1 ≡ m = omega arith in
     after-put pq (omega arith) (omega arith) (omega arith) (omega arith) (rw e (same-put a m m node (omega arith)))
     (next (Written.time always first more f) (rw (e, last) (held-time ar room always first more (omega arith) low high he)) hs (rw e (arena-put node ar room (omega arith, low, high))))

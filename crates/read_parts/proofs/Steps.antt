@@ -28,11 +28,11 @@ use Rattle.read_arena.specs.declared.Sign.{Sign}
 use Rattle.read_arena.specs.Nodes.{opOf, signNumber, signOf}
 use Rattle.spec_ticks.proofs.Bits.{lt-or-ge}
 use Rattle.spec_tilco.specs.Formula.{Op, And, Or, Implies, Iff, Written}
-use Rattle.read_interval.specs.declared.Span.{Span}
-use Rattle.read_interval.specs.declared.Span.the-variants.{Over}
+use Rattle.read_interval.specs.declared.Offsets.{Offsets}
+use Rattle.read_interval.specs.declared.Offsets.the-variants.{Over}
 use Rattle.read_interval.specs.Interval.{interval}
-use Rattle.read_interval.proofs.Spans.{one-of, none-of, interval-reach}
-use Rattle.read_parts.specs.FormulaText.{Reader, declared, spanThen, times, timedPart, signText, repeats, more, level, below, formula, negated, thenParen, inParens, second, sinceUntil, nameOrKeep, plainPartIn, inside, plainPart}
+use Rattle.read_interval.proofs.Intervals.{one-of, none-of, interval-reach}
+use Rattle.read_parts.specs.FormulaText.{Reader, declared, offsetsThen, times, timedPart, signText, repeats, more, level, below, formula, negated, thenParen, inParens, second, sinceUntil, nameOrKeep, plainPartIn, inside, plainPart}
 
 -- ---- signs
 
@@ -174,9 +174,9 @@ timed-sign s p b e low high =
 pub timed-unsigned : (s : List ℕ) (p b : ℕ) → b ≡ peek s p → (b < byte "?") ⊎ (byte "@" < b) → oneOf (peek s p) (bytes "@?") ≡ false
 timed-unsigned s p b e out = rw e at (none-of b (byte "@") (byte "?") (λ k. ⊎-elim (λ i. ⊎-elim (λ l. omega arith) (λ l. omega arith) out) (λ i. ⊎-elim (λ l. omega arith) (λ l. omega arith) out) k))
 
--- The interval after it.
-pub timed-span : (s : List ℕ) (p : ℕ) {i : Span} {first more q : ℕ} → i ≡ interval s (p + 1) → i ≡ Over first more q → (interval s (p + 1) ≡ Over first more q) × (p + 1 < q) × (q ≤ length s) × (1 ≤ first) × (first + more ≤ mostOffset)
-timed-span s p {first = first} {more} {q} e g =
+-- The offsets of the interval after it.
+pub timed-offsets : (s : List ℕ) (p : ℕ) {i : Offsets} {first more q : ℕ} → i ≡ interval s (p + 1) → i ≡ Over first more q → (interval s (p + 1) ≡ Over first more q) × (p + 1 < q) × (q ≤ length s) × (1 ≤ first) × (first + more ≤ mostOffset)
+timed-offsets s p {first = first} {more} {q} e g =
     let z : interval s (p + 1) ≡ Over first more q = sym e ∙ g in
     let w = interval-reach s (p + 1) z in
     (z, omega (arith, w .0 .ahead), w .0 .inside, w .1, w .2)
@@ -187,7 +187,7 @@ times-none s zero f p e = refl
 times-none s (suc n) f p e = rw e
 
 pub times-one : (s : List ℕ) (n : ℕ) (f : Written) (p : ℕ) → oneOf (peek s p) (bytes "@?") ≡ true → p < length s → length s ≤ p + n
-    → times s n f p ≡ spanThen (interval s (p + 1)) (λ first more q. times s (n - 1) (Written.time (eqb (peek s p) (byte "@")) first more f) q)
+    → times s n f p ≡ offsetsThen (interval s (p + 1)) (λ first more q. times s (n - 1) (Written.time (eqb (peek s p) (byte "@")) first more f) q)
 unfolding times
 times-one s zero f p e h l = absurd (omega arith)
 times-one s (suc n) f p e h l = let back : suc n - 1 ≡ n = omega arith in rw (e, back)

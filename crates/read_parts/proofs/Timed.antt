@@ -12,14 +12,14 @@ use Rattle.spec_tilco.specs.Formula.{Written, hiddens}
 use Rattle.read_arena.specs.declared.Node.the-variants.{Time}
 use Rattle.read_arena.specs.Nodes.{putNode}
 use Rattle.read_arena.specs.NodeRules.{Arena, NodeRoom, Held}
-use Rattle.read_interval.specs.declared.Span.the-variants.{Over, Refused as Not}
+use Rattle.read_interval.specs.declared.Offsets.the-variants.{Over, Refused as Not}
 use Rattle.read_parts.specs.declared.parts.Parsed.{Parsed}
 use Rattle.read_parts.specs.declared.parts.Parsed.the-variants.{Refused}
 use Rattle.read_interval.specs.Interval.{interval}
-use Rattle.read_parts.specs.FormulaText.{spanThen, times}
+use Rattle.read_parts.specs.FormulaText.{offsetsThen, times}
 use Rattle.read_parts.specs.Parsed.{Parses}
 use Rattle.read_parts.specs.Parsed.Parses.{refuses}
-use Rattle.read_parts.proofs.Levels.{by, spanned}
+use Rattle.read_parts.proofs.Levels.{by, over-offsets}
 use Rattle.read_parts.proofs.Steps.{times-one}
 
 module _ (s : List ℕ) (n : ℕ) (f : Written) (p : ℕ) (sign : oneOf (peek s p) (bytes "@?") ≡ true) (in-text : p < length s) (enough : length s ≤ p + n) where
@@ -28,8 +28,8 @@ module _ (s : List ℕ) (n : ℕ) (f : Written) (p : ℕ) (sign : oneOf (peek s 
       → ((g : Written) → Held a₂ x ((m + 1) - 1) g → h ≡ x + hiddens g → Parses a₂ a′ (length s) 0 q (m + 1) h x (times s (n - 1) g q) r)
       → Parses a a′ (length s) 0 p m h x (times s n f p) r
   times-on {a} {a₂} {a′} {m} {h} {x} {first} {more} {q} {b} {r} eb e pq low high some ar room he hs put next =
-      by (times-one s n f p sign in-text enough ∙ ap (λ i. spanThen i (λ first more q. times s (n - 1) (Written.time (eqb (peek s p) (byte "@")) first more f) q)) e)
-      (spanned a₂ p first more (eqb (peek s p) (byte "@")) f (times s (n - 1)) some pq low high ar room he hs (rw eb at put) (λ g hg hg′ arg. next g hg hg′))
+      by (times-one s n f p sign in-text enough ∙ ap (λ i. offsetsThen i (λ first more q. times s (n - 1) (Written.time (eqb (peek s p) (byte "@")) first more f) q)) e)
+      (over-offsets a₂ p first more (eqb (peek s p) (byte "@")) f (times s (n - 1)) some pq low high ar room he hs (rw eb at put) (λ g hg hg′ arg. next g hg hg′))
 
   pub times-cut : {a a′ : List ℕ} {m h x k q : ℕ} → interval s (p + 1) ≡ Not k q → Parses a a′ (length s) 0 p m h x (times s n f p) (Refused k q)
-  times-cut e = refuses (times-one s n f p sign in-text enough ∙ ap (λ i. spanThen i (λ first more q. times s (n - 1) (Written.time (eqb (peek s p) (byte "@")) first more f) q)) e)
+  times-cut e = refuses (times-one s n f p sign in-text enough ∙ ap (λ i. offsetsThen i (λ first more q. times s (n - 1) (Written.time (eqb (peek s p) (byte "@")) first more f) q)) e)

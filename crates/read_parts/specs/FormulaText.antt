@@ -14,8 +14,8 @@ use Rattle.read_bytes.specs.Read.Read.{got, refused}
 use Rattle.read_bytes.specs.Bytes.{byte, bytes, peek, pick, oneOf, classOf, starts}
 use Rattle.read_names.specs.Spellings.{spellingAt, spellingEnd, findName, isSpelled}
 use Rattle.spec_tilco.specs.Formula.{Op, And, Or, Implies, Iff, Written}
-use Rattle.read_interval.specs.declared.Span.{Span}
-use Rattle.read_interval.specs.declared.Span.the-variants.{Over, Refused}
+use Rattle.read_interval.specs.declared.Offsets.{Offsets}
+use Rattle.read_interval.specs.declared.Offsets.the-variants.{Over, Refused}
 use Rattle.read_interval.specs.Interval.{interval}
 
 -- Reads a formula, or a part of one, from a place on.
@@ -29,17 +29,17 @@ declared names s p =
 
 -- ---- timed part: a plain part, then any number of @ or ?, each with an interval
 
--- Go on with an interval, or hand its refusal on.
-abbrev pub spanThen : Span → (ℕ → ℕ → ℕ → Read Written) → Read Written
-spanThen (Over first more q) k = k first more q
-spanThen (Refused n p) k = refused n p
+-- Go on with an interval's offsets, or hand its refusal on.
+abbrev pub offsetsThen : Offsets → (ℕ → ℕ → ℕ → Read Written) → Read Written
+offsetsThen (Over first more q) k = k first more q
+offsetsThen (Refused n p) k = refused n p
 
 -- What follows a plain part f, with at most n intervals.
 unfoldable pub times : List ℕ → ℕ → Written → Reader
 times s zero f p = got f p
 times s (suc n) f p =
     pick (oneOf (peek s p) (bytes "@?"))
-    (λ _. spanThen (interval s (p + 1)) (λ first more q. times s n (Written.time (eqb (peek s p) (byte "@")) first more f) q)) (got f p)
+    (λ _. offsetsThen (interval s (p + 1)) (λ first more q. times s n (Written.time (eqb (peek s p) (byte "@")) first more f) q)) (got f p)
 
 -- P reads a plain part.
 unfoldable pub timedPart : Reader → List ℕ → Reader

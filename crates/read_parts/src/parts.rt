@@ -6,7 +6,7 @@ use read_arena::Sign;
 use read_arena::put_node;
 use read_bytes::bytes::byte_at;
 use read_bytes::bytes::starts_at;
-use read_interval::Span;
+use read_interval::Offsets;
 use read_interval::interval_at;
 use read_names::find_name;
 use read_names::spelling_end;
@@ -96,7 +96,7 @@ pub fn times_at(s: &[u8], arena: &mut [u16], at: usize, used: usize, hidden: usi
             let next = at + 1;
             let i = interval_at(s, next);
             match i {
-                Span::Over(first, more, q) => {
+                Offsets::Over(first, more, q) => {
                     let child = used - 1;
                     put_node(
                         arena,
@@ -106,7 +106,7 @@ pub fn times_at(s: &[u8], arena: &mut [u16], at: usize, used: usize, hidden: usi
                     let count = used + 1;
                     times_at(s, arena, q, count, hidden)
                 }
-                Span::Refused(n, p) => Parsed::Refused(n, p),
+                Offsets::Refused(n, p) => Parsed::Refused(n, p),
             }
         }
         _ => Parsed::Got(at, used, hidden),

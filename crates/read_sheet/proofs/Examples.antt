@@ -14,7 +14,7 @@ use Rattle.read_names.specs.Spellings.{namesAt, sameText, findName, isSpelled, 
 use Rattle.read_bytes.specs.Numbers.{decimal, digits, number}
 use Rattle.read_lines.specs.Lines.{inLine, line, numberLine, rangedLine, nameLine, inTurn}
 use Rattle.spec_tilco.specs.Formula.{Implies, Written, always}
-use Rattle.read_interval.specs.Interval.{signed, endAt, spanOf, endAfter, closeAt, commaAt, interval}
+use Rattle.read_interval.specs.Interval.{signed, endAt, offsetsOf, endAfter, closeAt, commaAt, interval}
 use Rattle.read_parts.specs.FormulaText.{declared, times, timedPart, more, level, second, sinceUntil, nameOrKeep, plainPartIn, inside, plainPart, rule}
 use Rattle.read_head.specs.SheetHead.{signalLine, head}
 use Rattle.read_sheet.specs.Sheet.{ruleTo, ruleLine, rules, Contents, contents, sheetOf}
@@ -25,7 +25,7 @@ p1-text = bytes "window=10\nsignals=3\nsignal=clear2\nsignal=go10\nsignal=open10
 
 -- It is read as window 10, the names' places, and the two rules; it ends at its last byte.
 pub p1-says : sheetOf p1-text ≡ got (contents 10 (27 ∷ 41 ∷ 53 ∷ []) (Written.pair Implies (always 61 3 (Written.name 0)) (Written.name 1) ∷ Written.pair Implies (Written.name 1) (always 66 0 (Written.name 2)) ∷ [])) 117
-unfolding peek classOf nameByte starts run runAt runEnd namesAt sameText findName isSpelled every endDigits decimal isEndNumber numberOf wellEnded nameAt digits number inLine line numberLine rangedLine nameLine inTurn signed endAt spanOf endAfter closeAt commaAt interval declared times timedPart more level second sinceUntil nameOrKeep plainPartIn inside plainPart rule signalLine head ruleTo ruleLine rules sheetOf
+unfolding peek classOf nameByte starts run runAt runEnd namesAt sameText findName isSpelled every endDigits decimal isEndNumber numberOf wellEnded nameAt digits number inLine line numberLine rangedLine nameLine inTurn signed endAt offsetsOf endAfter closeAt commaAt interval declared times timedPart more level second sinceUntil nameOrKeep plainPartIn inside plainPart rule signalLine head ruleTo ruleLine rules sheetOf
 p1-says = refl
 
 -- A text, and the number and place of its refusal.
@@ -72,5 +72,5 @@ examples =
 
 -- Each of them is.
 pub examples-refused : T (allRefused examples)
-unfolding peek classOf nameByte starts run runAt runEnd namesAt sameText findName isSpelled every endDigits decimal isEndNumber numberOf wellEnded nameAt digits number inLine line numberLine rangedLine nameLine inTurn signed endAt spanOf endAfter closeAt commaAt interval declared times timedPart more level second sinceUntil nameOrKeep plainPartIn inside plainPart rule signalLine head ruleTo ruleLine rules sheetOf
+unfolding peek classOf nameByte starts run runAt runEnd namesAt sameText findName isSpelled every endDigits decimal isEndNumber numberOf wellEnded nameAt digits number inLine line numberLine rangedLine nameLine inTurn signed endAt offsetsOf endAfter closeAt commaAt interval declared times timedPart more level second sinceUntil nameOrKeep plainPartIn inside plainPart rule signalLine head ruleTo ruleLine rules sheetOf
 examples-refused = tt

@@ -20,11 +20,11 @@ use Rattle.read_bytes.proofs.Places.{inside-test}
 use Rattle.read_bytes.proofs.Runs.{end-reach}
 use Rattle.read_lines.proofs.Stays.{Stays, then-stays, pick-stays}
 use Rattle.spec_tilco.specs.Formula.{Op, And, Or, Implies, Iff, Written, Named}
-use Rattle.read_interval.specs.declared.Span.{Span}
-use Rattle.read_interval.specs.declared.Span.the-variants as span
+use Rattle.read_interval.specs.declared.Offsets.{Offsets}
+use Rattle.read_interval.specs.declared.Offsets.the-variants as offsets
 use Rattle.read_interval.specs.Interval.{interval}
-use Rattle.read_parts.specs.FormulaText.{Reader, declared, spanThen, times, timedPart, signText, repeats, more, level, formula, negated, thenParen, inParens, second, arguments, sinceUntil, nameOrKeep, plainPartBy, plainPartIn, inside, plainPart, rule}
-use Rattle.read_interval.proofs.Spans.{Sound, interval-sound}
+use Rattle.read_parts.specs.FormulaText.{Reader, declared, offsetsThen, times, timedPart, signText, repeats, more, level, formula, negated, thenParen, inParens, second, arguments, sinceUntil, nameOrKeep, plainPartBy, plainPartIn, inside, plainPart, rule}
+use Rattle.read_interval.proofs.Intervals.{Sound, interval-sound}
 use Rattle.read_parts.proofs.Steps.{starts-inside, sign-inside}
 use Rattle.read_sheet.specs.Sheet.{Near}
 
@@ -53,20 +53,20 @@ module _ (n : ℕ) (s : List ℕ) where
   pick-good = pick-stays (Fits n) (length s)
 
   -- intervals
-  span-stays : (p : ℕ) (x : Span) (K : ℕ → ℕ → ℕ → Read Written) → p ≤ length s → Sound s p x
-      → ((first more q : ℕ) → 1 ≤ first → first + more ≤ mostOffset → q ≤ length s → Good n s (K first more q)) → Good n s (spanThen x K)
-  span-stays p (span.Over first more q) K h y f = f first more q (y .1) (y .2) (y .0 .inside)
-  span-stays p (span.Refused k q) K h y f = y .1 h
+  offsets-stay : (p : ℕ) (x : Offsets) (K : ℕ → ℕ → ℕ → Read Written) → p ≤ length s → Sound s p x
+      → ((first more q : ℕ) → 1 ≤ first → first + more ≤ mostOffset → q ≤ length s → Good n s (K first more q)) → Good n s (offsetsThen x K)
+  offsets-stay p (offsets.Over first more q) K h y f = f first more q (y .1) (y .2) (y .0 .inside)
+  offsets-stay p (offsets.Refused k q) K h y f = y .1 h
 
   times-stay : (k : ℕ) (f : Written) (p : ℕ) → Fits n f → p ≤ length s → Good n s (times s k f p)
   unfolding times
   times-stay zero f p w h = (w, h)
   times-stay (suc k) f p w h =
       let u : Bool = eqb (peek s p) (byte "@") in
-      pick-good (oneOf (peek s p) (bytes "@?")) (spanThen (interval s (p + 1)) (λ first more q. times s k (Written.time u first more f) q)) (got f p)
+      pick-good (oneOf (peek s p) (bytes "@?")) (offsetsThen (interval s (p + 1)) (λ first more q. times s k (Written.time u first more f) q)) (got f p)
       (λ e.
       let i = inside-test s p (λ b. oneOf b (bytes "@?")) refl e in
-      span-stays (p + 1) (interval s (p + 1)) (λ first more q. times s k (Written.time u first more f) q) (omega arith) (interval-sound s (p + 1))
+      offsets-stay (p + 1) (interval s (p + 1)) (λ first more q. times s k (Written.time u first more f) q) (omega arith) (interval-sound s (p + 1))
       (λ first more q a b l. times-stay k (Written.time u first more f) q (w .0, ((a, b), w .1)) l))
       (w, h)
 

@@ -72,4 +72,4 @@ near first more = (1 ≤ first) × (first + more ≤ mostOffset)
 
 -- Every interval in the rule has, as reading it ensures.
 abbrev pub Near : Written → Type 0
-Near = tilco.Spans near
+Near = tilco.Intervals near

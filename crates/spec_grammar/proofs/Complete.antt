@@ -17,17 +17,17 @@ use Rattle.read_bytes.proofs.Places.{peek-out, inside-test}
 use Rattle.read_bytes.proofs.Classes.{class-letter}
 use Rattle.read_names.proofs.Names.{same-text}
 use Rattle.spec_tilco.specs.Formula.{Op, And, Or, Implies, Iff, Written}
-use Rattle.read_interval.specs.declared.Span.the-variants.{Over}
+use Rattle.read_interval.specs.declared.Offsets.the-variants.{Over}
 use Rattle.read_interval.specs.Interval.{interval}
 use Rattle.read_parts.specs.FormulaText as reading
 use Rattle.read_parts.specs.FormulaText.{Reader, times, timedPart, signText, repeats, more, thenParen, second, sinceUntil, nameOrKeep, declared, inside, rule}
-use Rattle.read_interval.proofs.Spans.{interval-reach}
+use Rattle.read_interval.proofs.Intervals.{interval-reach}
 use Rattle.read_parts.proofs.Steps.{sign-some, more-none, onward, more-one, times-none, times-one, plain-letter, plain-deny, plain-paren, word-since, word-until, word-name}
 use Rattle.spec_grammar.specs.Tokens.{TokenAt, Tokens}
 use Rattle.spec_grammar.specs.Grammar.{Part, below, before, formula, keepWord, timeSign, Name, Is, Declared, Legal, Rule}
 use Rattle.spec_grammar.proofs.Standing.{starts-head, token-one, next-is, none-is, tokens-part, word-first}
 use Rattle.spec_grammar.proofs.Signs.{word-token}
-use Rattle.spec_grammar.proofs.Spans.{legal-span, interval-reads}
+use Rattle.spec_grammar.proofs.Offsets.{legal-offsets, interval-reads}
 use Rattle.spec_grammar.proofs.Sound.{time-length, keep-length, keep-is}
 
 -- ---- what may follow a part
@@ -324,7 +324,7 @@ module _ (names : List (List ℕ)) (s : List ℕ) where
       let c = next-is (a .2) in
       let e : a .0 + length (timeSign b) ≡ a .0 + 1 = rw (time-length b) in
       let z = subst (λ x. Tokens s q x ws) e (c .1) in
-      timed-answer (plain d) s (time-on (plain d) s b (complete h p (a .0) (a .1) .on) (c .0) (interval-reads i z ∙ legal-span _ _ _ _ _ _ l))
+      timed-answer (plain d) s (time-on (plain d) s b (complete h p (a .0) (a .1) .on) (c .0) (interval-reads i z ∙ legal-offsets _ _ _ _ _ _ l))
   complete (Is.one {d} o h) p q t = one-answer (plain d) s o (complete h p q t)
   complete (Is.join {d} {us = us} {ws = ws} o h k) p q t =
       let a = tokens-part us t in

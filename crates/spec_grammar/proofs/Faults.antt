@@ -16,7 +16,7 @@ use Rattle.read_parts.specs.FormulaText.{Reader, signText, repeats, more}
 use Rattle.read_parts.proofs.Steps.{sign-some}
 use Rattle.spec_grammar.specs.Tokens.{TokenAt, Tokens}
 use Rattle.spec_grammar.specs.Grammar.{Part, below, before, keepWord, timeSign, Name, Interval, Is, Declared, Legal}
-use Rattle.spec_grammar.specs.RuleFaults.{AnyName, AnySpan, SpanBegins}
+use Rattle.spec_grammar.specs.RuleFaults.{AnyName, AnyOffsets, OffsetsBegin}
 use Rattle.spec_grammar.proofs.Standing.{one-at, tokens-then}
 use Rattle.spec_grammar.proofs.Signs.{sign-token, op-sign}
 use Rattle.spec_grammar.proofs.Complete.{sign-in, tokens-ahead}
@@ -108,21 +108,21 @@ pub record Begin (N : List ℕ → ℕ → Type 0) (I : ℕ → ℕ → ℕ → 
 
 -- The same whatever its names and intervals.
 abbrev pub Loose : Part → ℕ → List (List ℕ) → Type 0
-Loose = Begin AnyName AnySpan
+Loose = Begin AnyName AnyOffsets
 
 -- What stands before a refusal: a part begins so, but for a word since or until, or an interval, that has just begun.
 pub data Before (N : List ℕ → ℕ → Type 0) (I : ℕ → ℕ → ℕ → ℕ → ℕ → ℕ → Type 0) (k : Part) (d : ℕ) : List (List ℕ) → Type 0 where
   whole : {us : List (List ℕ)} → Begin N I k d us → Before N I k d us
   word : {us : List (List ℕ)} (b : Bool) → Begin N I k d us → Before N I k d (us ++ (keepWord b ∷ []))
-  span : {us ts : List (List ℕ)} (b : Bool) → Begin N I k d us → SpanBegins ts → Loose k d (us ++ (timeSign b ∷ ts)) → Before N I k d (us ++ (timeSign b ∷ ts))
+  offsets : {us ts : List (List ℕ)} (b : Bool) → Begin N I k d us → OffsetsBegin ts → Loose k d (us ++ (timeSign b ∷ ts)) → Before N I k d (us ++ (timeSign b ∷ ts))
 
 map-before : {N : List ℕ → ℕ → Type 0} {I : ℕ → ℕ → ℕ → ℕ → ℕ → ℕ → Type 0} {k l : Part} {d c : ℕ} {ts : List (List ℕ)} (us : List (List ℕ)) → ((ts : List (List ℕ)) → Begin N I k d ts → Begin N I l c (us ++ ts))
     → ((ts : List (List ℕ)) → Loose k d ts → Loose l c (us ++ ts)) → Before N I k d ts → Before N I l c (us ++ ts)
 map-before us f g (Before.whole h) = Before.whole (f _ h)
 map-before {N} {I} {l = l} {c = c} us f g (Before.word {us = a} b h) = subst (Before N I l c) (append-assoc us a (keepWord b ∷ [])) (Before.word b (f a h))
-map-before {N} {I} {l = l} {c = c} us f g (Before.span {us = a} {ts = ts} b h i k) =
+map-before {N} {I} {l = l} {c = c} us f g (Before.offsets {us = a} {ts = ts} b h i k) =
     let e = append-assoc us a (timeSign b ∷ ts) in
-    subst (Before N I l c) e (Before.span b (f a h) i (subst (Loose l c) (sym e) (g _ k)))
+    subst (Before N I l c) e (Before.offsets b (f a h) i (subst (Loose l c) (sym e) (g _ k)))
 
 -- What is asked of names and intervals, and a walk's tests for them. Declared names and legal intervals pass both; some name nm is asked for as ni.
 pub record View (names : List (List ℕ)) : Type 1 where
@@ -130,7 +130,7 @@ pub record View (names : List (List ℕ)) : Type 1 where
   pub I : ℕ → ℕ → ℕ → ℕ → ℕ → ℕ → Type 0
   pub tests : Tests
   pub named : (w : List ℕ) (i : ℕ) → Declared names w i → N w i × (tests .named w ≡ true)
-  pub spanned : (o v w c first more : ℕ) → Legal o v w c first more → I o v w c first more × (tests .spanned o v w c ≡ true)
+  pub offsets : (o v w c first more : ℕ) → Legal o v w c first more → I o v w c first more × (tests .offsets o v w c ≡ true)
   pub nm : List ℕ
   pub ni : ℕ
   pub name : Name nm
@@ -140,14 +140,14 @@ pub record View (names : List (List ℕ)) : Type 1 where
 pub data Hopes (names : List (List ℕ)) (s : List ℕ) (τ : Tests) (e : ℕ) (y : Place) (d : ℕ) (B : ℕ → List (List ℕ) → Type 0) : ℕ → ℕ → Type 0 where
   token : {κ : ℕ} → B (suc d) [] → ((w : List ℕ) (z : Place) → TokenAt s κ w → step τ y w ≡ option.some z → ⊥) → (κ ≡ length s → (b : ℕ) (j : Joins) → y ≡ Place.after b j [] → ⊥) → Hopes names s τ e y d B 5 κ
   name : {κ : ℕ} {w : List ℕ} → TokenAt s κ w → Name w → ((i : ℕ) → Declared names w i → ⊥) → B d (w ∷ []) → Hopes names s τ e y d B 6 κ
-  span : {κ q o v w c : ℕ} {ws : List (List ℕ)} → Tokens s q κ ws → Interval ws o v w c → ((first more : ℕ) → Legal o v w c first more → ⊥) → B d ws → Hopes names s τ e y d B 7 κ
+  offsets : {κ q o v w c : ℕ} {ws : List (List ℕ)} → Tokens s q κ ws → Interval ws o v w c → ((first more : ℕ) → Legal o v w c first more → ⊥) → B d ws → Hopes names s τ e y d B 7 κ
   deep : {κ o : ℕ} → oneOf o (bytes "(!") ≡ true → TokenAt s κ (o ∷ []) → B (suc d) ((o ∷ []) ∷ []) → (e ≡ 0 → (z : Place) → step τ y (o ∷ []) ≡ option.some z → ⊥) → Hopes names s τ e y d B 8 κ
 
 pub map-hopes : {names : List (List ℕ)} {s : List ℕ} {τ : Tests} {e : ℕ} {y : Place} {d c n κ : ℕ} (B C : ℕ → List (List ℕ) → Type 0) → ((ts : List (List ℕ)) → B d ts → C c ts) → ((ts : List (List ℕ)) → B (suc d) ts → C (suc c) ts)
     → Hopes names s τ e y d B n κ → Hopes names s τ e y c C n κ
 map-hopes B C f g (Hopes.token h k l) = Hopes.token (g [] h) k l
 map-hopes B C f g (Hopes.name {w = w} t n u h) = Hopes.name t n u (f (w ∷ []) h)
-map-hopes B C f g (Hopes.span {ws = ws} t i l h) = Hopes.span t i l (f ws h)
+map-hopes B C f g (Hopes.offsets {ws = ws} t i l h) = Hopes.offsets t i l (f ws h)
 map-hopes B C f g (Hopes.deep {o = o} m t k l) = Hopes.deep m t (g ((o ∷ []) ∷ []) k) l
 
 -- Nothing at q goes on with the part.
@@ -214,7 +214,7 @@ module _ {names : List (List ℕ)} (s : List ℕ) (ν : View names) (e : ℕ) wh
   -- The same, where only the kind of the part changes.
   pub as-kind : {x : Place} {k l : Part} {d p n κ : ℕ} → ((N : List ℕ → ℕ → Type 0) (I : ℕ → ℕ → ℕ → ℕ → ℕ → ℕ → Type 0) (c : ℕ) (ws : List (List ℕ)) (f : Written) → Is N I k c ws f → Is N I l c ws f)
       → Bad s ν e x k d p n κ → Bad s ν e x l d p n κ
-  as-kind {k = k} {l} {d} f b = lift [] Tokens.none Walks.stop (λ ts h. to (ν .N) (ν .I) h) (λ ts h. to AnyName AnySpan h) (λ ts h. to AnyName AnySpan h) b
+  as-kind {k = k} {l} {d} f b = lift [] Tokens.none Walks.stop (λ ts h. to (ν .N) (ν .I) h) (λ ts h. to AnyName AnyOffsets h) (λ ts h. to AnyName AnyOffsets h) b
     where
       to : (N : List ℕ → ℕ → Type 0) (I : ℕ → ℕ → ℕ → ℕ → ℕ → ℕ → Type 0) {c : ℕ} {ts : List (List ℕ)} → Begin N I k c ts → Begin N I l c ts
       to N I {c} h = record { rest = h .rest; says = h .says; is = f N I c _ (h .says) (h .is) }
@@ -260,9 +260,9 @@ module _ {names : List (List ℕ)} (s : List ℕ) (ν : View names) (e : ℕ) wh
         → Bad s ν e (Place.want (e + d) (e + d) j st) (Part.level o) d p n κ
     sign-bad {q = q} {f = f} a t b =
         lift (a .tokens ++ (signText o ∷ [])) (tokens-then (a .tokens) (a .stand) (one-at (sign-token s q (op-sign o) t) refl)) (walks-then (a .walks) (walks-one (signed a)))
-        (λ ts h. to (ν .N) (ν .I) (a .is) h) (λ ts h. to AnyName AnySpan loose h) (λ ts h. to AnyName AnySpan (deeper AnyName AnySpan loose) h) b
+        (λ ts h. to (ν .N) (ν .I) (a .is) h) (λ ts h. to AnyName AnyOffsets loose h) (λ ts h. to AnyName AnyOffsets (deeper AnyName AnyOffsets loose) h) b
       where
-        loose : Is AnyName AnySpan (before o) d (a .tokens) f
+        loose : Is AnyName AnyOffsets (before o) d (a .tokens) f
         loose = loosen (ν .N) (ν .I) (a .is)
 
         to : (N : List ℕ → ℕ → Type 0) (I : ℕ → ℕ → ℕ → ℕ → ℕ → ℕ → Type 0) {c : ℕ} {ts : List (List ℕ)} → Is N I (before o) c (a .tokens) f → Begin N I (below o) c ts

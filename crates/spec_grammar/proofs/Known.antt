@@ -51,17 +51,17 @@ name-known τ (Place.after b j st) z {w} n k =
     absurd
     (none-not
     (rw (d (bytes "@") refl, d (bytes "?") refl, d (bytes "&") refl, d (bytes "|") refl, d (bytes "=>") refl, d (bytes "<=>") refl, d (bytes ")") refl, d (bytes ",") refl) at k))
-name-known τ (Place.span Upto.start b j st) z {w} n k = absurd (none-of letter (firstOf w) (bytes "[(") (refl, (refl, tt)) (name-letter n) (passed _ _ k .0))
-name-known τ (Place.span (Upto.bracket o) b j st) z {w} n k = absurd (end-no-letter (firstOf w) (name-letter n) (passed _ _ k .0))
-name-known τ (Place.span (Upto.low o v) b j st) z {w} n k = absurd (true≢false (sym (name-letter n) ∙ ap letter (eqb-true (firstOf w) (byte ",") (passed _ _ k .0))))
-name-known τ (Place.span (Upto.comma o v) b j st) z {w} n k = absurd (end-no-letter (firstOf w) (name-letter n) (passed _ _ k .0))
-name-known τ (Place.span (Upto.high o v x) b j st) z {w} n k = absurd (none-of letter (firstOf w) (bytes "])") (refl, (refl, tt)) (name-letter n) (passed _ _ k .0))
+name-known τ (Place.offsets Upto.start b j st) z {w} n k = absurd (none-of letter (firstOf w) (bytes "[(") (refl, (refl, tt)) (name-letter n) (passed _ _ k .0))
+name-known τ (Place.offsets (Upto.bracket o) b j st) z {w} n k = absurd (end-no-letter (firstOf w) (name-letter n) (passed _ _ k .0))
+name-known τ (Place.offsets (Upto.low o v) b j st) z {w} n k = absurd (true≢false (sym (name-letter n) ∙ ap letter (eqb-true (firstOf w) (byte ",") (passed _ _ k .0))))
+name-known τ (Place.offsets (Upto.comma o v) b j st) z {w} n k = absurd (end-no-letter (firstOf w) (name-letter n) (passed _ _ k .0))
+name-known τ (Place.offsets (Upto.high o v x) b j st) z {w} n k = absurd (none-of letter (firstOf w) (bytes "])") (refl, (refl, tt)) (name-letter n) (passed _ _ k .0))
 
 -- ---- intervals
 
 -- After an opening bracket an end comes next, or a plain part is wanted.
 data Opened (o : ℕ) : Place → Type 0 where
-  span : {b : ℕ} {j : Joins} {st : List Frame} → Opened o (Place.span (Upto.bracket o) b j st)
+  offsets : {b : ℕ} {j : Joins} {st : List Frame} → Opened o (Place.offsets (Upto.bracket o) b j st)
   want : {b r : ℕ} {j : Joins} {st : List Frame} → Opened o (Place.want b r j st)
 
 -- By the two brackets.
@@ -88,21 +88,21 @@ opened-is τ y z o h = by-bracket (λ o. step τ y (o ∷ []) ≡ some z → Ope
     square (Place.want b r j st) e = absurd (none-not e)
     square (Place.call b r j st) e = absurd (none-not e)
     square (Place.after b j st) e = absurd (none-not e)
-    square (Place.span Upto.start b j st) e = is span e
-    square (Place.span (Upto.bracket o) b j st) e = absurd (none-not e)
-    square (Place.span (Upto.low o v) b j st) e = absurd (none-not e)
-    square (Place.span (Upto.comma o v) b j st) e = absurd (none-not e)
-    square (Place.span (Upto.high o v x) b j st) e = absurd (none-not e)
+    square (Place.offsets Upto.start b j st) e = is offsets e
+    square (Place.offsets (Upto.bracket o) b j st) e = absurd (none-not e)
+    square (Place.offsets (Upto.low o v) b j st) e = absurd (none-not e)
+    square (Place.offsets (Upto.comma o v) b j st) e = absurd (none-not e)
+    square (Place.offsets (Upto.high o v x) b j st) e = absurd (none-not e)
 
     round : (y : Place) → step τ y (bytes "(") ≡ some z → Opened (byte "(") z
     round (Place.want b r j st) e = more r _ (λ q. want) e
     round (Place.call b r j st) e = more r _ (λ q. want) e
     round (Place.after b j st) e = absurd (none-not e)
-    round (Place.span Upto.start b j st) e = is span e
-    round (Place.span (Upto.bracket o) b j st) e = absurd (none-not e)
-    round (Place.span (Upto.low o v) b j st) e = absurd (none-not e)
-    round (Place.span (Upto.comma o v) b j st) e = absurd (none-not e)
-    round (Place.span (Upto.high o v x) b j st) e = absurd (none-not e)
+    round (Place.offsets Upto.start b j st) e = is offsets e
+    round (Place.offsets (Upto.bracket o) b j st) e = absurd (none-not e)
+    round (Place.offsets (Upto.low o v) b j st) e = absurd (none-not e)
+    round (Place.offsets (Upto.comma o v) b j st) e = absurd (none-not e)
+    round (Place.offsets (Upto.high o v x) b j st) e = absurd (none-not e)
 
 -- An end is no plain part's first token.
 end-unwanted : (τ : Tests) (b r : ℕ) (j : Joins) (st : List Frame) {x : List ℕ} {v : ℕ} (z : Place) → End x v → step τ (Place.want b r j st) x ≡ some z → ⊥
@@ -112,17 +112,17 @@ end-unwanted τ b r j st {x} z k = stuck-want τ b r j st x z (go (letter (first
     go true i = absurd (end-no-letter (firstOf x) i (end-byte k))
     go false i = i
 
-closes-known : (τ : Tests) (o v w c b : ℕ) (j : Joins) (st : List Frame) (z : Place) → step τ (Place.span (Upto.high o v w) b j st) (c ∷ []) ≡ some z → τ .spanned o v w c ≡ true
+closes-known : (τ : Tests) (o v w c b : ℕ) (j : Joins) (st : List Frame) (z : Place) → step τ (Place.offsets (Upto.high o v w) b j st) (c ∷ []) ≡ some z → τ .offsets o v w c ≡ true
 unfolding step
-closes-known τ o v w c b j st z e = passed (τ .spanned o v w c) _ (passed (oneOf c (bytes "])")) _ e .1) .0
+closes-known τ o v w c b j st z e = passed (τ .offsets o v w c) _ (passed (oneOf c (bytes "])")) _ e .1) .0
 
-pub span-known : (τ : Tests) {y z : Place} {ws : List (List ℕ)} {o v w c : ℕ} → Interval ws o v w c → Walks τ y ws z → τ .spanned o v w c ≡ true
-span-known τ {y} {z} (Interval.interval {o} {c} {v} {w} {x} {y = t} ho kx ky hc) h =
+pub offsets-known : (τ : Tests) {y z : Place} {ws : List (List ℕ)} {o v w c : ℕ} → Interval ws o v w c → Walks τ y ws z → τ .offsets o v w c ≡ true
+offsets-known τ {y} {z} (Interval.interval {o} {c} {v} {w} {x} {y = t} ho kx ky hc) h =
     let a = walks-first h in
     go (opened-is τ y (a .0) o ho (a .1)) (a .2)
   where
-    go : {y : Place} → Opened o y → Walks τ y (x ∷ bytes "," ∷ t ∷ (c ∷ []) ∷ []) z → τ .spanned o v w c ≡ true
-    go (Opened.span {b} {j} {st}) k =
+    go : {y : Place} → Opened o y → Walks τ y (x ∷ bytes "," ∷ t ∷ (c ∷ []) ∷ []) z → τ .offsets o v w c ≡ true
+    go (Opened.offsets {b} {j} {st}) k =
         let n = walks-cut (x ∷ bytes "," ∷ t ∷ []) (Walks.next (step-first τ b j st o kx) (Walks.next (step-comma τ b j st o v) (walks-one (step-last τ b j st o v ky)))) k in
         let a = walks-first n in
         closes-known τ o v w c b j st (a .0) (a .1)

@@ -2,7 +2,7 @@
 pub mod Standing
 pub mod Signs
 pub mod Ends
-pub mod Spans
+pub mod Offsets
 pub mod Sound
 pub mod Complete
 pub mod Exact

@@ -15,28 +15,28 @@ use Rattle.spec_limits.specs.Limits.{mostOpen}
 use Rattle.read_bytes.specs.Bytes.{bytes, oneOf, letter}
 use Rattle.read_names.specs.Spellings.{findName}
 use Rattle.spec_tilco.specs.Lists.{All}
-use Rattle.read_interval.specs.declared.Span.{Span}
-use Rattle.read_interval.specs.declared.Span.the-variants.{Over, Refused}
-use Rattle.read_interval.specs.Interval.{spanOf}
+use Rattle.read_interval.specs.declared.Offsets.{Offsets}
+use Rattle.read_interval.specs.declared.Offsets.the-variants.{Over, Refused}
+use Rattle.read_interval.specs.Interval.{offsetsOf}
 use Rattle.spec_grammar.specs.Tokens.{End, TokenAt, Tokens}
 use Rattle.spec_grammar.specs.Grammar.{formula, keepWord, Name, Interval, Is, Declared, Legal}
-use Rattle.spec_grammar.specs.RuleFaults.{AnyName, AnySpan, Begins, Wrong}
+use Rattle.spec_grammar.specs.RuleFaults.{AnyName, AnyOffsets, Begins, Wrong}
 use Rattle.spec_grammar.proofs.Standing.{token-one, next-is, tokens-then}
-use Rattle.spec_grammar.proofs.Spans.{SpanIs, span-is, legal-span}
+use Rattle.spec_grammar.proofs.Offsets.{OffsetsAre, offsets-are, legal-offsets}
 use Rattle.spec_grammar.proofs.Walk.{Tests, fresh, Place, Walks, firstOf, endByte, end-byte, step, walks-first, walks-part, deep}
 use Rattle.spec_grammar.proofs.Faults.{Begin, Before}
 use Rattle.spec_grammar.proofs.TimedFaults.{or-in}
 use Rattle.spec_grammar.proofs.TokenPlaces.{tokens-upto, tokens-one, tokens-past}
-use Rattle.spec_grammar.proofs.Known.{none-of, name-letter, end-no-letter, name-known, span-known}
+use Rattle.spec_grammar.proofs.Known.{none-of, name-letter, end-no-letter, name-known, offsets-known}
 
 -- ---- the tests for declared names and legal intervals
 
-isOver : Span → Bool
+isOver : Offsets → Bool
 isOver (Over first more q) = true
 isOver (Refused n p) = false
 
 pub strict : List (List ℕ) → Tests
-strict names = record { named = λ w. ltb (findName w names) (length names); spanned = λ o v w c. isOver (spanOf 0 o v w c 0) }
+strict names = record { named = λ w. ltb (findName w names) (length names); offsets = λ o v w c. isOver (offsetsOf 0 o v w c 0) }
 
 module _ (names : List (List ℕ)) where
   pub declared-passes : (w : List ℕ) (i : ℕ) → Declared names w i → strict names .named w ≡ true
@@ -47,29 +47,29 @@ module _ (names : List (List ℕ)) where
   unfolding strict
   passes-declared w e = record { found = refl; declared = ltb-true (findName w names) (length names) e }
 
-  pub legal-passes : (o v w c first more : ℕ) → Legal o v w c first more → strict names .spanned o v w c ≡ true
+  pub legal-passes : (o v w c first more : ℕ) → Legal o v w c first more → strict names .offsets o v w c ≡ true
   unfolding strict isOver
-  legal-passes o v w c first more l = rw (legal-span 0 o v w c 0 l)
+  legal-passes o v w c first more l = rw (legal-offsets 0 o v w c 0 l)
 
-  passes-legal : (o v w c : ℕ) → strict names .spanned o v w c ≡ true → ((first more : ℕ) → Legal o v w c first more → ⊥) → ⊥
+  passes-legal : (o v w c : ℕ) → strict names .offsets o v w c ≡ true → ((first more : ℕ) → Legal o v w c first more → ⊥) → ⊥
   unfolding strict isOver
-  passes-legal o v w c e n = go (span-is 0 o v w c 0) e
+  passes-legal o v w c e n = go (offsets-are 0 o v w c 0) e
     where
-      go : {S : Span} → SpanIs 0 o v w c 0 S → isOver S ≡ true → ⊥
-      go (SpanIs.legal {first = x} {more = y} l) f = n x y l
-      go (SpanIs.illegal k) f = true≢false (sym f)
+      go : {S : Offsets} → OffsetsAre 0 o v w c 0 S → isOver S ≡ true → ⊥
+      go (OffsetsAre.legal {first = x} {more = y} l) f = n x y l
+      go (OffsetsAre.illegal k) f = true≢false (sym f)
 
 -- ---- lists
 
 -- What begins a formula with more tokens begins one.
 pub begins-front : {d : ℕ} (a b : List (List ℕ)) → Begins d (a ++ b) → Begins d a
-begins-front {d} a b h = record { rest = b ++ h .rest; says = h .says; is = subst (λ z. Is AnyName AnySpan formula d z (h .says)) (append-assoc a b (h .rest)) (h .is) }
+begins-front {d} a b h = record { rest = b ++ h .rest; says = h .says; is = subst (λ z. Is AnyName AnyOffsets formula d z (h .says)) (append-assoc a b (h .rest)) (h .is) }
 
 begins-one : {d : ℕ} (us : List (List ℕ)) (w : List ℕ) (ws : List (List ℕ)) → Begins d (us ++ (w ∷ ws)) → Begins d (us ++ (w ∷ []))
 begins-one {d} us w ws h = begins-front (us ++ (w ∷ [])) ws (subst (Begins d) (sym (append-assoc us (w ∷ []) ws)) h)
 
 begins-deep : {us : List (List ℕ)} → Begins mostOpen us → Begins (suc mostOpen) us
-begins-deep h = record { rest = h .rest; says = h .says; is = deep AnyName AnySpan (h .is) }
+begins-deep h = record { rest = h .rest; says = h .says; is = deep AnyName AnyOffsets (h .is) }
 
 -- The last token of a list is the one before the rest, or stands in the rest.
 last-split : (a us : List (List ℕ)) (x w : List ℕ) (ws : List (List ℕ)) → a ++ (x ∷ []) ≡ us ++ (w ∷ ws) → (x ≡ w) ⊎ ((r : List (List ℕ)) × (a ≡ us ++ (w ∷ r)))
@@ -135,7 +135,7 @@ pub record Clean (names : List (List ℕ)) (s : List ℕ) (p κ : ℕ) : Type 0 
   pub begins : Begins (suc mostOpen) tokens
   pub at : Place
   pub walks : Walks (strict names) (Place.want mostOpen mostOpen fresh []) tokens at
-  pub before : Before AnyName AnySpan formula mostOpen tokens
+  pub before : Before AnyName AnyOffsets formula mostOpen tokens
   pub next : (w : List ℕ) (d : ℕ) → TokenAt s κ w → Begins d (tokens ++ (w ∷ [])) → starter (firstOf w) ≡ true
 
 module _ {names : List (List ℕ)} {s : List ℕ} {p κ : ℕ} (c : Clean names s p κ) where
@@ -157,15 +157,15 @@ module _ {names : List (List ℕ)} {s : List ℕ} {p κ : ℕ} (c : Clean names 
         let k = subst (λ z. step (strict names) (h .0) z ≡ some (f .0)) (token-one (b .3) a) (f .1) in
         u _ (passes-declared names w (name-known (strict names) (h .0) (f .0) n k))
 
-    no-span : {q o v w x : ℕ} {ws : List (List ℕ)} → i < κ → Tokens s q i ws → Interval ws o v w x → ((first more : ℕ) → Legal o v w x first more → ⊥) → Begins mostOpen (us ++ ws) → ⊥
-    no-span {q} {o} {v} {w} {x} {ws} l a j n b = go (decLt κ q)
+    no-offsets : {q o v w x : ℕ} {ws : List (List ℕ)} → i < κ → Tokens s q i ws → Interval ws o v w x → ((first more : ℕ) → Legal o v w x first more → ⊥) → Begins mostOpen (us ++ ws) → ⊥
+    no-offsets {q} {o} {v} {w} {x} {ws} l a j n b = go (decLt κ q)
       where
         go : Dec (κ < q) → ⊥
         go (no m) =
             let r = tokens-upto (us ++ ws) (c .tokens) (tokens-then us t a) (c .stand) (omega arith) in
             let h = over (us ++ ws) (r .0) (r .1) in
             let k = walks-part us (h .1) in
-            passes-legal names o v w x (span-known (strict names) j (k .2)) n
+            passes-legal names o v w x (offsets-known (strict names) j (k .2)) n
         go (yes m) =
             let r = tokens-past (c .tokens) (us ++ ws) (c .stand) (tokens-then us t a) m in
             let f = tokens-past us (c .tokens) t (c .stand) l in
@@ -178,17 +178,17 @@ module _ {names : List (List ℕ)} {s : List ℕ} {p κ : ℕ} (c : Clean names 
         let b = tokens-past us (c .tokens) t (c .stand) l in
         go (b .1) (c .before) (b .2 ∙ ap (λ z. us ++ (z ∷ b .1)) (token-one (b .3) a))
       where
-        from : (ts ws : List (List ℕ)) → Begin AnyName AnySpan formula mostOpen ts → ts ≡ us ++ ((o ∷ []) ∷ ws) → Begins mostOpen (us ++ ((o ∷ []) ∷ []))
+        from : (ts ws : List (List ℕ)) → Begin AnyName AnyOffsets formula mostOpen ts → ts ≡ us ++ ((o ∷ []) ∷ ws) → Begins mostOpen (us ++ ((o ∷ []) ∷ []))
         from ts ws h e = begins-one us (o ∷ []) ws (subst (Begins mostOpen) e (record { rest = h .rest; says = h .says; is = h .is }))
 
         keep-other : (b : Bool) → keepWord b ≡ o ∷ [] → ⊥
         keep-other true e = true≢false (sym m ∙ ap (λ z. oneOf (firstOf z) (bytes "(!")) (sym e))
         keep-other false e = true≢false (sym m ∙ ap (λ z. oneOf (firstOf z) (bytes "(!")) (sym e))
 
-        go : (r : List (List ℕ)) {ts : List (List ℕ)} → Before AnyName AnySpan formula mostOpen ts → ts ≡ us ++ ((o ∷ []) ∷ r) → ⊥
+        go : (r : List (List ℕ)) {ts : List (List ℕ)} → Before AnyName AnyOffsets formula mostOpen ts → ts ≡ us ++ ((o ∷ []) ∷ r) → ⊥
         go r (Before.whole {us = ts} h) e = n (from ts r h e)
         go r (Before.word {us = ts} b h) e = ⊎-elim (λ k. keep-other b k) (λ k. n (from ts (k .0) h (k .1))) (last-split ts us (keepWord b) (o ∷ []) r e)
-        go r (Before.span b h j k) e = n (from _ r k e)
+        go r (Before.offsets b h j k) e = n (from _ r k e)
 
   pub none-before : {m i : ℕ} → Wrong names s p m i → κ ≤ i
   none-before {i = i} h = go (decLt i κ)
@@ -196,7 +196,7 @@ module _ {names : List (List ℕ)} {s : List ℕ} {p κ : ℕ} (c : Clean names 
       not-yet : {m : ℕ} → Wrong names s p m i → i < κ → ⊥
       not-yet (Wrong.token t b k e) l = no-token t l k
       not-yet (Wrong.name t a n u b) l = no-name t l a n u
-      not-yet (Wrong.span t a j n b) l = no-span t l a j n b
+      not-yet (Wrong.offsets t a j n b) l = no-offsets t l a j n b
       not-yet (Wrong.deep t o a b n) l = no-deep t l o a n
 
       go : Dec (i < κ) → κ ≤ i
@@ -220,25 +220,25 @@ module _ {s : List ℕ} {κ : ℕ} where
   no-sign {o = o} l h n a b m = none-of letter o l h (subst (λ z. letter (firstOf z) ≡ true) (token-one a b) (name-letter n)) m
 
   -- An interval's bracket.
-  pub span-opens : {q o v w c : ℕ} {ws : List (List ℕ)} (us : List (List ℕ)) → Interval ws o v w c → Tokens s q κ ws → Begins mostOpen (us ++ ws) → TokenAt s κ (o ∷ []) × (oneOf o (bytes "[(") ≡ true) × Begins mostOpen (us ++ ((o ∷ []) ∷ []))
-  span-opens us (Interval.interval {o} ho kx ky hc) a b = (next-is a .0, ho, begins-one us (o ∷ []) _ b)
+  pub offsets-open : {q o v w c : ℕ} {ws : List (List ℕ)} (us : List (List ℕ)) → Interval ws o v w c → Tokens s q κ ws → Begins mostOpen (us ++ ws) → TokenAt s κ (o ∷ []) × (oneOf o (bytes "[(") ≡ true) × Begins mostOpen (us ++ ((o ∷ []) ∷ []))
+  offsets-open us (Interval.interval {o} ho kx ky hc) a b = (next-is a .0, ho, begins-one us (o ∷ []) _ b)
 
 pub one-wrong : {names : List (List ℕ)} {s : List ℕ} {p κ n m : ℕ} → Wrong names s p n κ → Wrong names s p m κ → n ≡ m
 one-wrong (Wrong.token t b k e) (Wrong.token u c l f) = refl
 one-wrong (Wrong.token t b k e) (Wrong.name u a n f g) = absurd (unfit t u k a g)
-one-wrong (Wrong.token t b k e) (Wrong.span {us = us} u a j f g) = let x = span-opens us j a g in absurd (unfit t u k (x .0) (x .2))
+one-wrong (Wrong.token t b k e) (Wrong.offsets {us = us} u a j f g) = let x = offsets-open us j a g in absurd (unfit t u k (x .0) (x .2))
 one-wrong (Wrong.token t b k e) (Wrong.deep u o a g n) = absurd (unfit t u k a g)
 one-wrong (Wrong.name u a n f g) (Wrong.token t b k e) = absurd (unfit t u k a g)
 one-wrong (Wrong.name t a n f g) (Wrong.name u c m h i) = refl
-one-wrong (Wrong.name t a n f g) (Wrong.span {us = us} u c j h i) = let x = span-opens us j c i in absurd (no-sign (bytes "[(") (refl, (refl, tt)) n a (x .0) (x .1))
+one-wrong (Wrong.name t a n f g) (Wrong.offsets {us = us} u c j h i) = let x = offsets-open us j c i in absurd (no-sign (bytes "[(") (refl, (refl, tt)) n a (x .0) (x .1))
 one-wrong (Wrong.name t a n f g) (Wrong.deep u o c h m) = absurd (no-sign (bytes "(!") (refl, (refl, tt)) n a c o)
-one-wrong (Wrong.span {us = us} u a j f g) (Wrong.token t b k e) = let x = span-opens us j a g in absurd (unfit t u k (x .0) (x .2))
-one-wrong (Wrong.span {us = us} u c j h i) (Wrong.name t a n f g) = let x = span-opens us j c i in absurd (no-sign (bytes "[(") (refl, (refl, tt)) n a (x .0) (x .1))
-one-wrong (Wrong.span t a j n b) (Wrong.span u c i m d) = refl
-one-wrong (Wrong.span {us = us} t a j n b) (Wrong.deep u o c h m) = let x = span-opens us j a b in absurd (one-bracket t u (x .0) (x .2) c m)
+one-wrong (Wrong.offsets {us = us} u a j f g) (Wrong.token t b k e) = let x = offsets-open us j a g in absurd (unfit t u k (x .0) (x .2))
+one-wrong (Wrong.offsets {us = us} u c j h i) (Wrong.name t a n f g) = let x = offsets-open us j c i in absurd (no-sign (bytes "[(") (refl, (refl, tt)) n a (x .0) (x .1))
+one-wrong (Wrong.offsets t a j n b) (Wrong.offsets u c i m d) = refl
+one-wrong (Wrong.offsets {us = us} t a j n b) (Wrong.deep u o c h m) = let x = offsets-open us j a b in absurd (one-bracket t u (x .0) (x .2) c m)
 one-wrong (Wrong.deep u o a g n) (Wrong.token t b k e) = absurd (unfit t u k a g)
 one-wrong (Wrong.deep u o c h m) (Wrong.name t a n f g) = absurd (no-sign (bytes "(!") (refl, (refl, tt)) n a c o)
-one-wrong (Wrong.deep u o c h m) (Wrong.span {us = us} t a j n b) = let x = span-opens us j a b in absurd (one-bracket t u (x .0) (x .2) c m)
+one-wrong (Wrong.deep u o c h m) (Wrong.offsets {us = us} t a j n b) = let x = offsets-open us j a b in absurd (one-bracket t u (x .0) (x .2) c m)
 one-wrong (Wrong.deep t o a b n) (Wrong.deep u x c d m) = refl
 
 -- ---- before a fault, and at it
@@ -251,12 +251,12 @@ module _ {s : List ℕ} {p κ : ℕ} {us : List (List ℕ)} (t : Tokens s κ p u
   pub wrong-begins : {names : List (List ℕ)} {n : ℕ} → Wrong names s p n κ → Begins (suc mostOpen) us
   wrong-begins (Wrong.token {us = ts} u b k e) = subst (Begins (suc mostOpen)) (tokens-one ts us u t) b
   wrong-begins (Wrong.name {w = w} u a n f b) = begins-deep (begins-front us (w ∷ []) (here mostOpen (w ∷ []) u b))
-  wrong-begins (Wrong.span {ws = ws} u a j n b) = begins-deep (begins-front us ws (here mostOpen ws u b))
+  wrong-begins (Wrong.offsets {ws = ws} u a j n b) = begins-deep (begins-front us ws (here mostOpen ws u b))
   wrong-begins (Wrong.deep {o = o} u m a b n) = begins-front us ((o ∷ []) ∷ []) (here (suc mostOpen) ((o ∷ []) ∷ []) u b)
 
   -- and a token that fits at the fault starts something.
   pub wrong-starts : {names : List (List ℕ)} {n : ℕ} → Wrong names s p n κ → (w : List ℕ) (d : ℕ) → TokenAt s κ w → Begins d (us ++ (w ∷ [])) → starter (firstOf w) ≡ true
   wrong-starts (Wrong.token u b k e) w d a h = absurd (unfit u t k a h)
   wrong-starts (Wrong.name u c n f b) w d a h = letter-starts (firstOf w) (subst (λ z. letter (firstOf z) ≡ true) (token-one c a) (name-letter n))
-  wrong-starts (Wrong.span {us = ts} u c j n b) w d a h = let x = span-opens ts j c b in sign-starts (bytes "[(") (refl, (refl, tt)) (x .1) (token-one (x .0) a)
+  wrong-starts (Wrong.offsets {us = ts} u c j n b) w d a h = let x = offsets-open ts j c b in sign-starts (bytes "[(") (refl, (refl, tt)) (x .1) (token-one (x .0) a)
   wrong-starts (Wrong.deep u m c b n) w d a h = sign-starts (bytes "(!") (refl, (refl, tt)) m (token-one c a)

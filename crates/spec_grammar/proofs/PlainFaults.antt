@@ -24,7 +24,7 @@ use Rattle.read_parts.specs.FormulaText as reading
 use Rattle.read_parts.specs.FormulaText.{Reader, negated, thenParen, inParens, second, arguments, sinceUntil, nameOrKeep, declared, plainPartBy, plainPartIn, inside, rule}
 use Rattle.spec_grammar.specs.Tokens.{TokenAt, Tokens}
 use Rattle.spec_grammar.specs.Grammar.{Part, formula, keepWord, Name, Is}
-use Rattle.spec_grammar.specs.RuleFaults.{AnyName, AnySpan}
+use Rattle.spec_grammar.specs.RuleFaults.{AnyName, AnyOffsets}
 use Rattle.spec_grammar.proofs.Standing.{starts-head, one-at, tokens-then, letter-word}
 use Rattle.spec_grammar.proofs.Signs.{lone-token, word-token}
 use Rattle.spec_grammar.proofs.Sound.{this-word, other-word, keep-length}
@@ -133,14 +133,14 @@ module _ {names : List (List ℕ)} (s : List ℕ) (ν : View names) (e : ℕ) wh
   Asked = Is (ν .N) (ν .I)
 
   abbrev Wide : Part → ℕ → List (List ℕ) → Written → Type 0
-  Wide = Is AnyName AnySpan
+  Wide = Is AnyName AnyOffsets
 
   -- Where a plain part may come next, a name may.
   some-part : (c : ℕ) → Wide Part.plain c (nm ∷ []) (Written.name ni)
   some-part c = Is.name (ν .name) tt
 
   some-formula : (c : ℕ) → Wide formula c (nm ∷ []) (Written.name ni)
-  some-formula c = name-formula AnyName AnySpan c (ν .name) tt
+  some-formula c = name-formula AnyName AnyOffsets c (ν .name) tt
 
   nothing-yet : (d : ℕ) → Begin (ν .N) (ν .I) Part.plain d []
   nothing-yet d = record { rest = nm ∷ []; says = Written.name ni; is = Is.name (ν .name) (ν .some) }
@@ -163,7 +163,7 @@ module _ {names : List (List ℕ)} (s : List ℕ) (ν : View names) (e : ℕ) wh
       (wider : (ts : List (List ℕ)) (f : Written) → Wide formula (suc d) ts f → Wide Part.plain (suc (suc d)) (us ++ (ts ++ (bytes ")" ∷ []))) (K f)) where
     closing : {R : Read Written} → Out s ν e (e + d) (e + d) fresh (Frame.frame k b j ∷ st) formula d o R → Out s ν e b r j st Part.plain (suc d) p (closedBy K R)
     unfolding closedBy
-    closing (Out.bad x) = Out.bad (lift s ν e us stand walks (λ ts h. to (ν .N) (ν .I) mk ts h) (λ ts h. to AnyName AnySpan wide ts h) (λ ts h. to AnyName AnySpan wider ts h) x)
+    closing (Out.bad x) = Out.bad (lift s ν e us stand walks (λ ts h. to (ν .N) (ν .I) mk ts h) (λ ts h. to AnyName AnyOffsets wide ts h) (λ ts h. to AnyName AnyOffsets wider ts h) x)
       where
         to : (N : List ℕ → ℕ → Type 0) (I : ℕ → ℕ → ℕ → ℕ → ℕ → ℕ → Type 0) {c : ℕ} → ((ts : List (List ℕ)) (f : Written) → Is N I formula c ts f → Is N I Part.plain (suc c) (us ++ (ts ++ (bytes ")" ∷ []))) (K f)) → (ts : List (List ℕ)) → Begin N I formula c ts
             → Begin N I Part.plain (suc c) (us ++ ts)
@@ -208,7 +208,7 @@ module _ {names : List (List ℕ)} (s : List ℕ) (ν : View names) (e : ℕ) wh
                     says = K f;
                     is =
                         subst (λ z. Wide Part.plain (suc (suc d)) z (K f)) (sym (ap (λ z. z ++ (bytes ")" ∷ [])) (append-nil (us ++ g .tokens)) ∙ append-assoc us (g .tokens) (bytes ")" ∷ [])))
-                        (wider (g .tokens) f (deeper AnyName AnySpan (loosen (ν .N) (ν .I) (g .is))));
+                        (wider (g .tokens) f (deeper AnyName AnyOffsets (loosen (ν .N) (ν .I) (g .is))));
                   })
                   (λ w z a h.
                   stuck-after a (g .left) (ν .tests) (e + d) (Frame.frame k b j ∷ st) z (g .quiet)
@@ -372,7 +372,7 @@ module _ {names : List (List ℕ)} (s : List ℕ) (ν : View names) (e : ℕ) wh
             go true i =
                 rw (i, same (reading.formula P s (q + 1)))
                 (closing Kind.second b (e + suc d) d p (q + 1) j st (Written.keep t f) (us ++ (bytes "," ∷ [])) (tokens-then us stand (one-at (lone-token s q refl (eqb-true (peek s q) (byte ",") i)) refl))
-                (walks-then walks (walks-one (step-turn (ν .tests) (e + d) (g .left) (Frame.frame Kind.first b j ∷ st)))) refl (λ z k. none-not k) (mk (ν .N) (ν .I) (g .is)) (mk AnyName AnySpan loose) (mk AnyName AnySpan (deeper AnyName AnySpan loose))
+                (walks-then walks (walks-one (step-turn (ν .tests) (e + d) (g .left) (Frame.frame Kind.first b j ∷ st)))) refl (λ z k. none-not k) (mk (ν .N) (ν .I) (g .is)) (mk AnyName AnyOffsets loose) (mk AnyName AnyOffsets (deeper AnyName AnyOffsets loose))
                 (formula-out d P sub (q + 1) (Frame.frame Kind.second b j ∷ st)))
             go false i =
                 rw i
@@ -392,7 +392,7 @@ module _ {names : List (List ℕ)} (s : List ℕ) (ν : View names) (e : ℕ) wh
                         says = Written.keep t f (Written.name ni);
                         is =
                             subst (λ z. Wide Part.plain (suc (suc d)) (z ++ (bytes "," ∷ nm ∷ bytes ")" ∷ [])) (Written.keep t f (Written.name ni))) (sym (append-nil us))
-                            (Is.keep t (deeper AnyName AnySpan loose) (some-formula (suc d)));
+                            (Is.keep t (deeper AnyName AnyOffsets loose) (some-formula (suc d)));
                       })
                       (λ w z x h.
                       stuck-after x (g .left) (ν .tests) (e + d) (Frame.frame Kind.first b j ∷ st) z (g .quiet) (λ y k. none-not k)
@@ -403,7 +403,7 @@ module _ {names : List (List ℕ)} (s : List ℕ) (ν : View names) (e : ℕ) wh
         arguments-out : {R : Read Written} → Out s ν e (e + d) (e + d) fresh (Frame.frame Kind.first b j ∷ st) formula d (p + 5 + 1) R
             → Out s ν e b (e + suc d) j st Part.plain (suc d) p (andThen R (λ f q. second t (reading.formula P s) s f q))
         arguments-out (Out.good g) = second-out g
-        arguments-out (Out.bad x) = Out.bad (lift s ν e (keepWord t ∷ bytes "(" ∷ []) args-stand args-walk (λ ts h. to (ν .N) (ν .I) (ν .some) ts h) (λ ts h. to AnyName AnySpan tt ts h) (λ ts h. to AnyName AnySpan tt ts h) x)
+        arguments-out (Out.bad x) = Out.bad (lift s ν e (keepWord t ∷ bytes "(" ∷ []) args-stand args-walk (λ ts h. to (ν .N) (ν .I) (ν .some) ts h) (λ ts h. to AnyName AnyOffsets tt ts h) (λ ts h. to AnyName AnyOffsets tt ts h) x)
           where
             to : (N : List ℕ → ℕ → Type 0) (I : ℕ → ℕ → ℕ → ℕ → ℕ → ℕ → Type 0) → N nm ni → {c : ℕ} (ts : List (List ℕ)) → Begin N I formula c ts → Begin N I Part.plain (suc c) (keepWord t ∷ bytes "(" ∷ ts)
             to N I n {c} ts h =
@@ -526,7 +526,7 @@ module _ {names : List (List ℕ)} (s : List ℕ) (ν : View names) (e : ℕ) wh
                     (record {
                       rest = [];
                       says = f;
-                      is = subst (λ z. Wide formula (suc mostOpen) z f) (sym (append-nil (g .tokens ++ []) ∙ append-nil (g .tokens))) (deeper AnyName AnySpan (loosen (ν .N) (ν .I) (g .is)));
+                      is = subst (λ z. Wide formula (suc mostOpen) z f) (sym (append-nil (g .tokens ++ []) ∙ append-nil (g .tokens))) (deeper AnyName AnyOffsets (loosen (ν .N) (ν .I) (g .is)));
                     })
                     (λ w z a k. stuck-after a (g .left) (ν .tests) (e + mostOpen) [] z (g .quiet) (λ x y. none-not y) (λ x y. none-not y) k) (λ l c m x. eqb-false q (length s) i l);
               }))

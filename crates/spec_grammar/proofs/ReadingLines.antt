@@ -25,7 +25,7 @@ use Rattle.read_readings.specs.Readings.{inSpans, entries, readings}
 use Rattle.read_readings.proofs.Turns.{every, entries-short, readings-are, readings-off}
 use Rattle.spec_grammar.specs.Grammar.{Declared}
 use Rattle.spec_grammar.specs.Lines.{LineAt, after, Number, SignalName}
-use Rattle.spec_grammar.specs.ReadingLines.{HasForm, Next, key, afterFirst, Ranged, InOrder, Formed, More, Right, Reached, ReadingsRead, Unknown, OutOfRange, Below, Fault, First, ReadingsFault}
+use Rattle.spec_grammar.specs.ReadingLines.{HasForm, Next, key, afterFirst, Ranged, NotBelow, Formed, More, Right, Reached, ReadingsRead, Unknown, OutOfRange, Below, Fault, First, ReadingsFault}
 use Rattle.spec_grammar.proofs.Standing.{starts-head, starts-tail}
 use Rattle.spec_grammar.proofs.Lines.{in-line-by, value-one, value-at, same-word}
 use Rattle.spec_grammar.proofs.LineKinds.{RangedIs, ranged-is, ranged-reads, in-signal, NamedIs, named-is}
@@ -128,7 +128,7 @@ passes (Next.to f es) n = leb f n
 passes (Next.signal f l es) n = true
 passes (Next.value f l x es) n = true
 
-in-order : (c : Next) (n : ℕ) → InOrder c n → passes c n ≡ true
+in-order : (c : Next) (n : ℕ) → NotBelow c n → passes c n ≡ true
 in-order (Next.ticks es) n h = refl
 in-order (Next.to f es) n h = le-leb f n h
 in-order (Next.signal f l es) n h = refl
@@ -271,7 +271,7 @@ module _ (names : List (List ℕ)) (W : ℕ) (r : List ℕ) where
 
     -- A number of its range is in order, or below the first tick.
     order-is : {c : Next} {lo hi content : ℕ} {k : ℕ → Next} (p : ℕ) {v : List ℕ} {x : ℕ} → Ranged spans W c lo hi content k → LineAt r p (key spans c ++ v) → Number v x → between lo hi x ≡ true
-        → InOrder c x ⊎ Below W r p c
+        → NotBelow c x ⊎ Below W r p c
     order-is p Ranged.first a n b = inl tt
     order-is p {v} {x} (Ranged.last {f} {es}) a n b = go (decLt x f)
       where

@@ -37,7 +37,7 @@ long-sheet s l = rw (lt-leb (length s) mostBytes l)
 wrong-number : {names : List (List ℕ)} {v : List ℕ} {n k : ℕ} → Wrong names v 0 n k → 5 ≤ n
 wrong-number (Wrong.token t b k e) = omega arith
 wrong-number (Wrong.name t a n u b) = omega arith
-wrong-number (Wrong.span t a j n b) = omega arith
+wrong-number (Wrong.offsets t a j n b) = omega arith
 wrong-number (Wrong.deep t o a b n) = omega arith
 
 formula-number : {s : List ℕ} {p n i : ℕ} {c : sheets.Next} → BadFormula s p c n i → 5 ≤ n

@@ -17,20 +17,20 @@ use Rattle.spec_tilco.specs.Formula.{Written}
 use Rattle.read_parts.specs.FormulaText.{rule}
 use Rattle.spec_grammar.specs.Tokens.{Spelling, TokenAt, Tokens}
 use Rattle.spec_grammar.specs.Grammar.{formula, Name, Is, Declared, Legal, Rule}
-use Rattle.spec_grammar.specs.RuleFaults.{AnySpan, AnyName, Begins, Wrong, RuleFault, Becomes, Open}
+use Rattle.spec_grammar.specs.RuleFaults.{AnyOffsets, AnyName, Begins, Wrong, RuleFault, Becomes, Open}
 use Rattle.spec_grammar.proofs.Standing.{next-is, none-is}
 use Rattle.spec_grammar.proofs.Sound.{rule-sound}
 use Rattle.spec_grammar.proofs.Walk.{Tests, Joins, fresh, Place, Walks, step, walked, deep, deeper, loosen, walks-first, walks-cut}
 use Rattle.spec_grammar.proofs.Faults.{Begin, Loose, Before, View, Hopes, Bad, Out}
 use Rattle.spec_grammar.proofs.PlainFaults.{rule-out}
 use Rattle.spec_grammar.proofs.TokenPlaces.{tokens-upto, tokens-one, token-inside}
-use Rattle.spec_grammar.proofs.OneFault.{strict, declared-passes, legal-passes, Clean, none-before, span-opens, one-wrong, wrong-begins, wrong-starts}
+use Rattle.spec_grammar.proofs.OneFault.{strict, declared-passes, legal-passes, Clean, none-before, offsets-open, one-wrong, wrong-begins, wrong-starts}
 
 -- ---- the views
 
 -- No test.
 abbrev lax : Tests
-lax = record { named = λ w. true; spanned = λ o v w c. true }
+lax = record { named = λ w. true; offsets = λ o v w c. true }
 
 some-name : Name (bytes "a")
 some-name =
@@ -41,15 +41,15 @@ some-name =
     }
 
 -- Any names and intervals, with a walk's tests that declared names and legal intervals pass.
-module _ (names : List (List ℕ)) (τ : Tests) (hn : (w : List ℕ) (i : ℕ) → Declared names w i → τ .named w ≡ true) (hi : (o v w c first more : ℕ) → Legal o v w c first more → τ .spanned o v w c ≡ true) where
+module _ (names : List (List ℕ)) (τ : Tests) (hn : (w : List ℕ) (i : ℕ) → Declared names w i → τ .named w ≡ true) (hi : (o v w c first more : ℕ) → Legal o v w c first more → τ .offsets o v w c ≡ true) where
   abbrev any : View names
   any =
       record {
         N = AnyName;
-        I = AnySpan;
+        I = AnyOffsets;
         tests = τ;
         named = λ w i d. (tt, hn w i d);
-        spanned = λ o v w c first more l. (tt, hi o v w c first more l);
+        offsets = λ o v w c first more l. (tt, hi o v w c first more l);
         nm = bytes "a";
         ni = 0;
         name = some-name;
@@ -66,7 +66,7 @@ strictly names = any names (strict names) (declared-passes names) (legal-passes 
 module _ (names : List (List ℕ)) {w : List ℕ} {i : ℕ} (n : Name w) (d : Declared names w i) where
   abbrev accepting : View names
   accepting =
-      record { N = Declared names; I = Legal; tests = lax; named = λ w i d. (d, refl); spanned = λ o v w c first more l. (l, refl); nm = w; ni = i; name = n; some = d }
+      record { N = Declared names; I = Legal; tests = lax; named = λ w i d. (d, refl); offsets = λ o v w c first more l. (l, refl); nm = w; ni = i; name = n; some = d }
 
 -- ---- what is wrong where a rule is refused
 
@@ -77,19 +77,19 @@ walks-same {τ} {x} {y} {z} us h k = same (walks-cut us h (subst (λ ws. Walks �
     same Walks.stop = refl
 
 -- Every formula is walked to its end.
-formula-walk : {d : ℕ} {ws : List (List ℕ)} {f : Written} → Is AnyName AnySpan formula d ws f → (j : Joins) × Walks lax (Place.want d d fresh []) ws (Place.after d j [])
-formula-walk h = let w = walked lax AnyName AnySpan (λ w i n. refl) (λ o v w c first more l. refl) h [] in (Joins.joins (w .0) (w .1), w .2)
+formula-walk : {d : ℕ} {ws : List (List ℕ)} {f : Written} → Is AnyName AnyOffsets formula d ws f → (j : Joins) × Walks lax (Place.want d d fresh []) ws (Place.after d j [])
+formula-walk h = let w = walked lax AnyName AnyOffsets (λ w i n. refl) (λ o v w c first more l. refl) h [] in (Joins.joins (w .0) (w .1), w .2)
 
 -- So a token with which a formula begins is walked over.
 begins-walk : {d : ℕ} (us : List (List ℕ)) (w : List ℕ) → Begins d (us ++ (w ∷ [])) → {y : Place} → Walks lax (Place.want d d fresh []) us y → (z : Place) × (step lax y w ≡ option.some z)
 begins-walk {d} us w b h =
-    let x = formula-walk (subst (λ z. Is AnyName AnySpan formula d z (b .says)) (append-assoc us (w ∷ []) (b .rest)) (b .is)) in
+    let x = formula-walk (subst (λ z. Is AnyName AnyOffsets formula d z (b .says)) (append-assoc us (w ∷ []) (b .rest)) (b .is)) in
     let y = walks-first (walks-cut us h (x .1)) in
     (y .0, y .1)
 
 -- A formula with more room.
-roomy : {d : ℕ} {ws : List (List ℕ)} {f : Written} → Is AnyName AnySpan formula d ws f → Is AnyName AnySpan formula (d + mostOpen) ws f
-roomy {d} {ws} {f} h = let e : mostOpen + d ≡ d + mostOpen = omega arith in subst (λ x. Is AnyName AnySpan formula x ws f) e (deeper AnyName AnySpan mostOpen h)
+roomy : {d : ℕ} {ws : List (List ℕ)} {f : Written} → Is AnyName AnyOffsets formula d ws f → Is AnyName AnyOffsets formula (d + mostOpen) ws f
+roomy {d} {ws} {f} h = let e : mostOpen + d ≡ d + mostOpen = omega arith in subst (λ x. Is AnyName AnyOffsets formula x ws f) e (deeper AnyName AnyOffsets mostOpen h)
 
 module _ (names : List (List ℕ)) (s : List ℕ) (p : ℕ) where
   -- The refusal, with e more to be opened.
@@ -115,7 +115,7 @@ module _ (names : List (List ℕ)) (s : List ℕ) (p : ℕ) where
       stuck : {y : Place} {B : ℕ → List (List ℕ) → Type 0} → Hopes names s lax d y mostOpen B 5 κ → (z : Place) → step lax y w ≡ option.some z → ⊥
       stuck (Hopes.token c k l) z g = k w z a g
 
-  no-end : {κ : ℕ} {us : List (List ℕ)} → rule names s p ≡ refused 5 κ → Tokens s κ p us → κ ≡ length s → (d : ℕ) (f : Written) → Is AnyName AnySpan formula d us f → ⊥
+  no-end : {κ : ℕ} {us : List (List ℕ)} → rule names s p ≡ refused 5 κ → Tokens s κ p us → κ ≡ length s → (d : ℕ) (f : Written) → Is AnyName AnyOffsets formula d us f → ⊥
   no-end {κ} {us} h t l d f i =
       let b = refusal (loosely names) h d in
       let e = tokens-one (b .tokens) us (b .stand) t in
@@ -137,7 +137,7 @@ module _ (names : List (List ℕ)) (s : List ℕ) (p : ℕ) where
       go : {n : ℕ} → Hopes names s lax 0 (b .at) mostOpen (λ c ts. Loose formula c (b .tokens ++ ts)) n κ → rule names s p ≡ refused n κ → Wrong names s p n κ
       go (Hopes.token c k l) h = Wrong.token (b .stand) (subst (Begins (suc mostOpen)) (append-nil (b .tokens)) (begins c)) (no-formula h (b .stand)) (no-end h (b .stand))
       go (Hopes.name a m u c) h = Wrong.name (b .stand) a m u (begins c)
-      go (Hopes.span t i l c) h = Wrong.span (b .stand) t i l (begins c)
+      go (Hopes.offsets t i l c) h = Wrong.offsets (b .stand) t i l (begins c)
       go (Hopes.deep {o = o} m a c k) h = Wrong.deep (b .stand) m a (begins c) (λ i. let y = begins-walk (b .tokens) (o ∷ []) i (b .walks) in k refl (y .0) (y .1))
 
   -- ---- nothing is wrong before
@@ -163,18 +163,18 @@ module _ (names : List (List ℕ)) (s : List ℕ) (p : ℕ) where
       record {
         tokens = h .tokens;
         stand = h .stand;
-        begins = whole (deep AnyName AnySpan loose);
+        begins = whole (deep AnyName AnyOffsets loose);
         at = Place.after mostOpen (Joins.joins (w .0) (w .1)) [];
         walks = w .2;
-        before = Before.whole (record { rest = []; says = f; is = subst (λ z. Is AnyName AnySpan formula mostOpen z f) (sym (append-nil (h .tokens))) loose });
+        before = Before.whole (record { rest = []; says = f; is = subst (λ z. Is AnyName AnyOffsets formula mostOpen z f) (sym (append-nil (h .tokens))) loose });
         next = λ w d a b. (let l = token-inside a in let z : ⊥ = omega arith in absurd z);
       }
     where
-      loose : Is AnyName AnySpan formula mostOpen (h .tokens) f
+      loose : Is AnyName AnyOffsets formula mostOpen (h .tokens) f
       loose = loosen (Declared names) Legal (h .is)
 
-      whole : {d : ℕ} → Is AnyName AnySpan formula d (h .tokens) f → Begins d (h .tokens)
-      whole {d} i = record { rest = []; says = f; is = subst (λ z. Is AnyName AnySpan formula d z f) (sym (append-nil (h .tokens))) i }
+      whole : {d : ℕ} → Is AnyName AnyOffsets formula d (h .tokens) f → Begins d (h .tokens)
+      whole {d} i = record { rest = []; says = f; is = subst (λ z. Is AnyName AnyOffsets formula d z f) (sym (append-nil (h .tokens))) i }
 
       w : (a : Bool) × (c : Bool) × Walks (strict names) (Place.want mostOpen mostOpen fresh []) (h .tokens) (Place.after mostOpen (Joins.joins a c) [])
       w = walked (strict names) (Declared names) Legal (declared-passes names) (legal-passes names) (h .is) []
@@ -185,14 +185,14 @@ module _ (names : List (List ℕ)) (s : List ℕ) (p : ℕ) where
       no-token : {w : List ℕ} → length s ≤ i → TokenAt s i w → ⊥
       no-token l a = let k = token-inside a in omega arith
 
-      at-end : (us rest : List (List ℕ)) → us ≡ h .tokens ++ rest → Tokens s i (length s) rest → (i ≡ length s → (d : ℕ) (f : Written) → Is AnyName AnySpan formula d us f → ⊥) → ⊥
-      at-end us [] e t k = k (sym (none-is t)) mostOpen f (subst (λ z. Is AnyName AnySpan formula mostOpen z f) (sym (e ∙ append-nil (h .tokens))) (loosen (Declared names) Legal (h .is)))
+      at-end : (us rest : List (List ℕ)) → us ≡ h .tokens ++ rest → Tokens s i (length s) rest → (i ≡ length s → (d : ℕ) (f : Written) → Is AnyName AnyOffsets formula d us f → ⊥) → ⊥
+      at-end us [] e t k = k (sym (none-is t)) mostOpen f (subst (λ z. Is AnyName AnyOffsets formula mostOpen z f) (sym (e ∙ append-nil (h .tokens))) (loosen (Declared names) Legal (h .is)))
       at-end us (x ∷ rest) e t k = let l = token-inside (next-is t .0) in omega arith
 
       go : {m : ℕ} → Wrong names s p m i → length s ≤ i → ⊥
       go (Wrong.token {us = us} t b k e) l = let r = tokens-upto (h .tokens) us (h .stand) t l in at-end us (r .0) (r .1) (r .2) e
       go (Wrong.name t a n u b) l = no-token l a
-      go (Wrong.span {us = us} t a j n b) l = no-token l (span-opens us j a b .0)
+      go (Wrong.offsets {us = us} t a j n b) l = no-token l (offsets-open us j a b .0)
       go (Wrong.deep t o a b n) l = no-token l a
 
   -- ---- exactly
@@ -223,4 +223,4 @@ module _ (names : List (List ℕ)) (s : List ℕ) (p : ℕ) where
       opens : {us : List (List ℕ)} → Before (Declared names) Legal formula mostOpen us → Open names us
       opens (Before.whole h) = Open.whole (becomes h)
       opens (Before.word b h) = Open.word b (becomes h)
-      opens (Before.span b h j k) = Open.span b (becomes h) j
+      opens (Before.offsets b h j k) = Open.offsets b (becomes h) j

@@ -21,8 +21,8 @@ use Rattle.read_bytes.proofs.Classes.{class-letter}
 use Rattle.read_names.proofs.Names.{same-text}
 use Rattle.read_names.proofs.Spelling.{is-word}
 use Rattle.spec_tilco.specs.Formula.{Op, And, Or, Implies, Iff, Written}
-use Rattle.read_interval.specs.declared.Span.{Span}
-use Rattle.read_interval.specs.declared.Span.the-variants.{Over, Refused}
+use Rattle.read_interval.specs.declared.Offsets.{Offsets}
+use Rattle.read_interval.specs.declared.Offsets.the-variants.{Over, Refused}
 use Rattle.read_interval.specs.Interval.{interval}
 use Rattle.read_parts.specs.FormulaText as reading
 use Rattle.read_parts.specs.FormulaText.{Reader, times, timedPart, signText, repeats, more, inParens, negated, thenParen, second, arguments, sinceUntil, nameOrKeep, declared, plainPartBy, plainPartIn, inside, rule}
@@ -30,7 +30,7 @@ use Rattle.spec_grammar.specs.Tokens.{TokenAt, Tokens}
 use Rattle.spec_grammar.specs.Grammar.{Part, below, before, formula, keepWord, timeSign, Is, Stands, Rule}
 use Rattle.spec_grammar.proofs.Standing.{one-at, tokens-then, letter-word}
 use Rattle.spec_grammar.proofs.Signs.{sign-token, op-sign, lone-token, word-token}
-use Rattle.spec_grammar.proofs.Spans.{interval-stands}
+use Rattle.spec_grammar.proofs.Offsets.{interval-stands}
 
 -- The token of @ or ?.
 pub time-token : (s : List ℕ) (p : ℕ) → oneOf (peek s p) (bytes "@?") ≡ true → TokenAt s p (timeSign (eqb (peek s p) (byte "@")))
@@ -102,7 +102,7 @@ module _ (names : List (List ℕ)) (s : List ℕ) where
   times-sound zero d p q f h e = moved h e
   times-sound (suc n) d p q f {g} {r} h e = go (oneOf (peek s q) (bytes "@?")) refl (interval s (q + 1)) refl (λ first more u k. times-sound n d p u (Written.time (eqb (peek s q) (byte "@")) first more f) k)
     where
-      go : (b : Bool) → oneOf (peek s q) (bytes "@?") ≡ b → (S : Span) → interval s (q + 1) ≡ S
+      go : (b : Bool) → oneOf (peek s q) (bytes "@?") ≡ b → (S : Offsets) → interval s (q + 1) ≡ S
           → ((first more u : ℕ) → Stands names s Part.timed d p u (Written.time (eqb (peek s q) (byte "@")) first more f) → times s n (Written.time (eqb (peek s q) (byte "@")) first more f) u ≡ got g r → Stands names s Part.timed d p r g)
           → Stands names s Part.timed d p r g
       go true t (Over first more u) i k = k first more u (timed-on h t i) (rw (t, i) at e)

@@ -16,18 +16,18 @@ use Rattle.read_bytes.specs.Read.Read.{got}
 use Rattle.read_bytes.specs.Bytes.{byte, bytes, peek, pick, oneOf, digit, starts}
 use Rattle.read_bytes.proofs.Places.{peek-out}
 use Rattle.spec_tilco.specs.Formula.{Written}
-use Rattle.read_interval.specs.declared.Span.{Span}
-use Rattle.read_interval.specs.declared.Span.the-variants.{Over, Refused}
+use Rattle.read_interval.specs.declared.Offsets.{Offsets}
+use Rattle.read_interval.specs.declared.Offsets.the-variants.{Over, Refused}
 use Rattle.read_interval.specs.Interval as reading
-use Rattle.read_interval.specs.Interval.{endAt, endThen, endAfter, closeAt, commaAt, spanOf, endZero}
-use Rattle.read_parts.specs.FormulaText.{Reader, spanThen, times, timedPart}
+use Rattle.read_interval.specs.Interval.{endAt, endThen, endAfter, closeAt, commaAt, offsetsOf, endZero}
+use Rattle.read_parts.specs.FormulaText.{Reader, offsetsThen, times, timedPart}
 use Rattle.spec_grammar.specs.Tokens.{End, Token, TokenAt, Tokens}
 use Rattle.spec_grammar.specs.Grammar.{Part, timeSign, Interval, Is}
-use Rattle.spec_grammar.specs.RuleFaults.{AnyName, AnySpan, SpanBegins}
+use Rattle.spec_grammar.specs.RuleFaults.{AnyName, AnyOffsets, OffsetsBegin}
 use Rattle.spec_grammar.proofs.Standing.{starts-head, one-at, tokens-then}
 use Rattle.spec_grammar.proofs.Signs.{lone-token, token-some, sign-end, word-no-end}
 use Rattle.spec_grammar.proofs.Ends.{EndAt, end-at}
-use Rattle.spec_grammar.proofs.Spans.{SpanIs, span-is, SpanAt, two-lone}
+use Rattle.spec_grammar.proofs.Offsets.{OffsetsAre, offsets-are, OffsetsAt, two-lone}
 use Rattle.spec_grammar.proofs.Sound.{time-token, time-length}
 use Rattle.spec_grammar.proofs.Complete.{tokens-ahead}
 use Rattle.spec_grammar.proofs.Walk.{deep as deeper, loosen, Tests, Upto, Joins, Frame, Place, Walks, step, firstOf, endByte, walks-then, walks-one, step-time, step-opens, step-first, step-comma, step-last, walk-interval}
@@ -60,29 +60,29 @@ no-end {s} {p} {w} n a h = go (a .token) (a .stands)
 
 -- ---- intervals
 
-record SpanBad (names : List (List ℕ)) (s : List ℕ) (τ : Tests) (e : ℕ) (x : Place) (d p n κ : ℕ) : Type 0 where
+record OffsetsBad (names : List (List ℕ)) (s : List ℕ) (τ : Tests) (e : ℕ) (x : Place) (d p n κ : ℕ) : Type 0 where
   tokens : List (List ℕ)
   stand : Tokens s κ p tokens
   at : Place
   walks : Walks τ x tokens at
-  begins : SpanBegins tokens
-  hopes : Hopes names s τ e at d (λ c ts. SpanBegins (tokens ++ ts)) n κ
+  begins : OffsetsBegin tokens
+  hopes : Hopes names s τ e at d (λ c ts. OffsetsBegin (tokens ++ ts)) n κ
 
-data SpanOut (names : List (List ℕ)) (s : List ℕ) (τ : Tests) (e : ℕ) (x : Place) (d p : ℕ) : Span → Type 0 where
-  over : {first more q : ℕ} → SpanAt s p first more q → SpanOut names s τ e x d p (Over first more q)
-  bad : {n κ : ℕ} → SpanBad names s τ e x d p n κ → SpanOut names s τ e x d p (Refused n κ)
+data OffsetsOut (names : List (List ℕ)) (s : List ℕ) (τ : Tests) (e : ℕ) (x : Place) (d p : ℕ) : Offsets → Type 0 where
+  over : {first more q : ℕ} → OffsetsAt s p first more q → OffsetsOut names s τ e x d p (Over first more q)
+  bad : {n κ : ℕ} → OffsetsBad names s τ e x d p n κ → OffsetsOut names s τ e x d p (Refused n κ)
 
 -- Inside an interval no rule ends.
-within : {i : Upto} {b c : ℕ} {j k : Joins} {st : List Frame} → Place.span i b j st ≡ Place.after c k [] → ⊥
+within : {i : Upto} {b c : ℕ} {j k : Joins} {st : List Frame} → Place.offsets i b j st ≡ Place.after c k [] → ⊥
 within e = let x : _≡_ {A = ℕ} 0 1 = cc in omega arith
 
 -- A token that is not the one of the interval that comes next leads nowhere.
 module _ (τ : Tests) (b : ℕ) (j : Joins) (st : List Frame) (w : List ℕ) (z : Place) where
-  stuck-open : oneOf (firstOf w) (bytes "[(") ≡ false → step τ (Place.span Upto.start b j st) w ≡ option.some z → ⊥
+  stuck-open : oneOf (firstOf w) (bytes "[(") ≡ false → step τ (Place.offsets Upto.start b j st) w ≡ option.some z → ⊥
   unfolding step
   stuck-open h k = none-not (rw h at k)
 
-  stuck-first : (o : ℕ) → (endByte (firstOf w) ≡ true → ⊥) → step τ (Place.span (Upto.bracket o) b j st) w ≡ option.some z → ⊥
+  stuck-first : (o : ℕ) → (endByte (firstOf w) ≡ true → ⊥) → step τ (Place.offsets (Upto.bracket o) b j st) w ≡ option.some z → ⊥
   unfolding step
   stuck-first o h k = go (endByte (firstOf w)) refl
     where
@@ -90,11 +90,11 @@ module _ (τ : Tests) (b : ℕ) (j : Joins) (st : List Frame) (w : List ℕ) (z 
       go true i = h i
       go false i = none-not (rw i at k)
 
-  stuck-comma : (o v : ℕ) → eqb (firstOf w) (byte ",") ≡ false → step τ (Place.span (Upto.low o v) b j st) w ≡ option.some z → ⊥
+  stuck-comma : (o v : ℕ) → eqb (firstOf w) (byte ",") ≡ false → step τ (Place.offsets (Upto.low o v) b j st) w ≡ option.some z → ⊥
   unfolding step
   stuck-comma o v h k = none-not (rw h at k)
 
-  stuck-last : (o v : ℕ) → (endByte (firstOf w) ≡ true → ⊥) → step τ (Place.span (Upto.comma o v) b j st) w ≡ option.some z → ⊥
+  stuck-last : (o v : ℕ) → (endByte (firstOf w) ≡ true → ⊥) → step τ (Place.offsets (Upto.comma o v) b j st) w ≡ option.some z → ⊥
   unfolding step
   stuck-last o v h k = go (endByte (firstOf w)) refl
     where
@@ -102,18 +102,18 @@ module _ (τ : Tests) (b : ℕ) (j : Joins) (st : List Frame) (w : List ℕ) (z 
       go true i = h i
       go false i = none-not (rw i at k)
 
-  stuck-close : (o v x : ℕ) → oneOf (firstOf w) (bytes "])") ≡ false → step τ (Place.span (Upto.high o v x) b j st) w ≡ option.some z → ⊥
+  stuck-close : (o v x : ℕ) → oneOf (firstOf w) (bytes "])") ≡ false → step τ (Place.offsets (Upto.high o v x) b j st) w ≡ option.some z → ⊥
   unfolding step
   stuck-close o v x h k = none-not (rw h at k)
 
 module _ (names : List (List ℕ)) (s : List ℕ) (τ : Tests) (e d p b : ℕ) (j : Joins) (st : List Frame) where
-  abbrev Here : Span → Type 0
-  Here = SpanOut names s τ e (Place.span Upto.start b j st) d p
+  abbrev Here : Offsets → Type 0
+  Here = OffsetsOut names s τ e (Place.offsets Upto.start b j st) d p
 
   -- The token at κ does not fit.
-  cut : (i : Upto) (κ : ℕ) (us : List (List ℕ)) → Tokens s κ p us → Walks τ (Place.span Upto.start b j st) us (Place.span i b j st) → SpanBegins us → ((w : List ℕ) (z : Place) → TokenAt s κ w → step τ (Place.span i b j st) w ≡ option.some z → ⊥)
+  cut : (i : Upto) (κ : ℕ) (us : List (List ℕ)) → Tokens s κ p us → Walks τ (Place.offsets Upto.start b j st) us (Place.offsets i b j st) → OffsetsBegin us → ((w : List ℕ) (z : Place) → TokenAt s κ w → step τ (Place.offsets i b j st) w ≡ option.some z → ⊥)
       → Here (Refused 5 κ)
-  cut i κ us t w h k = bad (record { tokens = us; stand = t; at = Place.span i b j st; walks = w; begins = h; hopes = Hopes.token (subst SpanBegins (sym (append-nil us)) h) k (λ l c m x. within x) })
+  cut i κ us t w h k = bad (record { tokens = us; stand = t; at = Place.offsets i b j st; walks = w; begins = h; hopes = Hopes.token (subst OffsetsBegin (sym (append-nil us)) h) k (λ l c m x. within x) })
 
   module _ (ho : oneOf (peek s p) (bytes "[(") ≡ true) where
     open-token : TokenAt s p (peek s p ∷ [])
@@ -131,7 +131,7 @@ module _ (names : List (List ℕ)) (s : List ℕ) (τ : Tests) (e d p b : ℕ) (
             four : List (List ℕ)
             four = (peek s p ∷ []) ∷ x ∷ bytes "," ∷ y ∷ []
 
-            walks : Walks τ (Place.span Upto.start b j st) four (Place.span (Upto.high (peek s p) v w) b j st)
+            walks : Walks τ (Place.offsets Upto.start b j st) four (Place.offsets (Upto.high (peek s p) v w) b j st)
             walks =
                 Walks.next (step-opens τ b j st (peek s p) ho)
                 (Walks.next (step-first τ b j st (peek s p) kx) (Walks.next (step-comma τ b j st (peek s p) v) (walks-one (step-last τ b j st (peek s p) v ky))))
@@ -139,8 +139,8 @@ module _ (names : List (List ℕ)) (s : List ℕ) (τ : Tests) (e d p b : ℕ) (
             stand : Tokens s t p four
             stand = Tokens.next open-token (Tokens.next ax (Tokens.next (lone-token s (p + 1 + length x) refl hm) (one-at ay refl)))
 
-            whole : oneOf (peek s t) (bytes "])") ≡ true → {S : Span} → SpanIs p (peek s p) v w (peek s t) (t + 1) S → Here S
-            whole hc (SpanIs.legal l) =
+            whole : oneOf (peek s t) (bytes "])") ≡ true → {S : Offsets} → OffsetsAre p (peek s p) v w (peek s t) (t + 1) S → Here S
+            whole hc (OffsetsAre.legal l) =
                 over
                 (record {
                   tokens = four ++ ((peek s t ∷ []) ∷ []);
@@ -152,21 +152,21 @@ module _ (names : List (List ℕ)) (s : List ℕ) (τ : Tests) (e d p b : ℕ) (
                   interval = Interval.interval ho kx ky hc;
                   legal = l;
                 })
-            whole hc (SpanIs.illegal n) =
+            whole hc (OffsetsAre.illegal n) =
                 bad
                 (record {
                   tokens = [];
                   stand = Tokens.none;
-                  at = Place.span Upto.start b j st;
+                  at = Place.offsets Upto.start b j st;
                   walks = Walks.stop;
                   begins = record { rest = four ++ ((peek s t ∷ []) ∷ []); opens = peek s p; low = v; high = w; closes = peek s t; is = Interval.interval ho kx ky hc };
                   hopes =
-                      Hopes.span (tokens-then four stand (one-at (lone-token s t (two-lone (peek s t) (byte "]") (byte ")") refl refl hc) refl) refl)) (Interval.interval ho kx ky hc) n
+                      Hopes.offsets (tokens-then four stand (one-at (lone-token s t (two-lone (peek s t) (byte "]") (byte ")") refl refl hc) refl) refl)) (Interval.interval ho kx ky hc) n
                       (record { rest = []; opens = peek s p; low = v; high = w; closes = peek s t; is = Interval.interval ho kx ky hc });
                 })
 
-            go : (c : Bool) → oneOf (peek s t) (bytes "])") ≡ c → Here (pick (oneOf (peek s t) (bytes "])")) (λ _. spanOf p (peek s p) v w (peek s t) (t + 1)) (Refused 5 t))
-            go true hc = rw hc (whole hc (span-is p (peek s p) v w (peek s t) (t + 1)))
+            go : (c : Bool) → oneOf (peek s t) (bytes "])") ≡ c → Here (pick (oneOf (peek s t) (bytes "])")) (λ _. offsetsOf p (peek s p) v w (peek s t) (t + 1)) (Refused 5 t))
+            go true hc = rw hc (whole hc (offsets-are p (peek s p) v w (peek s t) (t + 1)))
             go false hc =
                 rw hc
                 (cut (Upto.high (peek s p) v w) t four stand walks
@@ -186,7 +186,7 @@ module _ (names : List (List ℕ)) (s : List ℕ) (τ : Tests) (e d p b : ℕ) (
           stand : Tokens s u p two
           stand = Tokens.next open-token (one-at ax refl)
 
-          walks : Walks τ (Place.span Upto.start b j st) two (Place.span (Upto.low (peek s p) v) b j st)
+          walks : Walks τ (Place.offsets Upto.start b j st) two (Place.offsets (Upto.low (peek s p) v) b j st)
           walks = Walks.next (step-opens τ b j st (peek s p) ho) (walks-one (step-first τ b j st (peek s p) kx))
 
           next : peek s u ≡ byte "," → {D : Number} → EndAt s (u + 1) D → Here (endThen D (u + 1) (closeAt s p (peek s p) v))
@@ -238,10 +238,10 @@ module _ {names : List (List ℕ)} (s : List ℕ) (ν : View names) (e d : ℕ) 
     is : Is (ν .N) (ν .I) Part.timed d tokens f
     walks : Walks (ν .tests) (Place.want (e + d) (e + d) j st) tokens (Place.after (e + d) j st)
 
-  time-good : {j : Joins} {st : List Frame} {p q r first more : ℕ} {f : Written} → Timed j st p q f → oneOf (peek s q) (bytes "@?") ≡ true → SpanAt s (q + 1) first more r
+  time-good : {j : Joins} {st : List Frame} {p q r first more : ℕ} {f : Written} → Timed j st p q f → oneOf (peek s q) (bytes "@?") ≡ true → OffsetsAt s (q + 1) first more r
       → Timed j st p r (Written.time (eqb (peek s q) (byte "@")) first more f)
   time-good {j} {st} {q = q} a t i =
-      let ok = ν .spanned _ _ _ _ _ _ (i .legal) in
+      let ok = ν .offsets _ _ _ _ _ _ (i .legal) in
       let l = time-length (eqb (peek s q) (byte "@")) in
       record {
         tokens = a .tokens ++ (timeSign (eqb (peek s q) (byte "@")) ∷ i .tokens);
@@ -250,7 +250,7 @@ module _ {names : List (List ℕ)} (s : List ℕ) (ν : View names) (e d : ℕ) 
         walks = walks-then (a .walks) (Walks.next (step-time (ν .tests) (e + d) j st (eqb (peek s q) (byte "@"))) (walk-interval (ν .tests) (e + d) j st (i .interval) (ok .1)));
       }
 
-  time-bad : {j : Joins} {st : List Frame} {p q n κ : ℕ} {f : Written} → Timed j st p q f → oneOf (peek s q) (bytes "@?") ≡ true → SpanBad names s (ν .tests) e (Place.span Upto.start (e + d) j st) d (q + 1) n κ
+  time-bad : {j : Joins} {st : List Frame} {p q n κ : ℕ} {f : Written} → Timed j st p q f → oneOf (peek s q) (bytes "@?") ≡ true → OffsetsBad names s (ν .tests) e (Place.offsets Upto.start (e + d) j st) d (q + 1) n κ
       → Bad s ν e (Place.want (e + d) (e + d) j st) Part.timed d p n κ
   time-bad {j} {st} {q = q} {f = f} a t b =
       let l = time-length (eqb (peek s q) (byte "@")) in
@@ -261,33 +261,33 @@ module _ {names : List (List ℕ)} (s : List ℕ) (ν : View names) (e d : ℕ) 
         walks = walks-then (walks-then (a .walks) (walks-one (step-time (ν .tests) (e + d) j st (eqb (peek s q) (byte "@"))))) (b .walks);
         before =
             subst (Before (ν .N) (ν .I) Part.timed d) (sym (append-assoc (a .tokens) (timeSign (eqb (peek s q) (byte "@")) ∷ []) (b .tokens)))
-            (Before.span (eqb (peek s q) (byte "@")) (begun (a .is)) (b .begins) (begun-span (b .begins)));
-        hopes = map-hopes _ _ (λ ts h. to ts loose h) (λ ts h. to ts (deeper AnyName AnySpan loose) h) (b .hopes);
+            (Before.offsets (eqb (peek s q) (byte "@")) (begun (a .is)) (b .begins) (begun-offsets (b .begins)));
+        hopes = map-hopes _ _ (λ ts h. to ts loose h) (λ ts h. to ts (deeper AnyName AnyOffsets loose) h) (b .hopes);
       }
     where
-      loose : Is AnyName AnySpan Part.timed d (a .tokens) f
+      loose : Is AnyName AnyOffsets Part.timed d (a .tokens) f
       loose = loosen (ν .N) (ν .I) (a .is)
 
       begun : {ts : List (List ℕ)} {g : Written} → Is (ν .N) (ν .I) Part.timed d ts g → Begin (ν .N) (ν .I) Part.timed d ts
       begun {ts} {g} i = record { rest = []; says = g; is = subst (λ z. Is (ν .N) (ν .I) Part.timed d z g) (sym (append-nil ts)) i }
 
-      begun-span : SpanBegins (b .tokens) → Loose Part.timed d (a .tokens ++ (timeSign (eqb (peek s q) (byte "@")) ∷ b .tokens))
-      begun-span h =
+      begun-offsets : OffsetsBegin (b .tokens) → Loose Part.timed d (a .tokens ++ (timeSign (eqb (peek s q) (byte "@")) ∷ b .tokens))
+      begun-offsets h =
           record {
             rest = h .rest;
             says = Written.time (eqb (peek s q) (byte "@")) 0 0 f;
             is =
-                subst (λ z. Is AnyName AnySpan Part.timed d z (Written.time (eqb (peek s q) (byte "@")) 0 0 f)) (sym (append-assoc (a .tokens) (timeSign (eqb (peek s q) (byte "@")) ∷ b .tokens) (h .rest)))
+                subst (λ z. Is AnyName AnyOffsets Part.timed d z (Written.time (eqb (peek s q) (byte "@")) 0 0 f)) (sym (append-assoc (a .tokens) (timeSign (eqb (peek s q) (byte "@")) ∷ b .tokens) (h .rest)))
                 (Is.time (eqb (peek s q) (byte "@")) loose (h .is) tt);
           }
 
-      to : {c : ℕ} (ts : List (List ℕ)) → Is AnyName AnySpan Part.timed c (a .tokens) f → SpanBegins (b .tokens ++ ts) → Loose Part.timed c (((a .tokens ++ (timeSign (eqb (peek s q) (byte "@")) ∷ [])) ++ b .tokens) ++ ts)
+      to : {c : ℕ} (ts : List (List ℕ)) → Is AnyName AnyOffsets Part.timed c (a .tokens) f → OffsetsBegin (b .tokens ++ ts) → Loose Part.timed c (((a .tokens ++ (timeSign (eqb (peek s q) (byte "@")) ∷ [])) ++ b .tokens) ++ ts)
       to {c} ts i h =
           record {
             rest = h .rest;
             says = Written.time (eqb (peek s q) (byte "@")) 0 0 f;
             is =
-                subst (λ z. Is AnyName AnySpan Part.timed c z (Written.time (eqb (peek s q) (byte "@")) 0 0 f)) (sym (regroup (a .tokens) (timeSign (eqb (peek s q) (byte "@"))) (b .tokens) ts (h .rest)))
+                subst (λ z. Is AnyName AnyOffsets Part.timed c z (Written.time (eqb (peek s q) (byte "@")) 0 0 f)) (sym (regroup (a .tokens) (timeSign (eqb (peek s q) (byte "@"))) (b .tokens) ts (h .rest)))
                 (Is.time (eqb (peek s q) (byte "@")) i (h .is) tt);
           }
 
@@ -301,12 +301,12 @@ module _ {names : List (List ℕ)} (s : List ℕ) (ν : View names) (e d : ℕ) 
     where
       go : (b : Bool) → oneOf (peek s q) (bytes "@?") ≡ b
           → ((first more r : ℕ) → length s ≤ r + n → Timed j st p r (Written.time (eqb (peek s q) (byte "@")) first more f) → Out s ν e (e + d) (e + d) j st Part.timed d p (times s n (Written.time (eqb (peek s q) (byte "@")) first more f) r))
-          → Out s ν e (e + d) (e + d) j st Part.timed d p (pick (oneOf (peek s q) (bytes "@?")) (λ _. spanThen (reading.interval s (q + 1)) (λ first more r. times s n (Written.time (eqb (peek s q) (byte "@")) first more f) r)) (got f q))
+          → Out s ν e (e + d) (e + d) j st Part.timed d p (pick (oneOf (peek s q) (bytes "@?")) (λ _. offsetsThen (reading.interval s (q + 1)) (λ first more r. times s n (Written.time (eqb (peek s q) (byte "@")) first more f) r)) (got f q))
       go true t k = rw t (on (interval-out names s (ν .tests) e d (q + 1) (e + d) j st))
         where
-          on : {S : Span} → SpanOut names s (ν .tests) e (Place.span Upto.start (e + d) j st) d (q + 1) S → Out s ν e (e + d) (e + d) j st Part.timed d p (spanThen S (λ first more r. times s n (Written.time (eqb (peek s q) (byte "@")) first more f) r))
-          on (SpanOut.over {first = first} {more = more} {q = r} i) = k first more r (let m = tokens-ahead (i .tokens) (i .stand) in omega arith) (time-good a t i)
-          on (SpanOut.bad b) = Out.bad (time-bad a t b)
+          on : {S : Offsets} → OffsetsOut names s (ν .tests) e (Place.offsets Upto.start (e + d) j st) d (q + 1) S → Out s ν e (e + d) (e + d) j st Part.timed d p (offsetsThen S (λ first more r. times s n (Written.time (eqb (peek s q) (byte "@")) first more f) r))
+          on (OffsetsOut.over {first = first} {more = more} {q = r} i) = k first more r (let m = tokens-ahead (i .tokens) (i .stand) in omega arith) (time-good a t i)
+          on (OffsetsOut.bad b) = Out.bad (time-bad a t b)
       go false t k = rw t (time-ended a t)
 
   pub timed-out : (p : ℕ) (j : Joins) (st : List Frame) → Out s ν e (e + d) (e + d) j st Part.timed d p (timedPart P s p)

@@ -15,7 +15,7 @@ use Rattle.spec_tilco.specs.Formula.{Op, And, Or, Implies, Iff, Written}
 use Rattle.read_parts.specs.FormulaText.{signText, repeats}
 use Rattle.spec_grammar.specs.Tokens.{Spelling, Numeral, End}
 use Rattle.spec_grammar.specs.Grammar.{Part, keepWord, timeSign, Name, Interval, Is}
-use Rattle.spec_grammar.specs.RuleFaults.{AnyName, AnySpan}
+use Rattle.spec_grammar.specs.RuleFaults.{AnyName, AnyOffsets}
 use Rattle.spec_grammar.proofs.Signs.{leading-digit}
 use Rattle.spec_grammar.proofs.Ends.{valueOf, end-value}
 
@@ -24,7 +24,7 @@ use Rattle.spec_grammar.proofs.Ends.{valueOf, end-value}
 -- What a walk asks of a name, and of a whole interval by its brackets and the numbers of its ends.
 pub record Tests : Type 0 where
   pub named : List ℕ → Bool
-  pub spanned : ℕ → ℕ → ℕ → ℕ → Bool
+  pub offsets : ℕ → ℕ → ℕ → ℕ → Bool
 
 -- Which of => and <=> may still join: each once, and => once more after <=>.
 pub data Joins : Type 0 where
@@ -51,7 +51,7 @@ pub data Place : Type 0 where
   want : (b r : ℕ) → Joins → List Frame → Place
   call : (b r : ℕ) → Joins → List Frame → Place
   after : (b : ℕ) → Joins → List Frame → Place
-  span : Upto → (b : ℕ) → Joins → List Frame → Place
+  offsets : Upto → (b : ℕ) → Joins → List Frame → Place
 
 abbrev pub fresh : Joins
 fresh = joins true true
@@ -114,18 +114,18 @@ step τ (want b r j st) w =
     (pick (sameText w (bytes "!")) (λ _. opened r (λ q. want b q j st)) (pick (sameText w (bytes "(")) (λ _. opened r (λ q. want q q fresh (frame paren b j ∷ st))) none))
 step τ (call b r j st) w = pick (sameText w (bytes "(")) (λ _. opened r (λ q. want q q fresh (frame first b j ∷ st))) none
 step τ (after b j st) w =
-    pick (sameText w (bytes "@")) (λ _. some (span Upto.start b j st))
-    (pick (sameText w (bytes "?")) (λ _. some (span Upto.start b j st))
+    pick (sameText w (bytes "@")) (λ _. some (offsets Upto.start b j st))
+    (pick (sameText w (bytes "?")) (λ _. some (offsets Upto.start b j st))
     (pick (sameText w (bytes "&")) (λ _. joined (may And j) b st)
     (pick (sameText w (bytes "|")) (λ _. joined (may Or j) b st)
     (pick (sameText w (bytes "=>")) (λ _. joined (may Implies j) b st)
     (pick (sameText w (bytes "<=>")) (λ _. joined (may Iff j) b st)
     (pick (sameText w (bytes ")")) (λ _. shut st) (pick (sameText w (bytes ",")) (λ _. turned b st) none)))))))
-step τ (span Upto.start b j st) w = pick (oneOf (firstOf w) (bytes "[(")) (λ _. some (span (bracket (firstOf w)) b j st)) none
-step τ (span (bracket o) b j st) w = pick (endByte (firstOf w)) (λ _. some (span (low o (valueOf w)) b j st)) none
-step τ (span (low o v) b j st) w = pick (eqb (firstOf w) (byte ",")) (λ _. some (span (comma o v) b j st)) none
-step τ (span (comma o v) b j st) w = pick (endByte (firstOf w)) (λ _. some (span (high o v (valueOf w)) b j st)) none
-step τ (span (high o v x) b j st) w = pick (oneOf (firstOf w) (bytes "])")) (λ _. pick (τ .spanned o v x (firstOf w)) (λ _. some (after b j st)) none) none
+step τ (offsets Upto.start b j st) w = pick (oneOf (firstOf w) (bytes "[(")) (λ _. some (offsets (bracket (firstOf w)) b j st)) none
+step τ (offsets (bracket o) b j st) w = pick (endByte (firstOf w)) (λ _. some (offsets (low o (valueOf w)) b j st)) none
+step τ (offsets (low o v) b j st) w = pick (eqb (firstOf w) (byte ",")) (λ _. some (offsets (comma o v) b j st)) none
+step τ (offsets (comma o v) b j st) w = pick (endByte (firstOf w)) (λ _. some (offsets (high o v (valueOf w)) b j st)) none
+step τ (offsets (high o v x) b j st) w = pick (oneOf (firstOf w) (bytes "])")) (λ _. pick (τ .offsets o v x (firstOf w)) (λ _. some (after b j st)) none) none
 
 -- ---- a walk
 
@@ -193,7 +193,7 @@ module _ (τ : Tests) (b r : ℕ) (j : Joins) (st : List Frame) where
   step-name {w} n h = rw (word-letter (n .word), other-text w (bytes "since") (n .not-since), other-text w (bytes "until") (n .not-until), h)
 
 module _ (τ : Tests) (b : ℕ) (j : Joins) (st : List Frame) where
-  pub step-time : (t : Bool) → step τ (after b j st) (timeSign t) ≡ some (span Upto.start b j st)
+  pub step-time : (t : Bool) → step τ (after b j st) (timeSign t) ≡ some (offsets Upto.start b j st)
   unfolding step sameText
   step-time true = refl
   step-time false = refl
@@ -221,27 +221,27 @@ end-byte (End.plus (Numeral.numeral {b} h k l)) = rw (leading-digit b h)
 end-byte (End.minus n) = refl
 
 module _ (τ : Tests) (b : ℕ) (j : Joins) (st : List Frame) where
-  pub step-opens : (o : ℕ) → oneOf o (bytes "[(") ≡ true → step τ (span Upto.start b j st) (o ∷ []) ≡ some (span (bracket o) b j st)
+  pub step-opens : (o : ℕ) → oneOf o (bytes "[(") ≡ true → step τ (offsets Upto.start b j st) (o ∷ []) ≡ some (offsets (bracket o) b j st)
   unfolding step
   step-opens o h = rw h
 
-  pub step-first : (o : ℕ) {w : List ℕ} {v : ℕ} → End w v → step τ (span (bracket o) b j st) w ≡ some (span (low o v) b j st)
+  pub step-first : (o : ℕ) {w : List ℕ} {v : ℕ} → End w v → step τ (offsets (bracket o) b j st) w ≡ some (offsets (low o v) b j st)
   unfolding step
   step-first o k = rw (end-byte k, end-value k)
 
-  pub step-comma : (o v : ℕ) → step τ (span (low o v) b j st) (bytes ",") ≡ some (span (comma o v) b j st)
+  pub step-comma : (o v : ℕ) → step τ (offsets (low o v) b j st) (bytes ",") ≡ some (offsets (comma o v) b j st)
   unfolding step
   step-comma o v = refl
 
-  pub step-last : (o v : ℕ) {w : List ℕ} {x : ℕ} → End w x → step τ (span (comma o v) b j st) w ≡ some (span (high o v x) b j st)
+  pub step-last : (o v : ℕ) {w : List ℕ} {x : ℕ} → End w x → step τ (offsets (comma o v) b j st) w ≡ some (offsets (high o v x) b j st)
   unfolding step
   step-last o v k = rw (end-byte k, end-value k)
 
-  step-closes : (o v w c : ℕ) → oneOf c (bytes "])") ≡ true → τ .spanned o v w c ≡ true → step τ (span (high o v w) b j st) (c ∷ []) ≡ some (after b j st)
+  step-closes : (o v w c : ℕ) → oneOf c (bytes "])") ≡ true → τ .offsets o v w c ≡ true → step τ (offsets (high o v w) b j st) (c ∷ []) ≡ some (after b j st)
   unfolding step
   step-closes o v w c h k = rw (h, k)
 
-  pub walk-interval : {ws : List (List ℕ)} {o v w c : ℕ} → Interval ws o v w c → τ .spanned o v w c ≡ true → Walks τ (span Upto.start b j st) ws (after b j st)
+  pub walk-interval : {ws : List (List ℕ)} {o v w c : ℕ} → Interval ws o v w c → τ .offsets o v w c ≡ true → Walks τ (offsets Upto.start b j st) ws (after b j st)
   walk-interval (Interval.interval {o} {c} {v} {w} {x} {y} ho kx ky hc) h =
       Walks.next (step-opens o ho)
       (Walks.next (step-first o kx) (Walks.next (step-comma o v) (Walks.next (step-last o v ky) (walks-one (step-closes o v w c hc h)))))
@@ -264,7 +264,7 @@ may-always τ Implies e b j st = absurd (true≢false (sym e))
 may-always τ Iff e b j st = absurd (true≢false (sym e))
 
 module _ (τ : Tests) (N : List ℕ → ℕ → Type 0) (I : ℕ → ℕ → ℕ → ℕ → ℕ → ℕ → Type 0) (hn : (w : List ℕ) (i : ℕ) → N w i → τ .named w ≡ true)
-    (hi : (o v w c first more : ℕ) → I o v w c first more → τ .spanned o v w c ≡ true) where
+    (hi : (o v w c first more : ℕ) → I o v w c first more → τ .offsets o v w c ≡ true) where
   pub walked : {k : Part} {d : ℕ} {ws : List (List ℕ)} {f : Written} → Is N I k d ws f → Walked τ k d ws
   walked (Is.name {d} n h) = λ b j st. walks-one (step-name τ b d j st n (hn _ _ h))
   walked (Is.not {d} h) = let r = walked h in λ b j st. Walks.next (step-not τ b d j st) (r b j st)
@@ -322,7 +322,7 @@ module _ (N : List ℕ → ℕ → Type 0) (I : ℕ → ℕ → ℕ → ℕ → 
   deeper {k} {d} {ws} {f} (suc n) h = let e : suc n + d ≡ suc (n + d) = omega arith in rw e (deep (deeper n h))
 
   -- Whatever its names and intervals.
-  pub loosen : {k : Part} {d : ℕ} {ws : List (List ℕ)} {f : Written} → Is N I k d ws f → Is AnyName AnySpan k d ws f
+  pub loosen : {k : Part} {d : ℕ} {ws : List (List ℕ)} {f : Written} → Is N I k d ws f → Is AnyName AnyOffsets k d ws f
   loosen (Is.name n h) = Is.name n tt
   loosen (Is.not h) = Is.not (loosen h)
   loosen (Is.parens h) = Is.parens (loosen h)

@@ -45,11 +45,11 @@ pub data Ranged (spans : Bool) (W : ℕ) : Next → ℕ → ℕ → ℕ → (ℕ
   bit : {f l x : ℕ} {es : List Span} → Ranged spans W (value f l x es) 0 1 14 (λ v. ticks (es ++ (span x (eqb v 1) f l ∷ [])))
 
 -- A span's last tick is not below its first. Nothing is asked of another line's number.
-abbrev pub InOrder : Next → ℕ → Type 0
-InOrder (ticks es) n = Unit {0}
-InOrder (to f es) n = f ≤ n
-InOrder (signal f l es) n = Unit {0}
-InOrder (value f l x es) n = Unit {0}
+abbrev pub NotBelow : Next → ℕ → Type 0
+NotBelow (ticks es) n = Unit {0}
+NotBelow (to f es) n = f ≤ n
+NotBelow (signal f l es) n = Unit {0}
+NotBelow (value f l x es) n = Unit {0}
 
 -- "A number that breaks its writing rule is form; a name's writing is content."
 pub data Formed (spans : Bool) (W : ℕ) : Next → List ℕ → Type 0 where
@@ -65,7 +65,7 @@ More p L (value f l x es) = Unit {0}
 
 -- The line's value v is right, and this comes next.
 pub data Right (spans : Bool) (names : List (List ℕ)) (W : ℕ) : Next → List ℕ → Next → Type 0 where
-  number : {c : Next} {lo hi content x : ℕ} {k : ℕ → Next} {v : List ℕ} → Ranged spans W c lo hi content k → Number v x → between lo hi x ≡ true → InOrder c x
+  number : {c : Next} {lo hi content x : ℕ} {k : ℕ → Next} {v : List ℕ} → Ranged spans W c lo hi content k → Number v x → between lo hi x ≡ true → NotBelow c x
       → Right spans names W c v (k x)
   name : {f l x : ℕ} {es : List Span} {v : List ℕ} → SignalName v → Declared names v x → Right spans names W (signal f l es) v (value f l x es)
 

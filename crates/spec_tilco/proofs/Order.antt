@@ -8,7 +8,7 @@ use Prim.Native.Nat.{ℕ, zero, suc, _+_, _<_, _≤_}
 use native.Mathlib.Omega.{arith}
 use lib.ListN.{length, length-append, replicate, length-replicate, getD-replicate, List·getD-append}
 use Rattle.spec_tilco.specs.Lists.{All, total, laid}
-use Rattle.spec_tilco.specs.Formula.{Op, And, Or, Implies, Iff, Written, Formula, hiddens, overSignals, stepOf, defining, definings, spelled, Sheet, signalRows, formulas, Named, Spans, Declared}
+use Rattle.spec_tilco.specs.Formula.{Op, And, Or, Implies, Iff, Written, Formula, hiddens, overSignals, stepOf, defining, definings, spelled, Sheet, signalRows, formulas, Named, Intervals, Declared}
 use Rattle.spec_tilco.specs.Inference.{Node, signal, notOf, gate, look, node}
 use Rattle.spec_tilco.specs.Lowering.{BTL, lit, join, timed, paired, lowered, size, joined, topOf, rowsAll, topsAll, assembled, lows, program, rowCount}
 use Rattle.spec_tilco.proofs.Lists.{all-append, all-weaker}
@@ -30,12 +30,12 @@ AnyInterval lo n = Unit {0}
 abbrev pub Below : ℕ → BTL → Type 0
 Below = Within AnyInterval
 
-any-spans : (w : Written) → Spans AnyInterval w
-any-spans (Written.name x) = tt
-any-spans (Written.neg f) = any-spans f
-any-spans (Written.pair o f g) = (any-spans f, any-spans g)
-any-spans (Written.time u lo n f) = (tt, any-spans f)
-any-spans (Written.keep b f g) = (any-spans f, any-spans g)
+any-intervals : (w : Written) → Intervals AnyInterval w
+any-intervals (Written.name x) = tt
+any-intervals (Written.neg f) = any-intervals f
+any-intervals (Written.pair o f g) = (any-intervals f, any-intervals g)
+any-intervals (Written.time u lo n f) = (tt, any-intervals f)
+any-intervals (Written.keep b f g) = (any-intervals f, any-intervals g)
 
 module _ (S : ℕ → ℕ → Type 0) (steps : (b : Bool) → S (stepOf b) 0) where
   paired-within : (m : ℕ) (o : Op) (s : Bool) (f g : Bool → BTL) → ((z : Bool) → Within S m (f z)) → ((z : Bool) → Within S m (g z)) → Within S m (paired o s f g)
@@ -46,7 +46,7 @@ module _ (S : ℕ → ℕ → Type 0) (steps : (b : Bool) → S (stepOf b) 0) wh
 
   -- The rule's names are declared, and its intervals pass.
   abbrev Fit : ℕ → Written → Type 0
-  Fit n w = Named n w × Spans S w
+  Fit n w = Named n w × Intervals S w
 
   module _ (n m : ℕ) (le : n ≤ m) where
     -- in either sense
@@ -95,7 +95,7 @@ module _ (S : ℕ → ℕ → Type 0) (steps : (b : Bool) → S (stepOf b) 0) wh
   sheet-within s d = rules-within (s .signals) (signalRows s) (omega arith) (s .signals) (s .rules) d (omega arith)
 
 pub sheet-below : (s : Sheet) → Declared s → All (Below (signalRows s)) (lows (formulas s))
-sheet-below s d = sheet-within AnyInterval (λ b. tt) s (all-weaker (Named (s .signals)) (Fit AnyInterval (λ b. tt) (s .signals)) (λ w e. (e, any-spans w)) (s .rules) d)
+sheet-below s d = sheet-within AnyInterval (λ b. tt) s (all-weaker (Named (s .signals)) (Fit AnyInterval (λ b. tt) (s .signals)) (λ w e. (e, any-intervals w)) (s .rules) d)
 
 -- ---- children before parents
 

@@ -5,7 +5,7 @@ use mathlib.Core.Bool.{Bool, true, false, not, _||_, Bool·not-not}
 use Prim.Native.Nat.{ℕ, zero, suc, _+_}
 use lib.IntN.{ℤ}
 use Rattle.spec_tilco.specs.Formula.{Op, And, Or, Implies, Iff, Formula}
-use Rattle.spec_tilco.specs.Meaning.{History, atOffset, gateOf, span, opOf, value}
+use Rattle.spec_tilco.specs.Meaning.{History, atOffset, gateOf, overOffsets, opOf, value}
 use Rattle.spec_tilco.specs.Lowering.{BTL, turn, paired, lowered, worth}
 
 turn-not : (s x : Bool) → turn (not s) x ≡ turn s (not x)
@@ -24,9 +24,9 @@ turn-gate false false false y = refl
 turn-implies : (s x y : Bool) → gateOf (not s) (turn (not s) x) (turn s y) ≡ turn s (not x || y)
 turn-implies s x y = ap (λ (z : Bool). gateOf (not s) z (turn s y)) (turn-not s x) ∙ turn-gate false s (not x) y
 
-turn-span : (u s : Bool) (p : ℕ → Bool) (lo n : ℕ) → span (turn u s) (λ k. turn s (p k)) lo n ≡ turn s (span u p lo n)
-turn-span u s p lo zero = refl
-turn-span u s p lo (suc n) = ap (λ (z : Bool). gateOf (turn u s) z (turn s (p (lo + suc n)))) (turn-span u s p lo n) ∙ turn-gate u s (span u p lo n) (p (lo + suc n))
+turn-offsets : (u s : Bool) (p : ℕ → Bool) (lo n : ℕ) → overOffsets (turn u s) (λ k. turn s (p k)) lo n ≡ turn s (overOffsets u p lo n)
+turn-offsets u s p lo zero = refl
+turn-offsets u s p lo (suc n) = ap (λ (z : Bool). gateOf (turn u s) z (turn s (p (lo + suc n)))) (turn-offsets u s p lo n) ∙ turn-gate u s (overOffsets u p lo n) (p (lo + suc n))
 
 paired-worth : (h : History) (o : Op) (s : Bool) (f g : Bool → BTL) (t : ℤ) (x y : Bool) → ((z : Bool) → worth h (f z) t ≡ turn z x) → ((z : Bool) → worth h (g z) t ≡ turn z y)
     → worth h (paired o s f g) t ≡ turn s (opOf o x y)
@@ -43,4 +43,4 @@ lowering-keeps h s (Formula.neg f) t = lowering-keeps h (not s) f t ∙ turn-not
 lowering-keeps h s (Formula.pair o f g) t =
     paired-worth h o s (λ z. lowered z f) (λ z. lowered z g) t (value h f t) (value h g t) (λ z. lowering-keeps h z f t) (λ z. lowering-keeps h z g t)
 lowering-keeps h s (Formula.time u lo n f) t =
-    ap (λ (p : ℕ → Bool). span (turn u s) p lo n) (fun-ext (λ k. lowering-keeps h s f (atOffset t k))) ∙ turn-span u s (λ k. value h f (atOffset t k)) lo n
+    ap (λ (p : ℕ → Bool). overOffsets (turn u s) p lo n) (fun-ext (λ k. lowering-keeps h s f (atOffset t k))) ∙ turn-offsets u s (λ k. value h f (atOffset t k)) lo n

@@ -9,7 +9,7 @@ use native.Mathlib.Decide.{decLe}
 use native.Mathlib.Omega.{arith}
 use lib.IntN.{ℤ}
 use Rattle.spec_tilco.specs.Formula.{Formula}
-use Rattle.spec_tilco.specs.Meaning.{History, atOffset, gateOf, span, value}
+use Rattle.spec_tilco.specs.Meaning.{History, atOffset, gateOf, overOffsets, value}
 
 -- ---- a gate's value u is both children's; its other value is one child's
 
@@ -60,33 +60,33 @@ either-side false false y e = inr e
 -- ---- @ and ?
 
 module _ (u : Bool) (p : ℕ → Bool) (lo : ℕ) where
-  at-each : (n : ℕ) → span u p lo n ≡ u → (j : ℕ) → j ≤ n → p (lo + j) ≡ u
+  at-each : (n : ℕ) → overOffsets u p lo n ≡ u → (j : ℕ) → j ≤ n → p (lo + j) ≡ u
   at-each zero e j h = let z : lo + j ≡ lo = omega arith in ap p z ∙ e
-  at-each (suc n) e j h = go (decLe j n) (at-each n (both-left u (span u p lo n) (p (lo + suc n)) e) j)
+  at-each (suc n) e j h = go (decLe j n) (at-each n (both-left u (overOffsets u p lo n) (p (lo + suc n)) e) j)
     where
       go : Dec (j ≤ n) → (j ≤ n → p (lo + j) ≡ u) → p (lo + j) ≡ u
       go (yes l) k = k l
-      go (no l) k = let z : lo + j ≡ lo + suc n = omega arith in ap p z ∙ both-right u (span u p lo n) (p (lo + suc n)) e
+      go (no l) k = let z : lo + j ≡ lo + suc n = omega arith in ap p z ∙ both-right u (overOffsets u p lo n) (p (lo + suc n)) e
 
-  of-each : (n : ℕ) → ((j : ℕ) → j ≤ n → p (lo + j) ≡ u) → span u p lo n ≡ u
+  of-each : (n : ℕ) → ((j : ℕ) → j ≤ n → p (lo + j) ≡ u) → overOffsets u p lo n ≡ u
   of-each zero f = ap p (sym (add-zero lo)) ∙ f 0 (omega arith)
-  of-each (suc n) f = of-both u (span u p lo n) (p (lo + suc n)) (of-each n (λ j h. f j (omega arith))) (f (suc n) (omega arith))
+  of-each (suc n) f = of-both u (overOffsets u p lo n) (p (lo + suc n)) (of-each n (λ j h. f j (omega arith))) (f (suc n) (omega arith))
 
-  at-some : (n : ℕ) → span u p lo n ≡ not u → (j : ℕ) × (j ≤ n) × (p (lo + j) ≡ not u)
+  at-some : (n : ℕ) → overOffsets u p lo n ≡ not u → (j : ℕ) × (j ≤ n) × (p (lo + j) ≡ not u)
   at-some zero e = (0, omega arith, ap p (add-zero lo) ∙ e)
-  at-some (suc n) e = go (either-side u (span u p lo n) (p (lo + suc n)) e) (at-some n)
+  at-some (suc n) e = go (either-side u (overOffsets u p lo n) (p (lo + suc n)) e) (at-some n)
     where
-      go : (span u p lo n ≡ not u) ⊎ (p (lo + suc n) ≡ not u) → (span u p lo n ≡ not u → (j : ℕ) × (j ≤ n) × (p (lo + j) ≡ not u)) → (j : ℕ) × (j ≤ suc n) × (p (lo + j) ≡ not u)
+      go : (overOffsets u p lo n ≡ not u) ⊎ (p (lo + suc n) ≡ not u) → (overOffsets u p lo n ≡ not u → (j : ℕ) × (j ≤ n) × (p (lo + j) ≡ not u)) → (j : ℕ) × (j ≤ suc n) × (p (lo + j) ≡ not u)
       go (inl z) k = let r = k z in (r .0, omega arith, r .2)
       go (inr z) k = (suc n, omega arith, z)
 
-  of-some : (n j : ℕ) → j ≤ n → p (lo + j) ≡ not u → span u p lo n ≡ not u
+  of-some : (n j : ℕ) → j ≤ n → p (lo + j) ≡ not u → overOffsets u p lo n ≡ not u
   of-some zero j h e = let z : lo ≡ lo + j = omega arith in ap p z ∙ e
   of-some (suc n) j h e = go (decLe j n) (λ l. of-some n j l e)
     where
-      go : Dec (j ≤ n) → (j ≤ n → span u p lo n ≡ not u) → span u p lo (suc n) ≡ not u
-      go (yes l) k = of-left u (span u p lo n) (p (lo + suc n)) (k l)
-      go (no l) k = let z : lo + suc n ≡ lo + j = omega arith in of-right u (span u p lo n) (p (lo + suc n)) (ap p z ∙ e)
+      go : Dec (j ≤ n) → (j ≤ n → overOffsets u p lo n ≡ not u) → overOffsets u p lo (suc n) ≡ not u
+      go (yes l) k = of-left u (overOffsets u p lo n) (p (lo + suc n)) (k l)
+      go (no l) k = let z : lo + suc n ≡ lo + j = omega arith in of-right u (overOffsets u p lo n) (p (lo + suc n)) (ap p z ∙ e)
 
 -- f@i is true at t when f is true at t + x for every whole x in the interval.
 pub always-means : (h : History) (f : Formula) (lo n : ℕ) (t : ℤ)

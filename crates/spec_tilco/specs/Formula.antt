@@ -114,9 +114,9 @@ abbrev pub Declared : Sheet → Type 0
 Declared s = All (Named (s .signals)) (s .rules)
 
 -- Every interval in the rule passes S, which is of its first offset and how many more follow.
-abbrev pub Spans : (ℕ → ℕ → Type 0) → Written → Type 0
-Spans S (Written.name x) = Unit {0}
-Spans S (Written.neg f) = Spans S f
-Spans S (Written.pair o f g) = Spans S f × Spans S g
-Spans S (Written.time u lo k f) = S lo k × Spans S f
-Spans S (Written.keep b f g) = Spans S f × Spans S g
+abbrev pub Intervals : (ℕ → ℕ → Type 0) → Written → Type 0
+Intervals S (Written.name x) = Unit {0}
+Intervals S (Written.neg f) = Intervals S f
+Intervals S (Written.pair o f g) = Intervals S f × Intervals S g
+Intervals S (Written.time u lo k f) = S lo k × Intervals S f
+Intervals S (Written.keep b f g) = Intervals S f × Intervals S g

@@ -7,7 +7,7 @@ use lib.IntN.{ℤ}
 use lib.ListN.{length, getD, replicate}
 use Rattle.spec_tilco.specs.Lists.{tab, laid}
 use Rattle.spec_tilco.specs.Formula.{Op, And, Or, Implies, Iff, Formula, Sheet, signalRows, formulas}
-use Rattle.spec_tilco.specs.Meaning.{History, atOffset, gateOf, span}
+use Rattle.spec_tilco.specs.Meaning.{History, atOffset, gateOf, overOffsets}
 use Rattle.spec_tilco.specs.Inference.{Node, signal, notOf, gate, look, Program}
 
 -- BTL: a signal (true) or its opposite (false), an and (true) or an or (false), and the looks of an interval joined by and or by or.
@@ -40,7 +40,7 @@ lowered s (Formula.time u lo n f) = timed (turn u s) lo n (lowered s f)
 abbrev pub worth : History → BTL → ℤ → Bool
 worth h (lit s x) t = turn s (h x t)
 worth h (join u a b) t = gateOf u (worth h a t) (worth h b t)
-worth h (timed u lo n a) t = span u (λ k. worth h a (atOffset t k)) lo n
+worth h (timed u lo n a) t = overOffsets u (λ k. worth h a (atOffset t k)) lo n
 
 -- How many rows it adds: signals none in the true sense, one not-row in the false.
 abbrev pub size : BTL → ℕ

@@ -20,10 +20,10 @@ abbrev pub gateOf : Bool → Bool → Bool → Bool
 gateOf true x y = x && y
 gateOf false x y = x || y
 
--- p at lo, lo + 1, .. lo + n: at all of them with true, at one at least with false.
-abbrev pub span : Bool → (ℕ → Bool) → ℕ → ℕ → Bool
-span u p lo zero = p lo
-span u p lo (suc n) = gateOf u (span u p lo n) (p (lo + suc n))
+-- p over the offsets lo, lo + 1, .. lo + n: at all of them with true, at one at least with false.
+abbrev pub overOffsets : Bool → (ℕ → Bool) → ℕ → ℕ → Bool
+overOffsets u p lo zero = p lo
+overOffsets u p lo (suc n) = gateOf u (overOffsets u p lo n) (p (lo + suc n))
 
 -- What a sign makes of its two sides' values.
 abbrev pub opOf : Op → Bool → Bool → Bool
@@ -37,7 +37,7 @@ abbrev pub value : History → Formula → ℤ → Bool
 value h (Formula.sig x) t = h x t
 value h (Formula.neg f) t = not (value h f t)
 value h (Formula.pair o f g) t = opOf o (value h f t) (value h g t)
-value h (Formula.time u lo n f) t = span u (λ k. value h f (atOffset t k)) lo n
+value h (Formula.time u lo n f) t = overOffsets u (λ k. value h f (atOffset t k)) lo n
 
 -- "It obeys the sheet when each rule is true at each tick of the window": the defining rules too.
 abbrev pub Obeys : Sheet → History → Type 0

@@ -4,7 +4,7 @@ use borrow.Author.Tests.{eq-eqb, ne-eqb}
 use native.Mathlib.Omega.{arith}
 use mathlib.Core.Path.{sym, _∙_}
 use Rattle.read_interval.proofs.Ends.{past, end-reach}
-use Rattle.read_interval.proofs.Spans.{after-not, after-end, after-cut, comma-by}
+use Rattle.read_interval.proofs.Intervals.{after-not, after-end, after-cut, comma-by}
 use Rattle.read_interval.proofs.comma_at.Statement.{statement}
 use Rattle.read_interval.proofs.comma_at.Tie as tie
 

@@ -4,7 +4,7 @@ use native.Mathlib.Omega.{arith}
 use mathlib.Core.Logic.{⊎-elim}
 use mathlib.Core.Path.{sym, _∙_}
 use Rattle.read_interval.proofs.Ends.{past, end-reach}
-use Rattle.read_interval.proofs.Spans.{one-of, none-of, after-not, after-end, after-cut, interval-by}
+use Rattle.read_interval.proofs.Intervals.{one-of, none-of, after-not, after-end, after-cut, interval-by}
 use Rattle.read_interval.proofs.interval_at.Statement.{statement}
 use Rattle.read_interval.proofs.interval_at.Tie as tie
 

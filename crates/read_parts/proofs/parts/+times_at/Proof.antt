@@ -2,7 +2,7 @@
 use Prim.Native.Nat.{ℕ, _-_, _<_}
 use Rattle.read_parts.proofs.Levels.{by, stop}
 use Rattle.read_parts.proofs.Rooms.{room-for, after-node}
-use Rattle.read_parts.proofs.Steps.{timed-sign, timed-unsigned, timed-span, times-none}
+use Rattle.read_parts.proofs.Steps.{timed-sign, timed-unsigned, timed-offsets, times-none}
 use Rattle.read_parts.proofs.Timed.{times-on, times-cut}
 use borrow.Author.Needs.{needs}
 use lib.ListN.{length}
@@ -52,14 +52,14 @@ module _ (t : ℕ) where
   times-at-cast-t23 c =
       let at-i = c .before .before in
       let at-interval-at = at-i .before .before in
-      let w = timed-span _ _ (at-interval-at .interval-at .ensures) (at-i .i .given .1) in
+      let w = timed-offsets _ _ (at-interval-at .interval-at .ensures) (at-i .i .given .1) in
       record { fits = omega (arith, w .4) }
 
   times-at-cast-t24 : times-at-lts.Need-cast-t24 times-at-calls times-at-at times-at.Post
   times-at-cast-t24 c =
       let at-i = c .before .before in
       let at-interval-at = at-i .before .before in
-      let w = timed-span _ _ (at-interval-at .interval-at .ensures) (at-i .i .given .1) in
+      let w = timed-offsets _ _ (at-interval-at .interval-at .ensures) (at-i .i .given .1) in
       record { fits = omega (arith, w .4) }
 
   times-at-put-node-requires : times-at-lts.Need-put-node-requires times-at-calls times-at-at times-at.Post
@@ -70,7 +70,7 @@ module _ (t : ℕ) where
       let at-byte-at = at-if1 .before in
       let asked = at-byte-at .before .before .before .pre .1 in
       let g = timed-sign _ _ _ (at-byte-at .byte-at .ensures) (at-if1 .if1 .left) (omega arith) in
-      let w = timed-span _ _ (at-interval-at .interval-at .ensures) (at-i .i .given .1) in
+      let w = timed-offsets _ _ (at-interval-at .interval-at .ensures) (at-i .i .given .1) in
       (room-for (asked .ready) _ 1 (omega (arith, g .1)) refl, (omega arith, w .3, w .4))
 
   times-at-add-count : times-at-lts.Need-add-count times-at-calls times-at-at times-at.Post
@@ -85,7 +85,7 @@ module _ (t : ℕ) where
       let at-byte-at = at-if1 .before in
       let asked = at-byte-at .before .before .before .pre .1 in
       let g = timed-sign _ _ _ (at-byte-at .byte-at .ensures) (at-if1 .if1 .left) (omega arith) in
-      let w = timed-span _ _ (at-interval-at .interval-at .ensures) (at-i .i .given .1) in
+      let w = timed-offsets _ _ (at-interval-at .interval-at .ensures) (at-i .i .given .1) in
       (omega (arith, g .1, w .1), record { ready = after-node (asked .ready) _ _ (omega (arith, w .1)) (w .2) (omega arith, w .3, w .4) (at-put-node .put-node .ensures); some = omega arith })
 
   times-at-enum-known-i-2 : times-at-lts.Need-enum-known-i-2 times-at-calls times-at-at times-at.Post
@@ -104,7 +104,7 @@ module _ (t : ℕ) where
       let at-byte-at = at-if1 .before in
       let asked = at-byte-at .before .before .before .pre .1 in
       let g = timed-sign _ _ _ (at-byte-at .byte-at .ensures) (at-if1 .if1 .left) (omega arith) in
-      let w = timed-span _ _ (at-interval-at .interval-at .ensures) (at-i .i .given .1) in
+      let w = timed-offsets _ _ (at-interval-at .interval-at .ensures) (at-i .i .given .1) in
       λ n x f l he hs. times-on _ n f _ (g .0) (g .1) l (at-byte-at .byte-at .ensures) (w .0) (omega (arith, w .1)) (w .3) (w .4) (asked .some) (asked .ready .arena) (room-for (asked .ready) _ 1 (omega (arith, g .1)) refl) he hs (at-put-node .put-node .ensures)
       (λ k hk hk′. at-times-at .times-at .ensures (n - 1) x k (omega (arith, w .1)) hk hk′)
 

@@ -15,9 +15,9 @@ use Rattle.read_bytes.specs.declared.numbers.Number.the-variants.{Value, Missin
 use Rattle.read_bytes.specs.Bytes.{byte, bytes, peek, pick, oneOf}
 use Rattle.read_bytes.proofs.Tests.{between-is}
 use Rattle.read_bytes.proofs.Places.{Reach, inside-test}
-use Rattle.read_interval.specs.declared.Span.{Span}
-use Rattle.read_interval.specs.declared.Span.the-variants.{Over, Refused}
-use Rattle.read_interval.specs.Interval.{endAt, leftOut, near, spanOf, endThen, endAfter, closeAt, commaAt, interval, leastEnd, greatestEnd, overOffset}
+use Rattle.read_interval.specs.declared.Offsets.{Offsets}
+use Rattle.read_interval.specs.declared.Offsets.the-variants.{Over, Refused}
+use Rattle.read_interval.specs.Interval.{endAt, leftOut, near, offsetsOf, endThen, endAfter, closeAt, commaAt, interval, leastEnd, greatestEnd, overOffset}
 use Rattle.read_interval.proofs.Ends.{end-reach}
 
 -- A byte that equals one of two, or neither.
@@ -39,21 +39,21 @@ left-out-most b round = go (eqb b round)
 -- The answers to a whole interval.
 module _ (p o v w c x : ℕ) where
   module _ {l r : ℕ} (el : l ≡ leftOut o (byte "(")) (er : r ≡ leftOut c (byte ")")) (hv : near v ≡ true) (hw : near w ≡ true) where
-    pub span-in : v + l ≤ w - r → Over (v + l - overOffset) (w - r - (v + l)) x ≡ spanOf p o v w c x
-    unfolding spanOf
-    span-in h = rw (← el, ← er, hv, hw, le-leb (v + l) (w - r) h)
+    pub offsets-in : v + l ≤ w - r → Over (v + l - overOffset) (w - r - (v + l)) x ≡ offsetsOf p o v w c x
+    unfolding offsetsOf
+    offsets-in h = rw (← el, ← er, hv, hw, le-leb (v + l) (w - r) h)
 
-    pub span-empty : w - r < v + l → Refused 7 p ≡ spanOf p o v w c x
-    unfolding spanOf
-    span-empty h = rw (← el, ← er, hv, hw, lt-leb (v + l) (w - r) h)
+    pub offsets-empty : w - r < v + l → Refused 7 p ≡ offsetsOf p o v w c x
+    unfolding offsetsOf
+    offsets-empty h = rw (← el, ← er, hv, hw, lt-leb (v + l) (w - r) h)
 
-  pub span-far : near v && near w ≡ false → Refused 7 p ≡ spanOf p o v w c x
-  unfolding spanOf
-  span-far h = rw h
+  pub offsets-far : near v && near w ≡ false → Refused 7 p ≡ offsetsOf p o v w c x
+  unfolding offsetsOf
+  offsets-far h = rw h
 
 -- The answers at a closing bracket.
 module _ (s : List ℕ) (p o v w x b : ℕ) (eb : b ≡ peek s x) where
-  pub close-is : oneOf b (bytes "])") ≡ true → spanOf p o v w b (x + 1) ≡ closeAt s p o v w x
+  pub close-is : oneOf b (bytes "])") ≡ true → offsetsOf p o v w b (x + 1) ≡ closeAt s p o v w x
   unfolding closeAt
   close-is h = rw (← eb, h)
 
@@ -62,7 +62,7 @@ module _ (s : List ℕ) (p o v w x b : ℕ) (eb : b ≡ peek s x) where
   close-not h = rw (← eb, h)
 
 -- The answers to a sign and an end.
-module _ (s : List ℕ) (p : ℕ) (K : ℕ → ℕ → Span) (t : Bool) where
+module _ (s : List ℕ) (p : ℕ) (K : ℕ → ℕ → Offsets) (t : Bool) where
   pub after-not : t ≡ false → Refused 5 p ≡ endAfter t s p K
   unfolding endAfter
   after-not h = rw h
@@ -86,23 +86,23 @@ unfolding interval
 interval-by s p b eb = rw eb
 
 -- What holds of what is read at p: an interval ends after p and lies in -63 to 63, and a refusal is 5 or 7 and its place is in the text.
-abbrev pub Sound : List ℕ → ℕ → Span → Type 0
+abbrev pub Sound : List ℕ → ℕ → Offsets → Type 0
 Sound s p (Over first more q) = Reach s (p + 1) q × (1 ≤ first) × (first + more ≤ mostOffset)
 Sound s p (Refused n k) = ((n ≡ 5) ⊎ (n ≡ 7)) × (p ≤ length s → k ≤ length s)
 
 module _ (s : List ℕ) (p : ℕ) where
   -- Each step of the reading keeps what holds.
-  sound-pick : (t : Bool) (a b : Span) → (t ≡ true → Sound s p a) → Sound s p b → Sound s p (pick t (λ _. a) b)
+  sound-pick : (t : Bool) (a b : Offsets) → (t ≡ true → Sound s p a) → Sound s p b → Sound s p (pick t (λ _. a) b)
   sound-pick true a b f g = f refl
   sound-pick false a b f g = g
 
-  sound-end : (d : Number) (k : ℕ) (K : ℕ → ℕ → Span) → ((v q : ℕ) → d ≡ Value v q → Sound s p (K v q)) → Sound s p (Refused 5 k) → Sound s p (endThen d k K)
+  sound-end : (d : Number) (k : ℕ) (K : ℕ → ℕ → Offsets) → ((v q : ℕ) → d ≡ Value v q → Sound s p (K v q)) → Sound s p (Refused 5 k) → Sound s p (endThen d k K)
   sound-end (Value v q) k K f g = f v q refl
   sound-end Missing k K f g = g
 
-  sound-span : (o v w c x : ℕ) → Reach s (p + 1) x → Sound s p (spanOf p o v w c x)
-  unfolding spanOf
-  sound-span o v w c x r =
+  sound-offsets : (o v w c x : ℕ) → Reach s (p + 1) x → Sound s p (offsetsOf p o v w c x)
+  unfolding offsetsOf
+  sound-offsets o v w c x r =
       let l = leftOut o (byte "(") in
       let m = leftOut c (byte ")") in
       sound-pick (near v && near w && leb (v + l) (w - m)) (Over (v + l - overOffset) (w - m - (v + l)) x) (Refused 7 p)
@@ -118,13 +118,13 @@ module _ (s : List ℕ) (p : ℕ) where
   sound-close : (o v w x : ℕ) → Reach s (p + 1) x → Sound s p (closeAt s p o v w x)
   unfolding closeAt
   sound-close o v w x r =
-      sound-pick (oneOf (peek s x) (bytes "])")) (spanOf p o v w (peek s x) (x + 1)) (Refused 5 x)
+      sound-pick (oneOf (peek s x) (bytes "])")) (offsetsOf p o v w (peek s x) (x + 1)) (Refused 5 x)
       (λ h.
       let i = inside-test s x (λ b. oneOf b (bytes "])")) refl h in
-      sound-span o v w (peek s x) (x + 1) (record { ahead = omega (arith, r .ahead); inside = omega arith }))
+      sound-offsets o v w (peek s x) (x + 1) (record { ahead = omega (arith, r .ahead); inside = omega arith }))
       (inl refl, λ h. r .inside)
 
-  sound-after : (t : Bool) (q : ℕ) (K : ℕ → ℕ → Span) → p ≤ q → (p ≤ length s → q ≤ length s) → (t ≡ true → q < length s) → ((v x : ℕ) → Reach s (p + 1) x → Sound s p (K v x)) → Sound s p (endAfter t s q K)
+  sound-after : (t : Bool) (q : ℕ) (K : ℕ → ℕ → Offsets) → p ≤ q → (p ≤ length s → q ≤ length s) → (t ≡ true → q < length s) → ((v x : ℕ) → Reach s (p + 1) x → Sound s p (K v x)) → Sound s p (endAfter t s q K)
   unfolding endAfter
   sound-after t q K a i n f =
       sound-pick t (endThen (endAt s (q + 1)) (q + 1) K) (Refused 5 q)
@@ -150,7 +150,7 @@ module _ (s : List ℕ) (p : ℕ) where
       (λ h. inside-test s p (λ b. oneOf b (bytes "[(")) refl h)
       (λ v q. sound-comma (peek s p) v q)
 
-  -- Where an interval ends, and how far its whole numbers lie.
+  -- Where an interval ends, and how far its offsets lie.
   pub interval-reach : {first more q : ℕ} → interval s p ≡ Over first more q → Reach s (p + 1) q × (1 ≤ first) × (first + more ≤ mostOffset)
   interval-reach e = subst (Sound s p) e interval-sound
 

@@ -12,24 +12,24 @@ use Rattle.read_bytes.specs.declared.numbers.Number.{Number}
 use Rattle.read_bytes.specs.declared.numbers.Number.the-variants.{Value}
 use Rattle.read_bytes.specs.Bytes.{byte, bytes, peek, pick, oneOf}
 use Rattle.read_bytes.proofs.Tests.{between-is}
-use Rattle.read_interval.specs.declared.Span.{Span}
-use Rattle.read_interval.specs.declared.Span.the-variants.{Over, Refused}
-use Rattle.read_interval.specs.Interval.{leftOut, near, endAt, spanOf, endThen, endAfter, closeAt, commaAt, interval, leastEnd, greatestEnd, overOffset}
+use Rattle.read_interval.specs.declared.Offsets.{Offsets}
+use Rattle.read_interval.specs.declared.Offsets.the-variants.{Over, Refused}
+use Rattle.read_interval.specs.Interval.{leftOut, near, endAt, offsetsOf, endThen, endAfter, closeAt, commaAt, interval, leastEnd, greatestEnd, overOffset}
 use Rattle.spec_grammar.specs.Tokens.{End, TokenAt, Tokens}
 use Rattle.spec_grammar.specs.Grammar.{Interval, Legal}
 use Rattle.spec_grammar.proofs.Standing.{starts-head, token-one, next-is, none-is, one-at}
 use Rattle.spec_grammar.proofs.Signs.{lone, lone-token}
 use Rattle.spec_grammar.proofs.Ends.{EndAt, end-at, end-one}
 
--- ---- the numbers of an interval
+-- ---- the offsets of an interval
 
 over-not : {n p first more q : ℕ} → Refused n p ≡ Over first more q → ⊥
 over-not e = let z : _≡_ {A = ℕ} 0 1 = cc in omega arith
 
 module _ (p o v w c q : ℕ) where
-  pub legal-span : {first more : ℕ} → Legal o v w c first more → spanOf p o v w c q ≡ Over first more q
-  unfolding spanOf
-  legal-span {first} {more} l =
+  pub legal-offsets : {first more : ℕ} → Legal o v w c first more → offsetsOf p o v w c q ≡ Over first more q
+  unfolding offsetsOf
+  legal-offsets {first} {more} l =
       let i = between-is leastEnd greatestEnd w (l .near-last) in
       let a = l .first-is in
       let b = l .last-is in
@@ -38,16 +38,16 @@ module _ (p o v w c q : ℕ) where
       let y : w - leftOut c (byte ")") - (v + leftOut o (byte "(")) ≡ more = omega arith in
       rw (l .near-first, l .near-last, le-leb (v + leftOut o (byte "(")) (w - leftOut c (byte ")")) t, x, y)
 
-  -- A legal interval, or none is.
-  pub data SpanIs : Span → Type 0 where
-    legal : {first more : ℕ} → Legal o v w c first more → SpanIs (Over first more q)
-    illegal : ((first more : ℕ) → Legal o v w c first more → ⊥) → SpanIs (Refused 7 p)
+  -- The offsets are legal, or none are.
+  pub data OffsetsAre : Offsets → Type 0 where
+    legal : {first more : ℕ} → Legal o v w c first more → OffsetsAre (Over first more q)
+    illegal : ((first more : ℕ) → Legal o v w c first more → ⊥) → OffsetsAre (Refused 7 p)
 
-  pub span-is : SpanIs (spanOf p o v w c q)
-  unfolding spanOf
-  span-is = go (near v && near w && leb (v + leftOut o (byte "(")) (w - leftOut c (byte ")"))) refl
+  pub offsets-are : OffsetsAre (offsetsOf p o v w c q)
+  unfolding offsetsOf
+  offsets-are = go (near v && near w && leb (v + leftOut o (byte "(")) (w - leftOut c (byte ")"))) refl
     where
-      go : (b : Bool) → near v && near w && leb (v + leftOut o (byte "(")) (w - leftOut c (byte ")")) ≡ b → SpanIs (spanOf p o v w c q)
+      go : (b : Bool) → near v && near w && leb (v + leftOut o (byte "(")) (w - leftOut c (byte ")")) ≡ b → OffsetsAre (offsetsOf p o v w c q)
       go true e =
           let a = and-eq-true-iff (near v && near w) (leb (v + leftOut o (byte "(")) (w - leftOut c (byte ")"))) .0 e in
           let b = and-eq-true-iff (near v) (near w) .0 (a .0) in
@@ -62,7 +62,7 @@ module _ (p o v w c q : ℕ) where
             first-is = omega (arith, i .0);
             last-is = omega (arith, i .0, j .0);
           }))
-      go false e = rw e (illegal (λ first more l. over-not (rw e at (legal-span l))))
+      go false e = rw e (illegal (λ first more l. over-not (rw e at (legal-offsets l))))
 
 -- ---- its tokens
 
@@ -109,8 +109,8 @@ five h =
     record { opens = a .0; first = b .0; comma = c .0; last = d .0; closes = e .0; ends = none-is (e .1) }
 
 module _ {s : List ℕ} where
-  -- The tokens of an interval are read up to its numbers.
-  pub interval-reads : {p q o v w c : ℕ} {ws : List (List ℕ)} → Interval ws o v w c → Tokens s q p ws → interval s p ≡ spanOf p o v w c q
+  -- The tokens of an interval are read up to its offsets.
+  pub interval-reads : {p q o v w c : ℕ} {ws : List (List ℕ)} → Interval ws o v w c → Tokens s q p ws → interval s p ≡ offsetsOf p o v w c q
   unfolding interval endAfter commaAt closeAt
   interval-reads {p} {q} (Interval.interval {o} {c} {v} {w} {x} {y} ho kx ky hc) h =
       let t = five h in
@@ -121,8 +121,8 @@ module _ {s : List ℕ} where
 
 -- ---- what was read
 
--- The tokens of an interval from p to q with these whole numbers.
-pub record SpanAt (s : List ℕ) (p first more q : ℕ) : Type 0 where
+-- The tokens of an interval from p to q with these offsets.
+pub record OffsetsAt (s : List ℕ) (p first more q : ℕ) : Type 0 where
   pub tokens : List (List ℕ)
   pub stand : Tokens s q p tokens
   pub opens : ℕ
@@ -132,27 +132,27 @@ pub record SpanAt (s : List ℕ) (p first more q : ℕ) : Type 0 where
   pub interval : Interval tokens opens low high closes
   pub legal : Legal opens low high closes first more
 
-span-of : {p o v w c x : ℕ} {S : Span} {first more q : ℕ} → SpanIs p o v w c x S → S ≡ Over first more q → Legal o v w c first more × (x ≡ q)
-span-of {o = o} {v} {w} {c} {first = first} {more} (SpanIs.legal {first = a} {more = b} l) e =
+offsets-of : {p o v w c x : ℕ} {S : Offsets} {first more q : ℕ} → OffsetsAre p o v w c x S → S ≡ Over first more q → Legal o v w c first more × (x ≡ q)
+offsets-of {o = o} {v} {w} {c} {first = first} {more} (OffsetsAre.legal {first = a} {more = b} l) e =
     let i : a ≡ first = cc in
     let j : b ≡ more = cc in
     (subst (λ z. Legal o v w c z more) i (subst (Legal o v w c a) j l), cc)
-span-of (SpanIs.illegal n) e = absurd (over-not e)
+offsets-of (OffsetsAre.illegal n) e = absurd (over-not e)
 
 -- A test let the interval through.
-let-through : (b : Bool) (S : Span) (n p : ℕ) {first more q : ℕ} → pick b (λ _. S) (Refused n p) ≡ Over first more q → (b ≡ true) × (S ≡ Over first more q)
+let-through : (b : Bool) (S : Offsets) (n p : ℕ) {first more q : ℕ} → pick b (λ _. S) (Refused n p) ≡ Over first more q → (b ≡ true) × (S ≡ Over first more q)
 let-through true S n p e = (refl, e)
 let-through false S n p e = absurd (over-not e)
 
 -- An end, and what went on.
-record Ended (s : List ℕ) (p : ℕ) (K : ℕ → ℕ → Span) (S : Span) : Type 0 where
+record Ended (s : List ℕ) (p : ℕ) (K : ℕ → ℕ → Offsets) (S : Offsets) : Type 0 where
   text : List ℕ
   value : ℕ
   token : TokenAt s p text
   end : End text value
   on : K value (p + length text) ≡ S
 
-ended : (s : List ℕ) (p k : ℕ) (K : ℕ → ℕ → Span) {first more q : ℕ} → endThen (endAt s p) k K ≡ Over first more q → Ended s p K (Over first more q)
+ended : (s : List ℕ) (p k : ℕ) (K : ℕ → ℕ → Offsets) {first more q : ℕ} → endThen (endAt s p) k K ≡ Over first more q → Ended s p K (Over first more q)
 ended s p k K {first} {more} {q} = go (end-at s p)
   where
     go : {d : Number} → EndAt s p d → endThen d k K ≡ Over first more q → Ended s p K (Over first more q)
@@ -160,7 +160,7 @@ ended s p k K {first} {more} {q} = go (end-at s p)
     go (EndAt.missing n) e = absurd (over-not e)
 
 module _ (s : List ℕ) (p : ℕ) where
-  pub interval-stands : {first more q : ℕ} → interval s p ≡ Over first more q → SpanAt s p first more q
+  pub interval-stands : {first more q : ℕ} → interval s p ≡ Over first more q → OffsetsAt s p first more q
   unfolding interval endAfter commaAt closeAt
   interval-stands e =
       let a = let-through (oneOf (peek s p) (bytes "[(")) _ 5 p e in
@@ -170,7 +170,7 @@ module _ (s : List ℕ) (p : ℕ) where
       let y = ended s (u + 1) (u + 1) (closeAt s p (peek s p) (x .value)) (b .1) in
       let t = u + 1 + length (y .text) in
       let d = let-through (oneOf (peek s t) (bytes "])")) _ 5 t (y .on) in
-      let l = span-of (span-is p (peek s p) (x .value) (y .value) (peek s t) (t + 1)) (d .1) in
+      let l = offsets-of (offsets-are p (peek s p) (x .value) (y .value) (peek s t) (t + 1)) (d .1) in
       record {
         tokens = (peek s p ∷ []) ∷ x .text ∷ bytes "," ∷ y .text ∷ (peek s t ∷ []) ∷ [];
         stand =

@@ -13,26 +13,26 @@ use Rattle.read_bytes.specs.declared.numbers.Number.the-variants.{Value, Missin
 use Rattle.read_bytes.specs.Bytes.{byte, bytes, peek, pick, oneOf}
 use Rattle.read_bytes.specs.Numbers.{digits}
 use Rattle.read_bytes.proofs.Later.{laterNumber, pick-map, peek-later, digits-later}
-use Rattle.read_interval.specs.declared.Span.{Span}
-use Rattle.read_interval.specs.declared.Span.the-variants.{Over, Refused}
-use Rattle.read_interval.specs.Interval.{signed, leading, endAt, leftOut, near, spanOf, endThen, endAfter, closeAt, commaAt, interval, endZero, overOffset}
+use Rattle.read_interval.specs.declared.Offsets.{Offsets}
+use Rattle.read_interval.specs.declared.Offsets.the-variants.{Over, Refused}
+use Rattle.read_interval.specs.Interval.{signed, leading, endAt, leftOut, near, offsetsOf, endThen, endAfter, closeAt, commaAt, interval, endZero, overOffset}
 
--- An interval, or its refusal, whose place is d later.
-abbrev pub laterSpan : ℕ → Span → Span
-laterSpan d (Over first more q) = Over first more (d + q)
-laterSpan d (Refused n p) = Refused n (d + p)
+-- An interval's offsets, or its refusal, with a place that is d later.
+abbrev pub laterOffsets : ℕ → Offsets → Offsets
+laterOffsets d (Over first more q) = Over first more (d + q)
+laterOffsets d (Refused n p) = Refused n (d + p)
 
 signed-later : (d : ℕ) (plus : Bool) (n : Number) → signed plus (laterNumber d n) ≡ laterNumber d (signed plus n)
 unfolding signed
 signed-later d plus (Value v q) = refl
 signed-later d plus Missing = refl
 
-span-later : (d p o v w c x : ℕ) → spanOf (d + p) o v w c (d + x) ≡ laterSpan d (spanOf p o v w c x)
-unfolding spanOf
-span-later d p o v w c x =
+offsets-later : (d p o v w c x : ℕ) → offsetsOf (d + p) o v w c (d + x) ≡ laterOffsets d (offsetsOf p o v w c x)
+unfolding offsetsOf
+offsets-later d p o v w c x =
     let lo = v + leftOut o (byte "(") in
     let hi = w - leftOut c (byte ")") in
-    pick-map (laterSpan d) (near v && near w && leb lo hi) (Over (lo - overOffset) (hi - lo) x) (Refused 7 p)
+    pick-map (laterOffsets d) (near v && near w && leb lo hi) (Over (lo - overOffset) (hi - lo) x) (Refused 7 p)
 
 module _ (u t : List ℕ) where
   -- an end
@@ -51,32 +51,32 @@ module _ (u t : List ℕ) where
       go false false false = refl
 
   -- a sign and an end, and what follows
-  after-later : (fits : Bool) (i : ℕ) (K K′ : ℕ → ℕ → Span) → ((v q : ℕ) → K v (length u + q) ≡ laterSpan (length u) (K′ v q))
-      → endAfter fits (u ++ t) (length u + i) K ≡ laterSpan (length u) (endAfter fits t i K′)
+  after-later : (fits : Bool) (i : ℕ) (K K′ : ℕ → ℕ → Offsets) → ((v q : ℕ) → K v (length u + q) ≡ laterOffsets (length u) (K′ v q))
+      → endAfter fits (u ++ t) (length u + i) K ≡ laterOffsets (length u) (endAfter fits t i K′)
   unfolding endAfter
   after-later true i K K′ h = rw (add-assoc (length u) i 1, end-later (i + 1)) (go (endAt t (i + 1)))
     where
-      go : (n : Number) → endThen (laterNumber (length u) n) (length u + (i + 1)) K ≡ laterSpan (length u) (endThen n (i + 1) K′)
+      go : (n : Number) → endThen (laterNumber (length u) n) (length u + (i + 1)) K ≡ laterOffsets (length u) (endThen n (i + 1) K′)
       go (Value v q) = h v q
       go Missing = refl
   after-later false i K K′ h = refl
 
   -- the closing bracket
-  close-later : (p o v w x : ℕ) → closeAt (u ++ t) (length u + p) o v w (length u + x) ≡ laterSpan (length u) (closeAt t p o v w x)
+  close-later : (p o v w x : ℕ) → closeAt (u ++ t) (length u + p) o v w (length u + x) ≡ laterOffsets (length u) (closeAt t p o v w x)
   unfolding closeAt
   close-later p o v w x =
-      rw (add-assoc (length u) x 1, peek-later u t x, span-later (length u) p o v w (peek t x) (x + 1))
-      (pick-map (laterSpan (length u)) (oneOf (peek t x) (bytes "])")) (spanOf p o v w (peek t x) (x + 1)) (Refused 5 x))
+      rw (add-assoc (length u) x 1, peek-later u t x, offsets-later (length u) p o v w (peek t x) (x + 1))
+      (pick-map (laterOffsets (length u)) (oneOf (peek t x) (bytes "])")) (offsetsOf p o v w (peek t x) (x + 1)) (Refused 5 x))
 
   -- the comma
-  comma-later : (p o v q : ℕ) → commaAt (u ++ t) (length u + p) o v (length u + q) ≡ laterSpan (length u) (commaAt t p o v q)
+  comma-later : (p o v q : ℕ) → commaAt (u ++ t) (length u + p) o v (length u + q) ≡ laterOffsets (length u) (commaAt t p o v q)
   unfolding commaAt
   comma-later p o v q =
       rw (peek-later u t q)
       (after-later (eqb (peek t q) (byte ",")) q (closeAt (u ++ t) (length u + p) o v) (closeAt t p o v) (λ w x. close-later p o v w x))
 
   -- the whole interval
-  pub interval-later : (i : ℕ) → interval (u ++ t) (length u + i) ≡ laterSpan (length u) (interval t i)
+  pub interval-later : (i : ℕ) → interval (u ++ t) (length u + i) ≡ laterOffsets (length u) (interval t i)
   unfolding interval
   interval-later i =
       rw (peek-later u t i)

@@ -1,12 +1,12 @@
--- `span_of` meets its contract. Assumes nothing.
+-- `offsets_of` meets its contract. Assumes nothing.
 use borrow.Author.Needs.{needs}
 use native.Mathlib.Omega.{arith}
 use mathlib.Core.Path.{sym, _∙_}
 use Rattle.read_interval.specs.Interval.{leastEnd, greatestEnd}
 use Rattle.read_bytes.proofs.Tests.{between-is}
-use Rattle.read_interval.proofs.Spans.{left-out-most, span-in, span-empty, span-far}
-use Rattle.read_interval.proofs.span_of.Statement.{statement}
-use Rattle.read_interval.proofs.span_of.Tie as tie
+use Rattle.read_interval.proofs.Intervals.{left-out-most, offsets-in, offsets-empty, offsets-far}
+use Rattle.read_interval.proofs.offsets_of.Statement.{statement}
+use Rattle.read_interval.proofs.offsets_of.Tie as tie
 
 near-requires : tie.Need-near-requires
 near-requires c κs = search needs
@@ -43,23 +43,23 @@ returns c =
     let at-near2 = c .before .before .before .before in
     let at-if1 = at-near2 .before in
     let at-near = at-if1 .before in
-    span-in _ _ _ _ _ _ (c .before .before .left-out .ensures) (c .before .left-out2 .ensures) (sym (at-near .near .ensures) ∙ at-if1 .if1 .taken) (sym (at-near2 .near2 .ensures) ∙ c .before .before .before .if2 .taken) (c .if3 .taken)
+    offsets-in _ _ _ _ _ _ (c .before .before .left-out .ensures) (c .before .left-out2 .ensures) (sym (at-near .near .ensures) ∙ at-if1 .if1 .taken) (sym (at-near2 .near2 .ensures) ∙ c .before .before .before .if2 .taken) (c .if3 .taken)
 
 returns-2 : tie.Need-returns-2
 returns-2 c =
     let at-near2 = c .before .before .before .before in
     let at-if1 = at-near2 .before in
     let at-near = at-if1 .before in
-    span-empty _ _ _ _ _ _ (c .before .before .left-out .ensures) (c .before .left-out2 .ensures) (sym (at-near .near .ensures) ∙ at-if1 .if1 .taken) (sym (at-near2 .near2 .ensures) ∙ c .before .before .before .if2 .taken) (c .if3 .left)
+    offsets-empty _ _ _ _ _ _ (c .before .before .left-out .ensures) (c .before .left-out2 .ensures) (sym (at-near .near .ensures) ∙ at-if1 .if1 .taken) (sym (at-near2 .near2 .ensures) ∙ c .before .before .before .if2 .taken) (c .if3 .left)
 
 returns-3 : tie.Need-returns-3
-returns-3 c = span-far _ _ _ _ _ _ (rw (sym (c .before .before .before .near .ensures) ∙ c .before .before .if1 .taken, sym (c .before .near2 .ensures) ∙ c .if2 .left))
+returns-3 c = offsets-far _ _ _ _ _ _ (rw (sym (c .before .before .before .near .ensures) ∙ c .before .before .if1 .taken, sym (c .before .near2 .ensures) ∙ c .if2 .left))
 
 returns-4 : tie.Need-returns-4
-returns-4 c = span-far _ _ _ _ _ _ (rw (sym (c .before .near .ensures) ∙ c .if1 .left))
+returns-4 c = offsets-far _ _ _ _ _ _ (rw (sym (c .before .near .ensures) ∙ c .if1 .left))
 
-pub span-of-spec : {M : Type 1} → statement M
-span-of-spec =
+pub offsets-of-spec : {M : Type 1} → statement M
+offsets-of-spec =
     tie.close
     (tie.spec
     near-requires
