@@ -1,15 +1,18 @@
 //! The rule reader in plain Rust, for comparison. In a folder with sheet.txt and readings.txt:
 //! `baseline` prints the listing; `baseline N [read|check|take|add]` does one operation N times, prints what the last one answered, and then how many
-//! marks stand in the table.
+//! marks stand in the table. So does `baseline N [spans|singles]`, a move by sorting, and `baseline N [setspans|setsingles]`, by a set of single readings;
+//! they print the text that was written too.
 mod closing;
 mod formula;
 mod lowering;
+mod moves;
 mod operations;
 mod readings;
 mod sheet;
 mod table;
 mod text;
 
+use moves::{by_set, by_sort, Form};
 use operations::{add, check, empty_table, take, Added};
 use table::{count_marks, Ticks};
 use text::{name_key, refuse, Refusal};
@@ -59,6 +62,7 @@ enum Answer {
     Rows(usize),
     Before(usize),
     Added(Added),
+    Written(Vec<u8>),
 }
 
 impl Answer {
@@ -68,6 +72,15 @@ impl Answer {
             Answer::Rows(n) => format!("rows={n}\n"),
             Answer::Before(n) => format!("before={n}\n"),
             Answer::Added(a) => format!("facts={}\nclash={}\n", a.new, a.clash as u8),
+            Answer::Written(text) => format!("length={}\n", text.len()),
+        }
+    }
+
+    /// The text that was written.
+    fn written(&self) -> &[u8] {
+        match self {
+            Answer::Written(text) => text,
+            _ => b"",
         }
     }
 }
@@ -83,18 +96,27 @@ fn once(operation: &str, text: &[u8], readings: &[u8], table: &mut [u64]) -> Res
         "read" => Answer::Rules(black_box(sheet::read(text)?).rules.len()),
         "check" => Answer::Rows(check(text)?),
         "take" => Answer::Before(black_box(take(text, readings, emptied(table))?).before),
+        "spans" => Answer::Written(by_sort(text, readings, Form::Spans)?),
+        "singles" => Answer::Written(by_sort(text, readings, Form::Singles)?),
+        "setspans" => Answer::Written(by_set(text, readings, Form::Spans)?),
+        "setsingles" => Answer::Written(by_set(text, readings, Form::Singles)?),
         _ => Answer::Added(add(text, readings, emptied(table))?),
     })
 }
 
-/// One operation as often as asked: what the last one answered, and how many marks stand in the table then.
-fn runs(text: &[u8], readings: &[u8], times: usize, operation: &str) -> Result<String, Refusal> {
-    let mut table = empty_table(text)?;
-    let mut last = Answer::Rows(check(text)?);
+/// One operation as often as asked: what the last one answered, how many marks stand in the table then, and the text that was written.
+fn runs(text: &[u8], readings: &[u8], times: usize, operation: &str) -> String {
+    let mut table = empty_table(text).unwrap_or_default();
+    let mut last = check(text).map(Answer::Rows);
     for _ in 0..times {
-        last = black_box(once(operation, black_box(text), black_box(readings), black_box(&mut table))?);
+        last = black_box(once(operation, black_box(text), black_box(readings), black_box(&mut table)));
     }
-    Ok(format!("{}marks={}\n", last.text(), count_marks(&table)))
+    let said = match &last {
+        Ok(answer) => answer.text(),
+        Err(r) => format!("--- refused {} at {}\n", r.number, r.place),
+    };
+    let written = last.as_ref().map_or(&b""[..], Answer::written);
+    format!("{said}marks={}\n{}", count_marks(&table), String::from_utf8_lossy(written))
 }
 
 fn main() {
@@ -103,7 +125,7 @@ fn main() {
     let args: Vec<String> = std::env::args().collect();
     let answer = match args.get(1) {
         None => listing(&text, &readings),
-        Some(times) => runs(&text, &readings, times.parse().unwrap_or(0), args.get(2).map_or("add", |a| a)),
+        Some(times) => Ok(runs(&text, &readings, times.parse().unwrap_or(0), args.get(2).map_or("add", |a| a))),
     };
     match answer {
         Ok(answer) => print!("{answer}"),

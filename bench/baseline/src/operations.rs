@@ -3,7 +3,7 @@ use crate::closing::close;
 use crate::lowering::{lower, Program};
 use crate::readings;
 use crate::sheet;
-use crate::table::{count_marks, Ticks};
+use crate::table::{count_marks, mark, Ticks};
 use crate::text::{refuse, Refusal};
 
 /// The sheet's rows, the ticks of its window, how many signals it has, and the facts of the table before the readings.
@@ -48,11 +48,12 @@ pub fn take(text: &[u8], readings: &[u8], table: &mut [u64]) -> Result<Taken, Re
     if table.chunks_exact(ticks.words).any(outside) {
         return refuse(16, 0);
     }
-    let marks = readings::read(readings, &sheet.names, sheet.window)?;
+    let spans = readings::read(readings, &sheet.names, sheet.window)?;
     let signals = sheet.names.len();
     let before = facts(table, ticks, signals);
-    for mark in marks {
-        table[ticks.block(mark.signal, usize::from(!mark.value)) + mark.tick / 64] |= 1 << (mark.tick % 64);
+    for span in spans {
+        let block = ticks.block(span.signal, usize::from(!span.value));
+        mark(&mut table[block..block + ticks.words], span.first, span.last);
     }
     Ok(Taken {
         program,

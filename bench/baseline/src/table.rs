@@ -25,3 +25,16 @@ impl Ticks {
 pub fn count_marks(words: &[u64]) -> usize {
     words.iter().map(|w| w.count_ones() as usize).sum()
 }
+
+/// Marks the ticks from the first to the last in a row's words for one value.
+pub fn mark(words: &mut [u64], first: usize, last: usize) {
+    let (from, to) = (u64::MAX << (first % 64), u64::MAX >> (63 - last % 64));
+    let (q, r) = (first / 64, last / 64);
+    if q == r {
+        words[q] |= from & to;
+    } else {
+        words[q] |= from;
+        words[q + 1..r].fill(u64::MAX);
+        words[r] |= to;
+    }
+}

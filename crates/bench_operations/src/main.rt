@@ -1,12 +1,17 @@
 // Runs one operation again and again, so that its instructions can be counted: on the sheet and the readings in the current folder, sheet.txt
 // and readings.txt, as often as the first argument says. The second argument is read (the sheet's text), check (it is lowered too), take (the readings
-// are taken too) or add. Prints what the last run answered, and how many marks stand in the table then.
+// are taken too), add, spans or singles (the readings are moved to spans, or to single readings). Prints what the last run answered, how many marks stand
+// in the table then, and the text that a move wrote.
 mod answers;
+mod moving;
 mod reading;
 mod taking;
 
 use answers::Answer;
 use answers::print_answer;
+use moving::print_written;
+use moving::singles;
+use moving::spans;
 use op_add::Adding;
 use op_add::add;
 use op_check::Checking;
@@ -20,6 +25,7 @@ use run_parts::clear;
 use run_parts::is_asked;
 use run_parts::read_text;
 use run_parts::times_asked;
+use spec_limits::BYTES;
 use spec_limits::ROWS;
 use spec_limits::SIGNALS;
 use spec_limits::TOPS;
@@ -31,12 +37,14 @@ ghost use Prim.Native.Nat.{_≤_};
 ghost use lib.ListN.{length};
 ghost use Rattle.table_marks.specs.Sizes.{mostTableWords};
 
-// How far a run goes.
+// What a run does.
 enum Run {
     Read,
     Check,
     Take,
     Add,
+    Spans,
+    Singles,
 }
 
 // Checks the sheet.
@@ -65,21 +73,30 @@ fn add_once(s: &[u8], readings: &[u8], table: &mut [u64]) -> Answer {
 }
 
 // One run.
-fn run_once(run: Run, s: &[u8], readings: &[u8], table: &mut [u64]) -> Answer {
+fn run_once(run: Run, s: &[u8], readings: &[u8], table: &mut [u64], out: &mut [u8]) -> Answer {
     match run {
         Run::Read => read_sheet(s),
         Run::Check => check_once(s),
         Run::Take => take_once(s, readings, table),
         Run::Add => add_once(s, readings, table),
+        Run::Spans => spans(s, readings, out),
+        Run::Singles => singles(s, readings, out),
     }
 }
 
 // So many runs: what the last one answers.
-fn run_times(run: Run, s: &[u8], readings: &[u8], table: &mut [u64], times: usize) -> Answer {
+fn run_times(
+    run: Run,
+    s: &[u8],
+    readings: &[u8],
+    table: &mut [u64],
+    out: &mut [u8],
+    times: usize,
+) -> Answer {
     let mut last = Answer::Refused(0, 0);
     let mut i = 0;
     while i < times {
-        last = run_once(run, s, readings, table);
+        last = run_once(run, s, readings, table, out);
         i += 1;
     }
     last
@@ -123,16 +140,23 @@ fn run_asked() -> Run {
     if is_asked(b"take") {
         return Run::Take;
     }
+    if is_asked(b"spans") {
+        return Run::Spans;
+    }
+    if is_asked(b"singles") {
+        return Run::Singles;
+    }
     Run::Add
 }
 
-// Does what is asked for with a table, and prints it.
-fn run_table(run: Run, s: &[u8], readings: &[u8], table: &mut [u64], times: usize)
+// Does what is asked for with a table and a buffer for a text, and prints it.
+fn run_table(run: Run, s: &[u8], readings: &[u8], table: &mut [u64], out: &mut [u8], times: usize)
     requires { ⌜ length (now table) ≤ mostTableWords ⌝ }
 {
-    let answer = run_times(run, s, readings, table, times);
+    let answer = run_times(run, s, readings, table, out, times);
     print_answer(answer);
     print_marks(table);
+    print_written(answer, out);
 }
 
 // Does what is asked for with the two texts.
@@ -141,7 +165,8 @@ fn run_texts(s: &[u8], readings: &[u8]) {
     let run = run_asked();
     let words = words_for(s);
     let mut table = [0u64; TABLE_WORDS];
-    run_table(run, s, readings, &mut table[..words], times);
+    let mut out = [0u8; BYTES];
+    run_table(run, s, readings, &mut table[..words], &mut out, times);
 }
 
 fn main() {

@@ -22,6 +22,9 @@ array-borrow-prefix-table c = search needs
 slice-aggregate-run-table : tie.Need-slice-aggregate-run-table
 slice-aggregate-run-table c = sym (length-take-le _ _ (omega arith))
 
+slice-aggregate-run-table-2 : tie.Need-slice-aggregate-run-table-2
+slice-aggregate-run-table-2 c = search needs
+
 run-table-requires : tie.Need-run-table-requires
 run-table-requires c κs = simp length-take (omega arith)
 
@@ -37,5 +40,6 @@ run-texts-spec =
     words-for-requires
     array-borrow-prefix-table
     slice-aggregate-run-table
+    slice-aggregate-run-table-2
     run-table-requires
     returns)

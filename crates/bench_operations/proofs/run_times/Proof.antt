@@ -1,4 +1,4 @@
--- `run_times` is safe and ends. The invariant: the table stays as long. Assumes nothing.
+-- `run_times` is safe and ends. The invariant: the table and the buffer stay as long. Assumes nothing.
 use borrow.Author.Needs.{needs}
 use Prim.Native.Nat.{_-_}
 use mathlib.Core.Path.{_≡_}
@@ -7,10 +7,10 @@ use Rattle.bench_operations.proofs.run_times.Statement.{statement}
 use Rattle.bench_operations.proofs.run_times.Tie as tie
 
 abbrev Inv-loop : tie.InvT-loop
-Inv-loop run s readings table₀ times last₀ i₀ table last i = length table ≡ length table₀
+Inv-loop run s readings table₀ out₀ times last₀ i₀ table out last i = (length table ≡ length table₀) × (length out ≡ length out₀)
 
 abbrev μ-loop : tie.MeasureT-loop
-μ-loop run s readings table₀ times last₀ i₀ table last i = times - i
+μ-loop run s readings table₀ out₀ times last₀ i₀ table out last i = times - i
 
 loop-holds : tie.Need-loop-holds Inv-loop μ-loop
 loop-holds c = search needs
@@ -30,6 +30,9 @@ loop-again c = search needs
 same-length : tie.Need-same-length Inv-loop μ-loop
 same-length c = search needs
 
+same-length-2 : tie.Need-same-length-2 Inv-loop μ-loop
+same-length-2 c = search needs
+
 returns : tie.Need-returns Inv-loop μ-loop
 returns c = search needs
 
@@ -45,4 +48,5 @@ run-times-spec =
     loop-less
     loop-again
     same-length
+    same-length-2
     returns)
