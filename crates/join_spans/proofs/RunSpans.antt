@@ -73,6 +73,7 @@ pub record Running (a : List ℕ) (i row f l next : ℕ) : Type 0 where
   pub row-is : row ≡ getD a i 0 / rowSpans
   pub ahead : i < next
   pub inside : next ≤ length a
+  pub start : f < mostTicks
   pub tick : l < mostTicks
 
 module _ (a : List ℕ) (i : ℕ) where
@@ -84,6 +85,7 @@ module _ (a : List ℕ) (i : ℕ) where
     row-is = refl;
     ahead = omega arith;
     inside = omega arith;
+    start = omega arith;
     tick = omega arith;
   }
 
@@ -97,6 +99,7 @@ module _ (a : List ℕ) (i : ℕ) where
       row-is = z .row-is;
       ahead = omega (arith, z .ahead);
       inside = omega arith;
+      start = z .start;
       tick = larger (ltb l (getD a next 0 % mostTicks)) e;
     }
       where
@@ -113,6 +116,7 @@ module _ (a : List ℕ) (i : ℕ) where
       row-is = z .row-is;
       ahead = z .ahead;
       inside = z .inside;
+      start = z .start;
       tick = z .tick;
     }
 
@@ -123,5 +127,6 @@ module _ (a : List ℕ) (i : ℕ) where
       row-is = z .row-is;
       ahead = z .ahead;
       inside = z .inside;
+      start = z .start;
       tick = z .tick;
     }

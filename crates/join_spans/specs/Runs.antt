@@ -23,4 +23,5 @@ pub record RunFrom (a : List ℕ) (i row f l next : ℕ) : Type 0 where
   pub row-is : row ≡ getD a i 0 / rowSpans
   pub ahead : i < next
   pub inside : next ≤ length a
+  pub start : f < mostTicks
   pub tick : l < mostTicks

@@ -37,10 +37,6 @@ use Rattle.op_moves.proofs.Noted.{moves-marks, in-front}
 
 -- ---- the text
 
--- What is written to no room is measured.
-pub measured : {limit u : ℕ} {ws m m₁ : List ℕ} → WritesUpTo limit ws 0 m m₁ u → Measures limit (length ws) u
-measured w = record { within = λ h. omega (arith, w .whole (omega arith) .next); over = λ h. w .over (omega arith) }
-
 -- What is measured within the limit is so long.
 so-long : {limit n u : ℕ} → Measures limit n u → u ≤ limit → u ≡ n
 so-long {limit} {n} {u} z h = go (decLt limit n)

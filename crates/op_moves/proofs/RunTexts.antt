@@ -5,7 +5,7 @@ use mathlib.Core.Bool.{Bool, true, false}
 use mathlib.Core.List.{List, [], _∷_, _++_, append-nil, append-assoc, map, flatten}
 use Prim.Native.Nat.{ℕ, suc, _+_, _-_, _*_, _<_, _≤_}
 use native.Mathlib.Omega.{arith}
-use lib.ListN.{length}
+use lib.ListN.{length, getD}
 use Rattle.spec_limits.specs.Limits.{mostBytes, mostNameBytes}
 use Rattle.spec_tilco.proofs.Lists.{all-nth}
 use Rattle.write_bytes.specs.Writes.{Counted, Wrote}
@@ -84,10 +84,14 @@ pub all-singles : (names : List (List ℕ)) (x : ℕ) (v : Bool) (f l : ℕ) →
 unfolding singles
 all-singles names x v f l = refl
 
+-- The name of the span's signal is short.
+pub name-short : (names : List (List ℕ)) {used : ℕ} {e : Span} → Writable names used e → length (getD names (e .signal) []) ≤ mostNameBytes
+name-short names {e = e} w = all-nth (λ n. length n ≤ mostNameBytes) [] names (e .signal) (w .short) (w .signal)
+
 -- The places of an entry of the span's signal can be counted.
 pub can-count : (spans : Bool) (names : List (List ℕ)) (d : Span) {used at : ℕ} {e : Span} → Writable names used e → d .signal ≡ e .signal → at ≤ mostBytes → Counted at (entryText spans names d)
 can-count spans names d {e = e} w i h =
-    let l = all-nth (λ n. length n ≤ mostNameBytes) [] names (d .signal) (w .short) (omega (arith, w .signal)) in
+    let l : length (getD names (d .signal) []) ≤ mostNameBytes = rw i (name-short names w) in
     entry-counted spans names d (omega arith)
 
 -- What is written of a joined span: itself, or its readings.
@@ -103,4 +107,4 @@ run-singles names e h w = rw h w
 pub run-writable : {names : List (List ℕ)} {a : List ℕ} {i row f l next used : ℕ} → CanWrite names a → i < length a → RunFrom a i row f l next → used ≤ mostBytes → Writable names used (inRow row f l)
 run-writable {names} {a} {i} c h r near =
     let w = all-nth (λ v. v < 2 * rowSpans * length names) 0 a i (c .rows) h in
-    record { signal = omega (arith, r .row-is); short = c .short; ticks = r .tick; near = near }
+    record { signal = omega (arith, r .row-is); short = c .short; start = r .start; ticks = r .tick; near = near }

@@ -4,16 +4,17 @@ use mathlib.Core.Path.{_≡_}
 use mathlib.Core.Bool.{Bool, true, false}
 use mathlib.Core.List.{List, [], _∷_, _++_, map}
 use mathlib.Core.Logic.{_⊎_}
-use Prim.Native.Nat.{ℕ, _*_, _<_, _≤_}
-use lib.ListN.{length, drop}
+use Prim.Native.Nat.{ℕ, _+_, _*_, _<_, _≤_}
+use lib.ListN.{length, drop, getD}
 use Rattle.spec_limits.specs.Limits.{mostBytes, mostTicks, mostSignals, mostNameBytes}
 use Rattle.spec_tilco.specs.Lists.{All}
-use Rattle.read_reading.specs.Spans.{Span, marksOfAll}
+use Rattle.read_reading.specs.Spans.{Span, span, marksOfAll}
 use Rattle.read_readings.specs.SpanNumbers.{rowSpans, spanOf}
 use Rattle.open_sheet.specs.Results.{Result, accepted, refused}
 use Rattle.write_readings.specs.EntryTexts.{entriesText}
 use Rattle.spec_moves.specs.InOrder.{Shaped, MovedTo}
 use Rattle.join_spans.specs.Joining.{singles, moveTo}
+use Rattle.op_moves.specs.UpTo.{Measures}
 
 -- The entries of a joined span: itself, or its readings.
 abbrev pub runEntries : Bool → Span → List Span
@@ -28,8 +29,14 @@ movedText spans names a = entriesText spans names (moveTo spans (map spanOf a))
 pub record Writable (names : List (List ℕ)) (used : ℕ) (e : Span) : Type 0 where
   pub signal : e .signal < length names
   pub short : All (λ w. length w ≤ mostNameBytes) names
+  pub start : e .first < mostTicks
   pub ticks : e .last < mostTicks
   pub near : used ≤ mostBytes
+
+-- From b on, the readings of any span with these ticks, and with a name of so many bytes, end at u; or they end past the limit, and u is past it too.
+abbrev pub SinglesLong : ℕ → ℕ → ℕ → ℕ → ℕ → Type 0
+SinglesLong name first last b u =
+    (names : List (List ℕ)) (x : ℕ) (v : Bool) → length (getD names x []) ≡ name → Measures mostBytes (b + length (entriesText false names (singles (span x v first last)))) u
 
 -- The numbers' spans can be written: each has a signal with a name, and a tick at least.
 pub record CanWrite (names : List (List ℕ)) (a : List ℕ) : Type 0 where

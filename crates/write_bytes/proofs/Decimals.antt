@@ -88,3 +88,16 @@ decimal-some n = go (decLt n 10)
     go : Dec (n < 10) → 1 ≤ length (lastDigits 20 n)
     go (yes l) = rw (digits-one 19 n l) (omega arith)
     go (no l) = rw (digits-then 19 n (omega arith)) (omega (arith, length-append (lastDigits 19 (n / 10)) ((byte "0" + n % 10) ∷ [])))
+
+-- A number below 10,000 has as many as its size tells.
+pub one-digit : (n : ℕ) → n < 10 → length (decimalText n) ≡ 1
+one-digit n h = ap length (decimal-one n h)
+
+pub two-digits : (n : ℕ) → 10 ≤ n → n < 100 → length (decimalText n) ≡ 2
+two-digits n l h = omega (arith, decimal-longer n l (omega arith), one-digit (n / 10) (omega arith))
+
+pub three-digits : (n : ℕ) → 100 ≤ n → n < 1000 → length (decimalText n) ≡ 3
+three-digits n l h = omega (arith, decimal-longer n (omega arith) (omega arith), two-digits (n / 10) (omega arith) (omega arith))
+
+pub four-digits : (n : ℕ) → 1000 ≤ n → n < 10000 → length (decimalText n) ≡ 4
+four-digits n l h = omega (arith, decimal-longer n (omega arith) (omega arith), three-digits (n / 10) (omega arith) (omega arith))

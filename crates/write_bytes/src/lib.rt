@@ -1,6 +1,9 @@
 // Writers of bytes into a lent buffer, from a place on: one byte, a text, a number. Each stores what there is room for and answers the place
-// after its whole text, so that lent a buffer of no room it measures. Assumes that the places can be counted.
+// after its whole text, so that lent a buffer of no room it measures. And how many digits a number has. Assumes that the places can be counted.
+ghost use mathlib.Core.Path.{_≡_};
 ghost use mathlib.Core.List.{[], _∷_};
+ghost use Prim.Native.Nat.{_<_};
+ghost use lib.ListN.{length};
 ghost use Rattle.write_bytes.specs.Writes.{Counted, Wrote, decimalText};
 
 // One byte more.
@@ -39,4 +42,21 @@ pub fn decimal(n: usize, out: &mut [u8], used: usize) -> usize
     }
     let next = decimal(n / 10, out, used);
     push(last, out, next)
+}
+
+// How many bytes `decimal` writes of a number below 10,000.
+pub fn digits_of(n: usize) -> usize
+    requires { ⌜ n < 10000 ⌝ }
+    ensures { λ r. ⌜ r ≡ length (decimalText n) ⌝ }
+{
+    if n < 10 {
+        return 1;
+    }
+    if n < 100 {
+        return 2;
+    }
+    if n < 1000 {
+        return 3;
+    }
+    4
 }

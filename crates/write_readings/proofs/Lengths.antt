@@ -8,12 +8,12 @@ use native.Mathlib.Omega.{arith}
 use lib.ListN.{length, getD, length-append}
 use Rattle.spec_limits.specs.Limits.{mostNameBytes}
 use Rattle.read_bytes.specs.Bytes.{bytes}
-use Rattle.read_reading.specs.Spans.{Span}
+use Rattle.read_reading.specs.Spans.{Span, span}
 use Rattle.write_bytes.specs.Writes.{Counted, decimalText}
 use Rattle.write_bytes.proofs.Decimals.{decimal-one, decimal-some, decimal-most, decimal-few}
 use Rattle.write_lines.specs.LineTexts.{lineText, numberText, oneIf}
 use Rattle.write_lines.proofs.Lengths.{line-length}
-use Rattle.write_readings.specs.EntryTexts.{valueText, entryText}
+use Rattle.write_readings.specs.EntryTexts.{valueText, entryText, EntryLong}
 
 bit-length : (v : Bool) → length (decimalText (oneIf v)) ≡ 1
 bit-length true = ap length (decimal-one 1 (omega arith))
@@ -64,3 +64,10 @@ entry-most false names e h f l = omega (arith, reading-length names e, decimal-m
 pub entry-counted : (spans : Bool) (names : List (List ℕ)) (e : Span) {b : ℕ} → b + length (getD names (e .signal) []) < 2 ^ 63 → Counted b (entryText spans names e)
 entry-counted true names e h = record { below = omega (arith, span-length names e, decimal-few (e .first), decimal-few (e .last)) }
 entry-counted false names e h = record { below = omega (arith, reading-length names e, decimal-few (e .first)) }
+
+-- So the lengths of its ticks and of its name tell an entry's.
+pub span-long : {spans : Bool} {name : ℕ} (first last : ℕ) {a b : ℕ} → spans ≡ true → a ≡ length (decimalText first) → b ≡ length (decimalText last) → EntryLong spans name first last (a + b + name + 26)
+span-long first last h d g = λ names x v e. rw h (omega (arith, span-length names (span x v first last)))
+
+pub reading-long : {spans : Bool} {name : ℕ} (first last : ℕ) {a : ℕ} → spans ≡ false → a ≡ length (decimalText first) → EntryLong spans name first last (a + name + 20)
+reading-long first last h d = λ names x v e. rw h (omega (arith, reading-length names (span x v first last)))

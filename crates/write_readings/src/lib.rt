@@ -1,14 +1,19 @@
-// The lines of readings and of spans, written into a lent buffer. Assumes that the places of an entry can be counted. The names stand at `places` of the
-// sheet text `s`.
+// The lines of readings and of spans, written into a lent buffer, and how long they are. Assumes that the places of an entry can be counted. The names
+// stand at `places` of the sheet text `s`.
+use read_names::spelling_end;
+use write_bytes::digits_of;
 use write_lines::one_if;
 use write_lines::write_name_line;
 use write_lines::write_number_line;
-ghost use Prim.Native.Nat.{_<_};
-ghost use lib.ListN.{length};
+ghost use mathlib.Core.Path.{_≡_};
+ghost use mathlib.Core.List.{[]};
+ghost use Prim.Native.Nat.{_<_, _≤_};
+ghost use lib.ListN.{length, getD};
+ghost use Rattle.spec_limits.specs.Limits.{mostNameBytes};
 ghost use Rattle.read_names.specs.Spellings.{namesAt};
 ghost use Rattle.read_reading.specs.Spans.{span};
 ghost use Rattle.write_bytes.specs.Writes.{Counted, Wrote};
-ghost use Rattle.write_readings.specs.EntryTexts.{valueText, entryText};
+ghost use Rattle.write_readings.specs.EntryTexts.{valueText, entryText, EntryLong};
 
 // An entry's last two lines, whatever its ticks are: its signal's name, and its value.
 fn write_value(
@@ -50,5 +55,26 @@ pub fn write_entry(
     } else {
         let rest = write_number_line(b"at=", first, out, used);
         write_value(s, places, signal, value, out, rest)
+    }
+}
+
+// How many bytes a signal's name has.
+pub fn name_length(s: &[u8], places: &[u64], signal: usize) -> usize
+    requires { ⌜ signal < length (now places) ⌝ }
+    ensures { λ r. ⌜ r ≡ length (getD (namesAt (now (s .entry)) (now (places .entry))) signal []) ⌝ }
+{
+    let name = places[signal] as usize;
+    spelling_end(s, name) - name
+}
+
+// How many bytes `write_entry` writes of an entry whose name has `name` bytes, whatever its value is.
+pub fn entry_length(spans: bool, name: usize, first: usize, last: usize) -> usize
+    requires { ⌜ (name ≤ mostNameBytes) × (first < 10000) × (last < 10000) ⌝ }
+    ensures { λ r. ⌜ (r ≤ 50) × EntryLong spans name first last r ⌝ }
+{
+    if spans {
+        digits_of(first) + digits_of(last) + name + 26
+    } else {
+        digits_of(first) + name + 20
     }
 }
