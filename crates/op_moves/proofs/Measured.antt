@@ -11,7 +11,7 @@ use Rattle.read_reading.specs.Spans.{Span, span}
 use Rattle.write_readings.specs.EntryTexts.{entryText, entriesText}
 use Rattle.join_spans.specs.Joining.{merged, singlesFrom, singles}
 use Rattle.join_spans.specs.Runs.{inRow, spansFrom, RunFrom}
-use Rattle.op_moves.specs.UpTo.{Measures}
+use Rattle.op_moves.specs.Measures.{Measures}
 use Rattle.op_moves.specs.MovedText.{runEntries, movedText}
 use Rattle.op_moves.proofs.RunTexts.{one-entry, runsText, moved-runs, next-run, no-run, next-single, no-single}
 

@@ -12,6 +12,7 @@ use Rattle.spec_limits.specs.Limits.{mostBytes, mostSignals, mostNameBytes, mos
 use Rattle.spec_tilco.specs.Lists.{All}
 use Rattle.sort_numbers.specs.Sorts.{Sorts}
 use Rattle.read_bytes.specs.Read.Read.{got, refused as unread}
+use Rattle.write_bytes.specs.Writes.{Wrote, Counted}
 use Rattle.read_names.specs.Spellings.{namesAt}
 use Rattle.read_names.proofs.Names.{names-many}
 use Rattle.read_head.proofs.DeclaredNames.{head-names}
@@ -29,7 +30,7 @@ use Rattle.write_readings.specs.EntryTexts.{entriesText}
 use Rattle.spec_moves.specs.InOrder.{Shaped, MovedTo}
 use Rattle.spec_moves.specs.Moves.{Written, Moves}
 use Rattle.spec_moves.specs.Moves.Moves.{not-read, no-room, moved}
-use Rattle.op_moves.specs.UpTo.{WritesUpTo, Measures}
+use Rattle.op_moves.specs.Measures.{Measures}
 use Rattle.op_moves.specs.MovedText.{movedText, CanWrite, WritesMoved}
 use Rattle.op_moves.specs.MovedText.WritesMoved.{no-room as too-large, written}
 use Rattle.op_moves.specs.MovingSays.{Opened}
@@ -53,19 +54,23 @@ too-much {limit} {n} z h = go (decLt limit n)
     go (yes l) = l
     go (no l) = absurd (omega (arith, z .within (omega arith)))
 
-module _ (spans : Bool) (names : List (List ℕ)) {a b : List ℕ} (o : Sorts a b) (c : CanWrite names a) {n : ℕ} (z : Measures mostBytes (length (movedText spans names b)) n) {O : List ℕ} where
+-- A text that is measured within the limit has places that can be counted.
+pub within-counted : {t : List ℕ} {n : ℕ} → Measures mostBytes (length t) n → n ≤ mostBytes → Counted 0 t
+within-counted z h = record { below = omega (arith, so-long z h) }
+
+module _ (spans : Bool) (names : List (List ℕ)) {a b : List ℕ} (o : Sorts a b) (c : CanWrite names a) {n : ℕ} (z : Measures mostBytes (length (movedText spans names b)) n) where
   -- It is too long, there is too little room, or it is written.
-  pub too-long : mostBytes < n → WritesMoved spans names a O O (refused 20 0)
+  pub too-long : {O : List ℕ} → mostBytes < n → WritesMoved spans names a O O (refused 20 0)
   too-long h = too-large _ (moves-marks o spans c) (inl (too-much z h)) refl
 
-  pub too-little : n ≤ mostBytes → length O < n → WritesMoved spans names a O O (refused 20 0)
+  pub too-little : {O : List ℕ} → n ≤ mostBytes → length O < n → WritesMoved spans names a O O (refused 20 0)
   too-little h l = too-large _ (moves-marks o spans c) (inr (omega (arith, so-long z h))) refl
 
-  pub all-written : n ≤ mostBytes → n ≤ length O → {U : List ℕ} {u : ℕ} → WritesUpTo mostBytes (movedText spans names b) 0 O U u → WritesMoved spans names a O U (accepted n)
-  all-written h l {U} w =
+  pub all-written : {O : List ℕ} → n ≤ mostBytes → n ≤ length O → {U : List ℕ} {u : ℕ} → Wrote (movedText spans names b) 0 O U u → WritesMoved spans names a O U (accepted n)
+  all-written {O} h l {U} w =
       let e = so-long z h in
       subst (λ (k : ℕ). WritesMoved spans names a O U (accepted k)) (sym e)
-      (written _ (moves-marks o spans c) (omega arith) (omega arith) (in-front (w .whole (omega arith)) (omega arith)))
+      (written _ (moves-marks o spans c) (omega arith) (omega arith) (in-front w (omega arith)))
 
 -- ---- the numbers
 

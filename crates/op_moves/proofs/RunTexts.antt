@@ -1,24 +1,21 @@
 -- The text of a move, joined span by joined span; and of a span, reading by reading.
 -- Assumes nothing.
-use mathlib.Core.Path.{_≡_, refl, sym, ap, _∙_}
+use mathlib.Core.Path.{_≡_, refl, sym, ap, subst, _∙_}
 use mathlib.Core.Bool.{Bool, true, false}
 use mathlib.Core.List.{List, [], _∷_, _++_, append-nil, append-assoc, map, flatten}
 use Prim.Native.Nat.{ℕ, suc, _+_, _-_, _*_, _<_, _≤_}
 use native.Mathlib.Omega.{arith}
 use lib.ListN.{length, getD}
-use Rattle.spec_limits.specs.Limits.{mostBytes, mostNameBytes}
+use Rattle.spec_limits.specs.Limits.{mostNameBytes}
 use Rattle.spec_tilco.proofs.Lists.{all-nth}
 use Rattle.write_bytes.specs.Writes.{Counted, Wrote}
 use Rattle.read_reading.specs.Spans.{Span, span}
 use Rattle.read_readings.specs.SpanNumbers.{rowSpans, spanOf}
 use Rattle.write_readings.specs.EntryTexts.{entryText, entriesText}
-use Rattle.write_readings.proofs.Lengths.{entry-counted}
 use Rattle.join_spans.specs.Joining.{merged, singlesFrom, singles, allSingles, moveTo}
 use Rattle.join_spans.specs.Runs.{inRow, spansFrom, RunFrom}
 use Rattle.join_spans.proofs.RunSpans.{from-end}
 use Rattle.op_moves.specs.MovedText.{runEntries, movedText, Writable, CanWrite}
-use Rattle.op_moves.specs.UpTo.{WritesUpTo}
-use Rattle.op_moves.proofs.Progress.{whole-up-to}
 
 module _ (spans : Bool) (names : List (List ℕ)) where
   -- Entries one after the other.
@@ -85,26 +82,25 @@ unfolding singles
 all-singles names x v f l = refl
 
 -- The name of the span's signal is short.
-pub name-short : (names : List (List ℕ)) {used : ℕ} {e : Span} → Writable names used e → length (getD names (e .signal) []) ≤ mostNameBytes
-name-short names {e = e} w = all-nth (λ n. length n ≤ mostNameBytes) [] names (e .signal) (w .short) (w .signal)
+pub name-short : (names : List (List ℕ)) {e : Span} → Writable names e → length (getD names (e .signal) []) ≤ mostNameBytes
+name-short names {e} w = all-nth (λ n. length n ≤ mostNameBytes) [] names (e .signal) (w .short) (w .signal)
 
--- The places of an entry of the span's signal can be counted.
-pub can-count : (spans : Bool) (names : List (List ℕ)) (d : Span) {used at : ℕ} {e : Span} → Writable names used e → d .signal ≡ e .signal → at ≤ mostBytes → Counted at (entryText spans names d)
-can-count spans names d {e = e} w i h =
-    let l : length (getD names (d .signal) []) ≤ mostNameBytes = rw i (name-short names w) in
-    entry-counted spans names d (omega arith)
+-- A joined span is written as itself, or as its readings: the places of the one can be counted where those of the other can, and what is written is the same.
+module _ {spans : Bool} (names : List (List ℕ)) (e : Span) {b : ℕ} where
+  pub whole-counted : spans ≡ true → Counted b (entriesText spans names (runEntries spans e)) → Counted b (entryText true names e)
+  whole-counted h c = subst (Counted b) (rw (h, one-entry true names e)) c
 
--- What is written of a joined span: itself, or its readings.
-pub run-whole : {spans : Bool} (names : List (List ℕ)) (e : Span) {limit b u : ℕ} {m m₁ : List ℕ} → spans ≡ true → Wrote (entryText true names e) b m m₁ u
-    → WritesUpTo limit (entriesText spans names (runEntries spans e)) b m m₁ u
-run-whole names e h w = rw (h, one-entry true names e) (whole-up-to w)
+  pub whole-written : {u : ℕ} {m m₁ : List ℕ} → spans ≡ true → Wrote (entryText true names e) b m m₁ u → Wrote (entriesText spans names (runEntries spans e)) b m m₁ u
+  whole-written h w = rw (h, one-entry true names e) w
 
-pub run-singles : {spans : Bool} (names : List (List ℕ)) (e : Span) {limit b u : ℕ} {m m₁ : List ℕ} → spans ≡ false → WritesUpTo limit (entriesText false names (singles e)) b m m₁ u
-    → WritesUpTo limit (entriesText spans names (runEntries spans e)) b m m₁ u
-run-singles names e h w = rw h w
+  pub singles-counted : spans ≡ false → Counted b (entriesText spans names (runEntries spans e)) → Counted b (entriesText false names (singles e))
+  singles-counted h c = rw h at c
+
+  pub singles-written : {u : ℕ} {m m₁ : List ℕ} → spans ≡ false → Wrote (entriesText false names (singles e)) b m m₁ u → Wrote (entriesText spans names (runEntries spans e)) b m m₁ u
+  singles-written h w = rw h w
 
 -- A joined span can be written: its row is one of the signals'.
-pub run-writable : {names : List (List ℕ)} {a : List ℕ} {i row f l next used : ℕ} → CanWrite names a → i < length a → RunFrom a i row f l next → used ≤ mostBytes → Writable names used (inRow row f l)
-run-writable {names} {a} {i} c h r near =
+pub run-writable : {names : List (List ℕ)} {a : List ℕ} {i row f l next : ℕ} → CanWrite names a → i < length a → RunFrom a i row f l next → Writable names (inRow row f l)
+run-writable {names} {a} {i} c h r =
     let w = all-nth (λ v. v < 2 * rowSpans * length names) 0 a i (c .rows) h in
-    record { signal = omega (arith, r .row-is); short = c .short; start = r .start; ticks = r .tick; near = near }
+    record { signal = omega (arith, r .row-is); short = c .short; start = r .start; ticks = r .tick }

@@ -14,7 +14,7 @@ use Rattle.open_sheet.specs.Results.{Result, accepted, refused}
 use Rattle.write_readings.specs.EntryTexts.{entriesText}
 use Rattle.spec_moves.specs.InOrder.{Shaped, MovedTo}
 use Rattle.join_spans.specs.Joining.{singles, moveTo}
-use Rattle.op_moves.specs.UpTo.{Measures}
+use Rattle.op_moves.specs.Measures.{Measures}
 
 -- The entries of a joined span: itself, or its readings.
 abbrev pub runEntries : Bool → Span → List Span
@@ -25,13 +25,12 @@ runEntries false e = singles e
 abbrev pub movedText : Bool → List (List ℕ) → List ℕ → List ℕ
 movedText spans names a = entriesText spans names (moveTo spans (map spanOf a))
 
--- The entries of a span can be written from a place on: its signal has a name, which is short, and its ticks can be counted.
-pub record Writable (names : List (List ℕ)) (used : ℕ) (e : Span) : Type 0 where
+-- The entries of a span can be written: its signal has a name, which is short, and its ticks are those of some window.
+pub record Writable (names : List (List ℕ)) (e : Span) : Type 0 where
   pub signal : e .signal < length names
   pub short : All (λ w. length w ≤ mostNameBytes) names
   pub start : e .first < mostTicks
   pub ticks : e .last < mostTicks
-  pub near : used ≤ mostBytes
 
 -- From b on, the readings of any span with these ticks, and with a name of so many bytes, end at u; or they end past the limit, and u is past it too.
 abbrev pub SinglesLong : ℕ → ℕ → ℕ → ℕ → ℕ → Type 0

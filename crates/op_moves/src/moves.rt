@@ -1,5 +1,5 @@
 // The two moves: the sheet's and the text's refusals, then 20, or the text written. Assumes nothing.
-use crate::texts::moved_length;
+use crate::lengths::moved_length;
 use crate::texts::write_moved;
 use open_sheet::Opening;
 use open_sheet::open_sheet;

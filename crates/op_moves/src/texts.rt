@@ -1,24 +1,17 @@
-// The text that a move writes, from spans noted as numbers in ascending order, and its length. Each function stops once its text has passed
-// 32,768 bytes: a longer one is refused, and how long it would be is not asked. Assumes that the numbers are of the signals' rows, and that the
-// names are short.
+// The text that a move writes, from spans noted as numbers in ascending order. Assumes that the numbers are of the signals' rows, and that the places
+// of the text can be counted.
 use join_spans::Run;
 use join_spans::run_from;
-use spec_limits::BYTES;
-use write_readings::entry_length;
-use write_readings::name_length;
 use write_readings::write_entry;
 ghost use mathlib.Core.Bool.{false};
-ghost use Prim.Native.Nat.{_+_, _<_, _≤_};
-ghost use lib.ListN.{length};
 ghost use Rattle.read_names.specs.Spellings.{namesAt};
 ghost use Rattle.read_names.specs.Slices.{before, after, namesOf};
 ghost use Rattle.read_reading.specs.Spans.{span};
-ghost use Rattle.spec_limits.specs.Limits.{mostBytes, mostTicks, mostNameBytes};
 ghost use Rattle.join_spans.specs.Joining.{singles};
 ghost use Rattle.join_spans.specs.Runs.{inRow};
+ghost use Rattle.write_bytes.specs.Writes.{Counted, Wrote};
 ghost use Rattle.write_readings.specs.EntryTexts.{entriesText};
-ghost use Rattle.op_moves.specs.UpTo.{WritesUpTo, Measures};
-ghost use Rattle.op_moves.specs.MovedText.{Writable, SinglesLong, CanWrite, runEntries, movedText};
+ghost use Rattle.op_moves.specs.MovedText.{Writable, CanWrite, runEntries, movedText};
 
 // The readings of a row's span, one a tick.
 fn write_singles(
@@ -31,15 +24,12 @@ fn write_singles(
     out: &mut [u8],
     used: usize,
 ) -> usize
-    requires { ⌜ Writable (namesAt (now s) (now places)) used (span signal value first last) ⌝ }
-    ensures { λ r. ⌜ WritesUpTo mostBytes (entriesText false (namesOf s places) (singles (span signal value first last))) used (before out) (after out) r ⌝ }
+    requires { ⌜ Writable (namesAt (now s) (now places)) (span signal value first last) × Counted used (entriesText false (namesAt (now s) (now places)) (singles (span signal value first last))) ⌝ }
+    ensures { λ r. ⌜ Wrote (entriesText false (namesOf s places) (singles (span signal value first last))) used (before out) (after out) r ⌝ }
 {
     let mut at = used;
     let mut tick = first;
     while tick <= last {
-        if BYTES < at {
-            return at;
-        }
         at = write_entry(false, s, places, signal, value, tick, tick, out, at);
         tick += 1;
     }
@@ -57,8 +47,8 @@ fn write_run(
     out: &mut [u8],
     used: usize,
 ) -> usize
-    requires { ⌜ Writable (namesAt (now s) (now places)) used (inRow row first last) ⌝ }
-    ensures { λ r. ⌜ WritesUpTo mostBytes (entriesText spans (namesOf s places) (runEntries spans (inRow row first last))) used (before out) (after out) r ⌝ }
+    requires { ⌜ Writable (namesAt (now s) (now places)) (inRow row first last) × Counted used (entriesText spans (namesAt (now s) (now places)) (runEntries spans (inRow row first last))) ⌝ }
+    ensures { λ r. ⌜ Wrote (entriesText spans (namesOf s places) (runEntries spans (inRow row first last))) used (before out) (after out) r ⌝ }
 {
     let signal = row / 2;
     let value = row % 2 == 1;
@@ -71,15 +61,12 @@ fn write_run(
 
 // The text of the move: the joined spans of the numbers, one after the other.
 pub fn write_moved(spans: bool, s: &[u8], places: &[u64], noted: &[u32], out: &mut [u8]) -> usize
-    requires { ⌜ CanWrite (namesAt (now s) (now places)) (now noted) ⌝ }
-    ensures { λ r. ⌜ WritesUpTo mostBytes (movedText spans (namesOf s places) (now (noted .entry))) 0 (before out) (after out) r ⌝ }
+    requires { ⌜ CanWrite (namesAt (now s) (now places)) (now noted) × Counted 0 (movedText spans (namesAt (now s) (now places)) (now noted)) ⌝ }
+    ensures { λ r. ⌜ Wrote (movedText spans (namesOf s places) (now (noted .entry))) 0 (before out) (after out) r ⌝ }
 {
     let mut at = 0;
     let mut i = 0;
     while i < noted.len() {
-        if BYTES < at {
-            return at;
-        }
         let Run {
             row,
             first,
@@ -87,68 +74,6 @@ pub fn write_moved(spans: bool, s: &[u8], places: &[u64], noted: &[u32], out: &m
             next,
         } = run_from(noted, i);
         at = write_run(spans, s, places, row, first, last, out, at);
-        i = next;
-    }
-    at
-}
-
-// Where the readings of a row's span, one a tick, end if they start at `used`: their signal's name has `name` bytes.
-fn singles_length(name: usize, first: usize, last: usize, used: usize) -> usize
-    requires { ⌜ (name ≤ mostNameBytes) × (last < mostTicks) × (used ≤ mostBytes) ⌝ }
-    ensures { λ r. ⌜ SinglesLong name first last used r ⌝ }
-{
-    let end = last + 1;
-    let mut at = used;
-    let mut tick = first;
-    while tick < end {
-        if BYTES < at {
-            return at;
-        }
-        at += entry_length(false, name, tick, tick);
-        tick += 1;
-    }
-    at
-}
-
-// Where the entries of a joined span end if they start at `used`.
-fn run_length(
-    spans: bool,
-    s: &[u8],
-    places: &[u64],
-    row: usize,
-    first: usize,
-    last: usize,
-    used: usize,
-) -> usize
-    requires { ⌜ Writable (namesAt (now s) (now places)) used (inRow row first last) ⌝ }
-    ensures { λ r. ⌜ Measures mostBytes (used + length (entriesText spans (namesOf s places) (runEntries spans (inRow row first last)))) r ⌝ }
-{
-    let name = name_length(s, places, row / 2);
-    if spans {
-        used + entry_length(true, name, first, last)
-    } else {
-        singles_length(name, first, last, used)
-    }
-}
-
-// How long the text of the move is, or that it is over 32,768 bytes: the lengths of its entries, added up.
-pub fn moved_length(spans: bool, s: &[u8], places: &[u64], noted: &[u32]) -> usize
-    requires { ⌜ CanWrite (namesAt (now s) (now places)) (now noted) ⌝ }
-    ensures { λ r. ⌜ Measures mostBytes (length (movedText spans (namesOf s places) (now (noted .entry)))) r ⌝ }
-{
-    let mut at = 0;
-    let mut i = 0;
-    while i < noted.len() {
-        if BYTES < at {
-            return at;
-        }
-        let Run {
-            row,
-            first,
-            last,
-            next,
-        } = run_from(noted, i);
-        at = run_length(spans, s, places, row, first, last, at);
         i = next;
     }
     at

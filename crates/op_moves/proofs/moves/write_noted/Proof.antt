@@ -3,7 +3,7 @@ use borrow.Author.Needs.{needs}
 use native.Mathlib.Omega.{arith}
 use Rattle.read_names.proofs.Names.{names-many}
 use Rattle.op_moves.proofs.Noted.{can-write}
-use Rattle.op_moves.proofs.Outcomes.{too-long, too-little, all-written}
+use Rattle.op_moves.proofs.Outcomes.{within-counted, too-long, too-little, all-written}
 use Rattle.op_moves.proofs.moves.write_noted.Statement.{statement}
 use Rattle.op_moves.proofs.moves.write_noted.Tie as tie
 
@@ -45,9 +45,10 @@ returns-2 c =
 
 write-moved-requires : tie.Need-write-moved-requires
 write-moved-requires c κs =
-    let at-sort-below = c .before .before .before .before .before .before .before .before in
+    let at-moved-length = c .before .before .before .before in
+    let at-sort-below = at-moved-length .before .before .before .before in
     let start = at-sort-below .before .before .before .before .before .before in
-    can-write (at-sort-below .sort-below .ensures) (start .pre)
+    (can-write (at-sort-below .sort-below .ensures) (start .pre), within-counted (at-moved-length .moved-length .ensures) (c .before .before .before .if1 .left))
 
 same-length-3 : tie.Need-same-length-3
 same-length-3 c = search needs

@@ -1,21 +1,21 @@
--- `write_moved` meets its contract. The invariant: what the numbers before i are joined to is written, unless the limit is passed. Assumes nothing.
+-- `write_moved` meets its contract. The invariant: what the numbers before i are joined to is written. Assumes nothing.
 use denote.Ref.{now}
 use native.Mathlib.Omega.{arith}
 use Prim.Native.Nat.{_-_}
 use lib.ListN.{length}
-use Rattle.spec_limits.specs.Limits.{mostBytes}
 use Rattle.read_names.specs.Spellings.{namesAt}
+use Rattle.write_bytes.proofs.Writing.{as-long}
 use Rattle.join_spans.specs.Joining.{merged}
 use Rattle.join_spans.specs.Runs.{spansFrom}
 use Rattle.op_moves.specs.MovedText.{movedText}
-use Rattle.op_moves.proofs.Progress.{Progress, starts, goes-on, stops, ends}
+use Rattle.op_moves.proofs.Progress.{Progress, starts, counts, goes-on, ends}
 use Rattle.op_moves.proofs.RunTexts.{runsText, moved-runs, next-run, no-run, run-writable}
 use Rattle.op_moves.proofs.texts.write_moved.Statement.{statement}
 use Rattle.op_moves.proofs.texts.write_moved.Tie as tie
 
 abbrev Inv-loop : tie.InvT-loop
 Inv-loop spans s places noted out₀ at₀ i₀ out at i =
-    Progress mostBytes (movedText spans (namesAt s places) noted) (runsText spans (namesAt s places) (merged (spansFrom noted i))) 0 out₀ out at
+    Progress (movedText spans (namesAt s places) noted) (runsText spans (namesAt s places) (merged (spansFrom noted i))) 0 out₀ out at
 
 abbrev μ-loop : tie.MeasureT-loop
 μ-loop spans s places noted out₀ at₀ i₀ out at i = length noted - i
@@ -25,19 +25,13 @@ loop-holds c =
     let start = c .before .before .before .before in
     starts (moved-runs _ _ (now (start .args .noted)))
 
-same-length : tie.Need-same-length Inv-loop μ-loop
-same-length c = c .before .before .loop .inv .wrote .size
-
-returns : tie.Need-returns Inv-loop μ-loop
-returns c = stops (c .before .before .loop .inv) (c .if1 .taken)
-
 run-from-requires : tie.Need-run-from-requires Inv-loop μ-loop
-run-from-requires c κs = c .before .loop-test .taken
+run-from-requires c κs = c .loop-test .taken
 
 write-run-requires : tie.Need-write-run-requires Inv-loop μ-loop
 write-run-requires c κs =
-    let start = c .before .before .before .before .before .before .before .before .before in
-    run-writable (start .pre) (c .before .before .before .loop-test .taken) (c .before .run-from .ensures) (c .before .before .if1 .left)
+    let start = c .before .before .before .before .before .before .before .before in
+    (run-writable (start .pre .0) (c .before .before .loop-test .taken) (c .before .run-from .ensures), counts (c .before .before .before .loop .inv) (start .pre .1) _ (next-run _ _ (c .before .run-from .ensures)))
 
 loop-less : tie.Need-loop-less Inv-loop μ-loop
 loop-less c =
@@ -47,15 +41,14 @@ loop-less c =
 loop-again : tie.Need-loop-again Inv-loop μ-loop
 loop-again c =
     let at-run-from = c .before .before .before .before in
-    let at-if1 = at-run-from .before in
-    let at-loop = at-if1 .before .before in
-    goes-on (at-loop .loop .inv) (at-if1 .if1 .left) (next-run _ _ (at-run-from .run-from .ensures)) (c .before .before .write-run .ensures)
+    let at-loop = at-run-from .before .before in
+    goes-on (at-loop .loop .inv) (next-run _ _ (at-run-from .run-from .ensures)) (c .before .before .write-run .ensures)
 
-same-length-2 : tie.Need-same-length-2 Inv-loop μ-loop
-same-length-2 c = c .before .loop .inv .wrote .size
+same-length : tie.Need-same-length Inv-loop μ-loop
+same-length c = as-long (c .before .loop .inv .wrote)
 
-returns-2 : tie.Need-returns-2 Inv-loop μ-loop
-returns-2 c =
+returns : tie.Need-returns Inv-loop μ-loop
+returns c =
     let start = c .before .before .before .before .before .before in
     ends (c .before .loop .inv) (no-run _ _ (now (start .args .noted)) (c .before .loop .i) (omega arith))
 
@@ -66,11 +59,9 @@ write-moved-spec =
     Inv-loop
     μ-loop
     loop-holds
-    same-length
-    returns
     run-from-requires
     write-run-requires
     loop-less
     loop-again
-    same-length-2
-    returns-2)
+    same-length
+    returns)

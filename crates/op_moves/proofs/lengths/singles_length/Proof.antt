@@ -10,10 +10,10 @@ use Rattle.spec_limits.specs.Limits.{mostBytes}
 use Rattle.read_reading.specs.Spans.{span}
 use Rattle.write_readings.specs.EntryTexts.{entriesText}
 use Rattle.join_spans.specs.Joining.{singlesFrom, singles}
-use Rattle.op_moves.specs.UpTo.{Measures}
+use Rattle.op_moves.specs.Measures.{Measures}
 use Rattle.op_moves.proofs.Measured.{known-length, stops-adding, single-more, single-last}
-use Rattle.op_moves.proofs.texts.singles_length.Statement.{statement}
-use Rattle.op_moves.proofs.texts.singles_length.Tie as tie
+use Rattle.op_moves.proofs.lengths.singles_length.Statement.{statement}
+use Rattle.op_moves.proofs.lengths.singles_length.Tie as tie
 
 abbrev Inv-loop : tie.InvT-loop
 Inv-loop name first last used end at₀ tick₀ at tick =

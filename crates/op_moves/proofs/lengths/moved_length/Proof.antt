@@ -7,12 +7,12 @@ use Rattle.spec_limits.specs.Limits.{mostBytes}
 use Rattle.read_names.specs.Spellings.{namesAt}
 use Rattle.join_spans.specs.Joining.{merged}
 use Rattle.join_spans.specs.Runs.{spansFrom}
-use Rattle.op_moves.specs.UpTo.{Measures}
+use Rattle.op_moves.specs.Measures.{Measures}
 use Rattle.op_moves.specs.MovedText.{movedText}
 use Rattle.op_moves.proofs.RunTexts.{runsText, run-writable}
 use Rattle.op_moves.proofs.Measured.{stops-adding, runs-start, run-more, run-last}
-use Rattle.op_moves.proofs.texts.moved_length.Statement.{statement}
-use Rattle.op_moves.proofs.texts.moved_length.Tie as tie
+use Rattle.op_moves.proofs.lengths.moved_length.Statement.{statement}
+use Rattle.op_moves.proofs.lengths.moved_length.Tie as tie
 
 abbrev Inv-loop : tie.InvT-loop
 Inv-loop spans s places noted at₀ i₀ at i =
@@ -33,7 +33,7 @@ run-from-requires c κs = c .before .loop-test .taken
 run-length-requires : tie.Need-run-length-requires Inv-loop μ-loop
 run-length-requires c κs =
     let start = c .before .before .before .before .before .before .before in
-    run-writable (start .pre) (c .before .before .loop-test .taken) (c .run-from .ensures) (c .before .if1 .left)
+    (run-writable (start .pre) (c .before .before .loop-test .taken) (c .run-from .ensures), c .before .if1 .left)
 
 loop-less : tie.Need-loop-less Inv-loop μ-loop
 loop-less c = omega (arith, c .before .run-from .ensures .ahead, c .before .run-from .ensures .inside)
