@@ -1,4 +1,5 @@
-/* Mikhakun: check, add, ask and the moves between readings and spans, for C. Link target/staticlib/libc_api.a, which `rt staticlib c_api` proves and builds (x86-64 Linux).
+/* Mikhakun: check, add, ask and the moves between readings and spans, for C. Link target/staticlib/libc_api.a, which `rt staticlib c_api` proves and
+ * builds (x86-64 Linux).
  *
  * Each call answers 0, or the number of a refusal. `place` is written at a refusal only, the other results at acceptance only.
  * A refusal changes no word of the table and no byte of a buffer. Nothing is kept between calls but the table that you lend.

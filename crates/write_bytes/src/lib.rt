@@ -49,13 +49,13 @@ pub fn digits_of(n: usize) -> usize
     requires { ⌜ n < 10000 ⌝ }
     ensures { λ r. ⌜ r ≡ length (decimalText n) ⌝ }
 {
-    if n < 10 {
+    if n <= 9 {
         return 1;
     }
-    if n < 100 {
+    if n <= 99 {
         return 2;
     }
-    if n < 1000 {
+    if n <= 999 {
         return 3;
     }
     4
