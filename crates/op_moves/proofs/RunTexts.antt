@@ -12,6 +12,7 @@ use Rattle.write_bytes.specs.Writes.{Counted, Wrote}
 use Rattle.read_reading.specs.Spans.{Span, span}
 use Rattle.read_readings.specs.SpanNumbers.{rowSpans, spanOf}
 use Rattle.write_readings.specs.EntryTexts.{entryText, entriesText}
+use Rattle.write_readings.proofs.WholeTexts.{entries-more}
 use Rattle.join_spans.specs.Joining.{merged, singlesFrom, singles, allSingles, moveTo}
 use Rattle.join_spans.specs.Runs.{inRow, spansFrom, RunFrom}
 use Rattle.join_spans.proofs.RunSpans.{from-end}
@@ -19,10 +20,6 @@ use Rattle.op_moves.specs.MovedText.{runEntries, movedText, Writable, Ca
 
 module _ (spans : Bool) (names : List (List ℕ)) where
   -- Entries one after the other.
-  pub entries-cons : (e : Span) (es : List Span) → entriesText spans names (e ∷ es) ≡ entryText spans names e ++ entriesText spans names es
-  unfolding entriesText flatten
-  entries-cons e es = refl
-
   entries-append : (es ds : List Span) → entriesText spans names (es ++ ds) ≡ entriesText spans names es ++ entriesText spans names ds
   unfolding entriesText flatten
   entries-append [] ds = refl
@@ -71,15 +68,11 @@ pub next-single : (names : List (List ℕ)) (x : ℕ) (v : Bool) (t l : ℕ) →
 unfolding singlesFrom
 next-single names x v t l h =
     let n : l + 1 - t ≡ suc (l + 1 - (t + 1)) = omega arith in
-    rw n (entries-cons false names (span x v t t) (singlesFrom x v (t + 1) (l + 1 - (t + 1))))
+    rw n (entries-more false names (span x v t t) (singlesFrom x v (t + 1) (l + 1 - (t + 1))))
 
 pub no-single : (names : List (List ℕ)) (x : ℕ) (v : Bool) (t l : ℕ) → l < t → entriesText false names (singlesFrom x v t (l + 1 - t)) ≡ []
 unfolding singlesFrom entriesText flatten
 no-single names x v t l h = let n : l + 1 - t ≡ 0 = omega arith in rw n
-
-pub all-singles : (names : List (List ℕ)) (x : ℕ) (v : Bool) (f l : ℕ) → entriesText false names (singles (span x v f l)) ≡ entriesText false names (singlesFrom x v f (l + 1 - f))
-unfolding singles
-all-singles names x v f l = refl
 
 -- The name of the span's signal is short.
 pub name-short : (names : List (List ℕ)) {e : Span} → Writable names e → length (getD names (e .signal) []) ≤ mostNameBytes
