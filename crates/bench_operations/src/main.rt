@@ -18,6 +18,7 @@ use op_check::Checking;
 use op_check::check;
 use open_sheet::Opening;
 use open_sheet::open_sheet;
+use read_index::INDEX;
 use reading::read_sheet;
 use run_cases::print_number;
 use run_parts::TEXT;
@@ -27,7 +28,6 @@ use run_parts::read_text;
 use run_parts::times_asked;
 use spec_limits::BYTES;
 use spec_limits::ROWS;
-use spec_limits::SIGNALS;
 use spec_limits::TOPS;
 use table_facts::count_facts;
 use table_marks::TABLE_WORDS;
@@ -106,10 +106,10 @@ fn run_times(
 fn words_for(s: &[u8]) -> usize
     ensures { λ n. ⌜ n ≤ mostTableWords ⌝ }
 {
-    let mut places = [0u64; SIGNALS];
+    let mut names = [0u16; INDEX];
     let mut rows = [8u64; ROWS];
     let mut tops = [0u16; TOPS];
-    let o = open_sheet(s, &mut places, &mut rows, &mut tops);
+    let o = open_sheet(s, &mut names, &mut rows, &mut tops);
     match o {
         Opening::Sheet {
             window,

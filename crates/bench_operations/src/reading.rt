@@ -2,23 +2,24 @@
 use crate::answers::Answer;
 use read_head::Heading;
 use read_head::head;
+use read_index::INDEX;
+use read_index::LINKS;
 use read_parts::parts::Parsed;
 use read_sheet::rules::rule_line;
 use spec_limits::ARENA;
 use spec_limits::BYTES;
-use spec_limits::SIGNALS;
 ghost use Rattle.lower_lines.specs.InTurn.{Legible};
 
 // Reads the rules on the `m` lines from `first` on, up to the sheet's end, each into the same arena.
-fn read_lines(s: &[u8], places: &[u64], m: usize, first: usize) -> Answer
-    requires { ⌜ Legible (now s) (now places) m first ⌝ }
+fn read_lines(s: &[u8], names: &[u16], m: usize, first: usize) -> Answer
+    requires { ⌜ Legible (now s) (now names) m first ⌝ }
 {
     let mut arena = [0u16; ARENA];
     let mut i = 0;
     let mut place = first;
-    let mut row = places.len();
+    let mut row = names.len() - LINKS;
     while i < m {
-        let r = rule_line(s, places, &mut arena, place, row);
+        let r = rule_line(s, names, &mut arena, place, row);
         match r {
             Parsed::Got(next, _, below) => {
                 place = next;
@@ -39,15 +40,15 @@ pub fn read_sheet(s: &[u8]) -> Answer {
     if BYTES < s.len() {
         return Answer::Refused(1, 0);
     }
-    let mut places = [0u64; SIGNALS];
-    let h = head(s, &mut places);
+    let mut names = [0u16; INDEX];
+    let h = head(s, &mut names);
     match h {
         Heading::Lines {
             window: _,
             signals,
             rules,
             first,
-        } => read_lines(s, &places[..signals], rules, first),
+        } => read_lines(s, &names[..LINKS + signals], rules, first),
         Heading::Refused(n, p) => Answer::Refused(n, p),
     }
 }

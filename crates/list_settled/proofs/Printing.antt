@@ -1,6 +1,6 @@
 -- One add to a lent table, and its listing: what each step asks, and what is printed then.
 -- Assumes nothing.
-use mathlib.Core.Path.{_≡_, refl, sym, ap, ap₂, _∙_, subst}
+use mathlib.Core.Path.{_≡_, sym, ap, ap₂, _∙_, subst}
 use mathlib.Core.Bool.{Bool, true}
 use mathlib.Core.List.{List, _++_}
 use mathlib.Core.Logic.{_↔_}
@@ -186,8 +186,9 @@ module _ {s places : List ℕ} {w count : ℕ} (b : Begun s places w count) wher
 
 -- The sheet is opened: its table stands in the first words of the lent one, or that has too few.
 module _ {s places B tops : List ℕ} {w t count : ℕ} (y : OpenedSheet s places B tops w t count) (n : ℕ) (e : n ≡ words w) where
-  pub begun : Begun s places w count
-  begun = record { contents = y .contents; holds = y .holds; window-is = y .window-is; names-are = y .names-are; rows = y .rows }
+  -- with the names at the places that are lent for it
+  pub begun : {part : List ℕ} → part ≡ places → Begun s part w count
+  begun same = record { contents = y .contents; holds = y .holds; window-is = y .window-is; names-are = same ∙ y .names-are; rows = y .rows }
 
   same-table : 2 * count * n ≡ tableWords (meant (y .contents))
   same-table = ap₂ (λ (i m : ℕ). 2 * i * m) (y .rows) (e ∙ ap words (y .window-is))

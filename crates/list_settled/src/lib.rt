@@ -5,8 +5,9 @@ use op_add::Adding;
 use op_add::add;
 use open_sheet::Opening;
 use open_sheet::open_sheet;
+use read_index::INDEX;
+use read_index::LINKS;
 use spec_limits::ROWS;
-use spec_limits::SIGNALS;
 use spec_limits::TOPS;
 use table_facts::count_facts;
 use table_marks::words_of;
@@ -15,7 +16,7 @@ ghost use Rattle.list_settled.specs.Prints.{Begun, Lists, Prints, Writte
 // Adds the readings to the sheet's table, and writes the listing.
 fn settle_table(
     s: &[u8],
-    places: &[u64],
+    places: &[u16],
     window: usize,
     count: usize,
     readings: &[u8],
@@ -41,10 +42,10 @@ fn settle_table(
 pub fn settle(s: &[u8], readings: &[u8], table: &mut [u64], out: &mut [u8]) -> usize
     ensures { λ n. ⌜ Written (Prints (now (s .entry)) (now (readings .entry)) (now (table .entry)) (now (table .exit))) (now (out .entry)) (now (out .exit)) n ⌝ }
 {
-    let mut places = [0u64; SIGNALS];
+    let mut names = [0u16; INDEX];
     let mut rows = [8u64; ROWS];
     let mut tops = [0u16; TOPS];
-    let o = open_sheet(s, &mut places, &mut rows, &mut tops);
+    let o = open_sheet(s, &mut names, &mut rows, &mut tops);
     match o {
         Opening::Sheet {
             window,
@@ -58,7 +59,7 @@ pub fn settle(s: &[u8], readings: &[u8], table: &mut [u64], out: &mut [u8]) -> u
             }
             settle_table(
                 s,
-                &places[..signals],
+                &names[LINKS..LINKS + signals],
                 window,
                 count,
                 readings,

@@ -93,7 +93,7 @@ fn write_signal(
 // The lines of the signals with these numbers. The signals' names stand at these places of the text.
 pub fn write_signals(
     s: &[u8],
-    places: &[u64],
+    places: &[u16],
     signals: &[u64],
     window: usize,
     n: usize,

@@ -29,7 +29,7 @@ fn write_head(rows: usize, facts: usize, clash: bool, out: &mut [u8]) -> usize
 // The lines of all signals, in the order of their names. The list `order` is as long as they are many.
 fn write_by_name(
     s: &[u8],
-    places: &[u64],
+    places: &[u16],
     order: &mut [u64],
     window: usize,
     n: usize,
@@ -48,7 +48,7 @@ fn write_by_name(
 // The listing of a table of `n` words a row and value, by the signals' names, which stand at these places of the sheet text.
 pub fn write_listing(
     s: &[u8],
-    places: &[u64],
+    places: &[u16],
     window: usize,
     n: usize,
     table: &[u64],

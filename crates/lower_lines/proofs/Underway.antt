@@ -17,7 +17,7 @@ use Rattle.read_sheet.specs.RuleAnswers.{LineReady, RuleHeld, AllRules}
 use Rattle.read_head.proofs.Signals.{up-to}
 use Rattle.read_sheet.proofs.Ruled.{Passed, passed-none, passed-one, passed-all}
 use Rattle.read_bytes.specs.Read.{Read}
-use Rattle.read_names.specs.Spellings.{namesAt}
+use Rattle.read_index.specs.Index.{placesIn, nameCount, namesIn}
 use Rattle.lower_rule.specs.RuleRows.{Buffers, RuleIn, wholeAt, allLoweredSays}
 use Rattle.lower_rule.specs.declared.rules.AllLowered.{AllLowered}
 use Rattle.lower_rule.specs.declared.rules.AllLowered.the-variants.{Next}
@@ -39,18 +39,18 @@ module _ {a : List ℕ} {x : ℕ} {R : Read Written} {q u y : ℕ} (w : RuleHeld
   pub rule-in : RuleIn a (u - 1) (y - x)
   rule-in = record { stands = arena-fewer (u - 1 + 1) (omega (arith, w .some)) (w .arena); hidden = omega (arith, held-definings (w .held), w .next) }
 
--- The lines of rules that are to be read: the sheet's text, the places of its names, how many lines there are and where the first one
+-- The lines of rules that are to be read: the sheet's text, the index of its names, how many lines there are and where the first one
 -- starts; and where they are to be lowered: the first row, and the buffers.
 pub record Lines : Type 0 where
   pub text : List ℕ
-  pub places : List ℕ
+  pub index : List ℕ
   pub many : ℕ
   pub first : ℕ
   pub base : ℕ
   pub start : Buffers
 
 abbrev pub linesOf : List ℕ → List ℕ → ℕ → ℕ → ℕ → Buffers → Lines
-linesOf s ps m p b B = record { text = s; places = ps; many = m; first = p; base = b; start = B }
+linesOf s T m p b B = record { text = s; index = T; many = m; first = p; base = b; start = B }
 
 -- How far they are read: so many lines, up to a place, and the next hidden signal's row; and how far they are lowered.
 pub record State : Type 0 where
@@ -65,19 +65,19 @@ stateOf i p x r B = record { done = i; place = p; row = x; lowered = r; now = B 
 
 -- The rules that are read are ws, and they are lowered as far as there was room.
 pub record Underway (o : Lines) (z : State) (ws : List Written) : Type 0 where
-  pub passed : Passed (namesAt (o .text) (o .places)) (o .text) (o .many) (o .first) (z .done) (z .place) ws
-  pub row : z .row ≡ length (o .places) + total hiddens ws
+  pub passed : Passed (namesIn (o .text) (o .index)) (o .text) (o .many) (o .first) (z .done) (z .place) ws
+  pub row : z .row ≡ nameCount (o .index) + total hiddens ws
   pub long : length (z .now .rows) ≡ length (o .start .rows)
   pub wide : length (z .now .tops) ≡ length (o .start .tops)
-  pub tried : Tried (spelledAll ws (length (o .places))) (o .base) (o .start) (z .now) (allLoweredSays (z .lowered))
+  pub tried : Tried (spelledAll ws (nameCount (o .index))) (o .base) (o .start) (z .now) (allLoweredSays (z .lowered))
 
 module _ (o : Lines) where
   abbrev names : List (List ℕ)
-  names = namesAt (o .text) (o .places)
+  names = namesIn (o .text) (o .index)
 
   -- none is at first
   pub underway-none : o .first ≤ length (o .text) → o .base ≤ length (o .start .rows)
-      → Underway o (stateOf 0 (o .first) (length (o .places)) (Next 0 (o .base)) (o .start)) []
+      → Underway o (stateOf 0 (o .first) (nameCount (o .index)) (Next 0 (o .base)) (o .start)) []
   underway-none h k = record {
     passed = passed-none names (o .text) (o .many) (o .first) h;
     row = omega arith;
@@ -88,13 +88,13 @@ module _ (o : Lines) where
 
   module _ {z : State} {ws : List Written} (k : Underway o z ws) where
     -- the next line can be read
-    pub line-ready : Legible (o .text) (o .places) (o .many) (o .first) → (a : List ℕ) → length a ≡ arenaNumbers → LineReady (o .text) a (o .places) (z .place) (z .row)
+    pub line-ready : Legible (o .text) (o .index) (o .many) (o .first) → (a : List ℕ) → length a ≡ arenaNumbers → LineReady (o .text) a (o .index) (z .place) (z .row)
     line-ready g a e = record {
       within = k .passed .inside;
-      before = up-to (k .passed .ahead) (o .places) (g .before);
-      few = g .few;
+      before = up-to (k .passed .ahead) (placesIn (o .index)) (g .before);
+      index = g .index;
       room = omega (arith, e);
-      rows = omega (arith, k .row, k .passed .few, k .passed .most, g .few, g .most);
+      rows = omega (arith, k .row, k .passed .few, k .passed .most, g .index .few, g .most);
     }
 
     -- one more is read and lowered
@@ -102,7 +102,7 @@ module _ (o : Lines) where
         → length (B .rows) ≡ length (z .now .rows) → length (B .tops) ≡ length (z .now .tops) → Follows (wholeAt a (u - 1)) (z .now) B (z .lowered) r
         → Underway o (stateOf (z .done + 1) q y r B) (ws ++ (w .rule ∷ []))
     underway-one {a} {q} {u} h w r B e f follows =
-        let n : ℕ = length (o .places) in
+        let n : ℕ = nameCount (o .index) in
         let v : Written = w .rule in
         let t = total-append hiddens ws (v ∷ []) in
         let same : wholeAt a (u - 1) ≡ lows (spelled v (n + total hiddens ws)) = ap lows (held-spelled (w .held) ∙ ap (spelled v) (k .row)) in
@@ -117,7 +117,7 @@ module _ (o : Lines) where
 
     -- all are
     pub underway-all : o .many ≤ z .done
-        → RulesRead (rulesAt (o .text) (o .places) (o .many) (o .first)) (length (o .places)) (o .base) (o .start) (z .now) (lines.Read (z .row - length (o .places)) (z .place) (z .lowered))
+        → RulesRead (rulesAt (o .text) (o .index) (o .many) (o .first)) (nameCount (o .index)) (o .base) (o .start) (z .now) (lines.Read (z .row - nameCount (o .index)) (z .place) (z .lowered))
     underway-all h =
-        let w : AllRules (rulesAt (o .text) (o .places) (o .many) (o .first)) (z .row - length (o .places)) (z .place) = record { all = ws; reads = passed-all names (o .text) (o .many) (o .first) (k .passed) h; hidden = omega (arith, k .row) } in
+        let w : AllRules (rulesAt (o .text) (o .index) (o .many) (o .first)) (z .row - nameCount (o .index)) (z .place) = record { all = ws; reads = passed-all names (o .text) (o .many) (o .first) (k .passed) h; hidden = omega (arith, k .row) } in
         read w (k .tried)

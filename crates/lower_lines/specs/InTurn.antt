@@ -5,13 +5,13 @@ use mathlib.Core.Logic.{_⊎_}
 use mathlib.Core.List.{List, _++_}
 use Prim.Native.Nat.{ℕ, _+_, _<_, _≤_}
 use lib.ListN.{length}
-use Rattle.spec_limits.specs.Limits.{mostSignals, mostRules, mostRows, mostTops}
+use Rattle.spec_limits.specs.Limits.{mostRules, mostRows, mostTops}
 use Rattle.read_bytes.specs.Read.{Read}
 use Rattle.read_bytes.specs.Read.Read.{got, refused}
 use Rattle.spec_tilco.specs.Lists.{All, total, laid}
 use Rattle.spec_tilco.specs.Formula.{Written, hiddens, spelled}
 use Rattle.spec_tilco.specs.Lowering.{BTL, size, lows}
-use Rattle.read_names.specs.Spellings.{namesAt}
+use Rattle.read_index.specs.Index.{placesIn, namesIn, IndexOf}
 use Rattle.read_sheet.specs.Sheet.{rules}
 use Rattle.read_sheet.specs.RuleAnswers.{AllRules}
 use Rattle.lower_rule.specs.RuleRows.{Buffers, LowersAll, allLoweredSays}
@@ -22,15 +22,15 @@ use Rattle.lower_lines.specs.declared.RuleLines.{RuleLines}
 use Rattle.lower_lines.specs.declared.RuleLines.the-variants as lines
 
 -- The lines of m rules can be read from p on: the names stand before them.
-pub record Legible (s places : List ℕ) (m p : ℕ) : Type 0 where
+pub record Legible (s names : List ℕ) (m p : ℕ) : Type 0 where
   pub within : p ≤ length s
-  pub before : All (λ v. v ≤ p) places
-  pub few : length places ≤ mostSignals
+  pub before : All (λ v. v ≤ p) (placesIn names)
+  pub index : IndexOf s names
   pub most : m ≤ mostRules
 
--- What the m lines from p on hold, where the names are those at the places.
+-- What the m lines from p on hold, where the names are those of an index.
 abbrev pub rulesAt : List ℕ → List ℕ → ℕ → ℕ → Read (List Written)
-rulesAt s places m p = rules (namesAt s places) s m p
+rulesAt s names m p = rules (namesIn s names) s m p
 
 -- The buffers have a place for each row and for each top that a sheet may have.
 pub record FullSize (B : Buffers) : Type 0 where

@@ -1,13 +1,14 @@
 // The lines of a sheet's rules, each read into one arena and lowered with the defining rules of its hidden signals before the next is read.
-// Assumes that the head was accepted. The names are those at `places` of the sheet text `s`.
+// Assumes that the head was accepted. `names` is the index of the names in the sheet text `s`.
 use lower_rule::rules::AllLowered;
 use lower_rule::rules::lower_whole_rule;
+use read_index::LINKS;
 use read_parts::parts::Parsed;
 use read_sheet::rules::rule_line;
 use spec_limits::ARENA;
 ghost use Prim.Native.Nat.{_+_, _≤_};
-ghost use lib.ListN.{length};
 ghost use Rattle.spec_limits.specs.Limits.{mostHidden};
+ghost use Rattle.read_index.specs.Index.{nameCount};
 ghost use Rattle.lower_rule.specs.RuleRows.{buffers, RuleIn, wholeAt, allLoweredSays};
 ghost use Rattle.lower_lines.specs.InTurn.{Legible, rulesAt, FullSize, RoomIn, Follows, RulesRead};
 
@@ -47,26 +48,26 @@ fn lower_next(
 // read: a refusal of a later line comes before that of the sheet's size.
 pub fn read_rules(
     s: &[u8],
-    places: &[u64],
+    names: &[u16],
     m: usize,
     first: usize,
     hidden: usize,
     tops: &mut [u16],
     out: &mut [u64],
 ) -> RuleLines
-    requires { ⌜ Legible (now s) (now places) m first × (hidden ≤ mostHidden) ⌝ }
+    requires { ⌜ Legible (now s) (now names) m first × (hidden ≤ mostHidden) ⌝ }
     requires { ⌜ FullSize (buffers (now out) (now tops)) ⌝ }
-    ensures { λ r. ⌜ RulesRead (rulesAt (now (s .entry)) (now (places .entry)) m first) (length (now (places .entry))) (length (now (places .entry)) + hidden) (buffers (now (out .entry)) (now (tops .entry))) (buffers (now (out .exit)) (now (tops .exit))) r ⌝ }
+    ensures { λ r. ⌜ RulesRead (rulesAt (now (s .entry)) (now (names .entry)) m first) (nameCount (now (names .entry))) (nameCount (now (names .entry)) + hidden) (buffers (now (out .entry)) (now (tops .entry))) (buffers (now (out .exit)) (now (tops .exit))) r ⌝ }
 {
     let mut arena = [0u16; ARENA];
-    let signals = places.len();
+    let signals = names.len() - LINKS;
     let used = signals + hidden;
     let mut lowered = AllLowered::Next { at: 0, used };
     let mut i = 0;
     let mut place = first;
     let mut row = signals;
     while i < m {
-        let r = rule_line(s, places, &mut arena, place, row);
+        let r = rule_line(s, names, &mut arena, place, row);
         match r {
             Parsed::Got(next, nodes, below) => {
                 let node = nodes - 1;

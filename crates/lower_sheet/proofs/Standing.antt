@@ -10,7 +10,7 @@ use lib.ListN.{length, length-append, length-map}
 use Rattle.spec_limits.specs.Limits.{mostHidden, mostRows, mostTops}
 use Rattle.read_bytes.specs.Read.{Read}
 use Rattle.read_bytes.specs.Read.Read.{got, refused}
-use Rattle.read_names.specs.Spellings.{namesAt}
+use Rattle.read_index.specs.Index.{nameCount, namesIn}
 use Rattle.read_bytes.proofs.Answers.{same-value}
 use Rattle.spec_tilco.specs.Lists.{total, laid}
 use Rattle.spec_tilco.specs.Formula.{Written, hiddens, spelled}
@@ -62,17 +62,17 @@ when-not-read {R} {n} {b} {B} {B′} B″ x e = subst (RulesStand R n B″) (sym
 
 -- ---- the rules as they stand
 
-module _ (s places : List ℕ) (k first : ℕ) (g : Legible s places k first) where
+module _ (s T : List ℕ) (k first : ℕ) (g : Legible s T k first) where
   abbrev R : Read (List Written)
-  R = rulesAt s places k first
+  R = rulesAt s T k first
 
   abbrev n : ℕ
-  n = length places
+  n = nameCount T
 
   -- no room for the tops: there are too many hidden signals
   too-many : {h q : ℕ} (w : AllRules R h q) → mostTops < length (spelledAll (w .all) n) → mostHidden < h
   too-many w o =
-      omega (arith, o, tops-many (w .all) n, rules-many (namesAt s places) s k first (g .within) (w .reads), g .most, w .hidden)
+      omega (arith, o, tops-many (w .all) n, rules-many (namesIn s T) s k first (g .within) (w .reads), g .most, w .hidden)
 
   module _ (B B′ : Buffers) (a : Lent (B .rows) (B .tops)) where
     sized : {h q : ℕ} (w : AllRules R h q) → h ≤ mostHidden → (r : AllLowered) → Tried (spelledAll (w .all) n) (n + h) B B′ (allLoweredSays r) → FitOrOver (w .all) n h B′ (allLoweredSays r)

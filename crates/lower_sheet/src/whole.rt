@@ -5,7 +5,7 @@ use lower_lines::read_rules;
 use lower_rows::words::SIGNAL;
 use lower_rule::rules::AllLowered;
 use spec_limits::HIDDEN;
-ghost use lib.ListN.{length};
+ghost use Rattle.read_index.specs.Index.{nameCount};
 ghost use Rattle.lower_rows.specs.RowCodes.{Blank};
 ghost use Rattle.lower_rule.specs.RuleRows.{buffers};
 ghost use Rattle.lower_lines.specs.InTurn.{Legible, rulesAt};
@@ -25,17 +25,17 @@ fn blank_rows(out: &mut [u64])
 // The rules on the `m` lines from `first` on: what they hold, their rows and their tops.
 pub fn lower_rules(
     s: &[u8],
-    places: &[u64],
+    names: &[u16],
     m: usize,
     first: usize,
     tops: &mut [u16],
     out: &mut [u64],
 ) -> RuleLines
-    requires { ⌜ Legible (now s) (now places) m first × Lent (now out) (now tops) ⌝ }
-    ensures { λ r. ⌜ RulesStand (rulesAt (now (s .entry)) (now (places .entry)) m first) (length (now (places .entry))) (buffers (now (out .exit)) (now (tops .exit))) r ⌝ }
+    requires { ⌜ Legible (now s) (now names) m first × Lent (now out) (now tops) ⌝ }
+    ensures { λ r. ⌜ RulesStand (rulesAt (now (s .entry)) (now (names .entry)) m first) (nameCount (now (names .entry))) (buffers (now (out .exit)) (now (tops .exit))) r ⌝ }
 {
     let guess = guess_hidden(s, first);
-    let r = read_rules(s, places, m, first, guess, tops, out);
+    let r = read_rules(s, names, m, first, guess, tops, out);
     let RuleLines::Read {
         hidden,
         end,
@@ -55,5 +55,5 @@ pub fn lower_rules(
         };
     }
     blank_rows(out);
-    read_rules(s, places, m, first, hidden, tops, out)
+    read_rules(s, names, m, first, hidden, tops, out)
 }

@@ -1,14 +1,15 @@
 -- Each answer of add, with the sheet and the table at hand, and what closing needs of them.
 -- Assumes nothing.
-use mathlib.Core.Path.{_≡_, refl, _∙_}
+use mathlib.Core.Path.{_≡_, refl, sym, ap, subst, _∙_}
 use mathlib.Core.Bool.{Bool, true}
 use mathlib.Core.List.{List}
 use mathlib.Core.Logic.{_↔_}
-use Prim.Native.Nat.{ℕ, _-_, _*_, _≤_, _<_}
+use Prim.Native.Nat.{ℕ, _-_, _*_, _^_, _≤_, _<_}
 use native.Mathlib.Omega.{arith}
-use lib.ListN.{length, getD}
+use lib.ListN.{length, getD, length-drop}
 use Rattle.read_bytes.specs.Read.Read.{got, refused as unread}
 use Rattle.read_names.specs.Spellings.{namesAt}
+use Rattle.read_index.specs.Index.{links, placesIn, nameCount}
 use Rattle.spec_ticks.specs.Ticks.{Small}
 use Rattle.spec_tilco.specs.Inference.{Clash}
 use Rattle.spec_tilco.specs.Lowering.{program}
@@ -32,7 +33,18 @@ use Rattle.open_table.specs.OpenedTable.{OpenedTable}
 use Rattle.spec_operations.specs.Operations.{Adds}
 use Rattle.op_add.specs.WorkLists.{ListFor}
 use Rattle.spec_operations.specs.Operations.Adds.{not-read, added}
-use Rattle.spec_operations.proofs.Opened.{known, to-contents, some-words, table-inside, some-window, table-length, signals-few}
+use Rattle.spec_operations.proofs.Opened.{known, to-contents, some-words, table-inside, some-window, table-length, signals-few, signals-fit}
+
+-- The names of an index are as many as its places: the table has their rows, and what is counted of them is what is counted of the places.
+module _ (names : List ℕ) {s T B tops : List ℕ} {w t count : ℕ} (h : OpenedTable s T (placesIn names) B tops w t count) (n : ℕ) (e : n ≡ words w) where
+  pub names-fit : (1 ≤ n) × (2 * nameCount names * n ≤ length T) × (2 * nameCount names * n < 2 ^ 32)
+  names-fit =
+      let fit = signals-fit h n e in
+      let many = length-drop links names in
+      (some-words h n e .some, subst (λ (k : ℕ). 2 * k * n ≤ length T) many (fit .0), subst (λ (k : ℕ). 2 * k * n < 2 ^ 32) many (fit .1))
+
+pub as-facts : {x : ℕ} (n : ℕ) (names U : List ℕ) → x ≡ facts n (nameCount names) U → x ≡ facts n (length (placesIn names)) U
+as-facts n names U e = e ∙ ap (λ (k : ℕ). facts n k U) (sym (length-drop links names))
 
 module _ {s T places B tops : List ℕ} {w t count : ℕ} (h : OpenedTable s T places B tops w t count) (n : ℕ) (e : n ≡ words w) where
   abbrev k : OpenedSheet s places B tops w t count

@@ -2,10 +2,11 @@
 use close_table::tops::close_with_tops;
 use open_sheet::Opening;
 use open_table::open_table;
+use read_index::INDEX;
+use read_index::LINKS;
 use read_readings::whole::Outcome;
 use read_readings::whole::take_readings;
 use spec_limits::ROWS;
-use spec_limits::SIGNALS;
 use spec_limits::TOPS;
 use table_facts::clash_in;
 use table_facts::count_facts;
@@ -14,6 +15,7 @@ use table_marks::words_of;
 ghost use lib.ListN.{length};
 ghost use Rattle.op_add.specs.AddingSays.{addingSays};
 ghost use Rattle.op_add.specs.WorkLists.{ListFor};
+ghost use Rattle.read_index.specs.Index.{placesIn, IndexOf};
 ghost use Rattle.open_table.specs.OpenedTable.{OpenedTable};
 ghost use Rattle.spec_operations.specs.Operations.{Adds};
 
@@ -35,7 +37,7 @@ pub enum Adding {
 // Adds the readings to a table that was compared with the sheet.
 fn add_opened(
     s: &[u8],
-    places: &[u64],
+    names: &[u16],
     rows: &[u64],
     count: usize,
     tops: &[u16],
@@ -45,14 +47,14 @@ fn add_opened(
     todo: &mut [u64],
     table: &mut [u64],
 ) -> Adding
-    requires { ⌜ OpenedTable (now s) (now table) (now places) (now rows) (now tops) window k count ⌝ }
+    requires { ⌜ OpenedTable (now s) (now table) (placesIn (now names)) (now rows) (now tops) window k count × IndexOf (now s) (now names) ⌝ }
     requires { ⌜ ListFor (length (now table)) (length (now todo)) ⌝ }
     ensures { λ r. ⌜ Adds (now (s .entry)) (now (readings .entry)) (now (table .entry)) (now (table .exit)) (addingSays r) ⌝ }
 {
     let n = words_of(window);
-    let signals = places.len();
+    let signals = names.len() - LINKS;
     let before = count_facts(table, n, signals);
-    let r = take_readings(s, places, window, n, readings, table);
+    let r = take_readings(s, names, window, n, readings, table);
     match r {
         Outcome::Accepted => {
             close_with_tops(rows, count, tops, k, n, window, todo, table);
@@ -70,10 +72,10 @@ fn add_with(s: &[u8], readings: &[u8], todo: &mut [u64], table: &mut [u64]) -> A
     requires { ⌜ ListFor (length (now table)) (length (now todo)) ⌝ }
     ensures { λ r. ⌜ Adds (now (s .entry)) (now (readings .entry)) (now (table .entry)) (now (table .exit)) (addingSays r) ⌝ }
 {
-    let mut places = [0u64; SIGNALS];
+    let mut names = [0u16; INDEX];
     let mut rows = [8u64; ROWS];
     let mut tops = [0u16; TOPS];
-    let o = open_table(s, &mut places, &mut rows, &mut tops, table);
+    let o = open_table(s, &mut names, &mut rows, &mut tops, table);
     match o {
         Opening::Sheet {
             window,
@@ -82,7 +84,7 @@ fn add_with(s: &[u8], readings: &[u8], todo: &mut [u64], table: &mut [u64]) -> A
             count,
         } => add_opened(
             s,
-            &places[..signals],
+            &names[..LINKS + signals],
             &rows,
             count,
             &tops,

@@ -1,8 +1,8 @@
 // ask: what the lent table says of a signal at a tick. Assumes nothing.
 use open_sheet::Opening;
 use open_table::open_table;
+use read_index::INDEX;
 use spec_limits::ROWS;
-use spec_limits::SIGNALS;
 use spec_limits::TOPS;
 use table_facts::clash_in;
 use table_marks::Value;
@@ -21,10 +21,10 @@ pub enum Asking {
 pub fn ask(s: &[u8], table: &[u64], signal: usize, tick: usize) -> Asking
     ensures { λ r. ⌜ Asks (now (s .entry)) (now (table .entry)) signal tick (askingSays r) ⌝ }
 {
-    let mut places = [0u64; SIGNALS];
+    let mut names = [0u16; INDEX];
     let mut rows = [8u64; ROWS];
     let mut tops = [0u16; TOPS];
-    let o = open_table(s, &mut places, &mut rows, &mut tops, table);
+    let o = open_table(s, &mut names, &mut rows, &mut tops, table);
     match o {
         Opening::Sheet {
             window,

@@ -1,8 +1,8 @@
 // check: the sheet's row count, or a refusal. Assumes nothing.
 use open_sheet::Opening;
 use open_sheet::open_sheet;
+use read_index::INDEX;
 use spec_limits::ROWS;
-use spec_limits::SIGNALS;
 use spec_limits::TOPS;
 ghost use mathlib.Core.Path.{_≡_};
 ghost use Rattle.op_check.specs.CheckingSays.{checkingSays};
@@ -18,10 +18,10 @@ pub enum Checking {
 pub fn check(s: &[u8]) -> Checking
     ensures { λ r. ⌜ checkingSays r ≡ checked (now (s .entry)) ⌝ }
 {
-    let mut places = [0u64; SIGNALS];
+    let mut names = [0u16; INDEX];
     let mut rows = [8u64; ROWS];
     let mut tops = [0u16; TOPS];
-    let o = open_sheet(s, &mut places, &mut rows, &mut tops);
+    let o = open_sheet(s, &mut names, &mut rows, &mut tops);
     match o {
         Opening::Sheet {
             window: _,

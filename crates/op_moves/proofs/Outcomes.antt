@@ -19,6 +19,7 @@ use Rattle.read_head.proofs.DeclaredNames.{head-names}
 use Rattle.read_sheet.proofs.Wholes.{sheet-head}
 use Rattle.read_reading.specs.Spans.{Span, marksOfAll}
 use Rattle.read_reading.proofs.Lines.{Within}
+use Rattle.read_index.specs.Index.{IndexOf}
 use Rattle.read_readings.specs.Readings.{entries, readings}
 use Rattle.read_readings.specs.SpanNumbers.{rowSpans, spanOf, spansIn, CanNote}
 use Rattle.read_readings.proofs.Turns.{readings-are, readings-off}
@@ -96,11 +97,11 @@ module _ {s places : List ℕ} {window : ℕ} (k : Opened s places window) where
   of-contents : (F : List ℕ → Type 0) → F (k .contents .places) → F places
   of-contents F x = subst F (sym (k .names-are)) x
 
-  pub can-note : (a : List ℕ) → mostReadings ≤ length a → CanNote places window a
-  can-note a h = record {
+  pub can-note : {names : List ℕ} → IndexOf s names → (a : List ℕ) → mostReadings ≤ length a → CanNote s names window a
+  can-note index a h = record {
+    index = index;
     some = omega (arith, known .sizes .window-low, k .window-is);
     ticks = omega (arith, known .sizes .window-high, k .window-is);
-    signals = of-contents (λ (p : List ℕ). length p ≤ mostSignals) (known .sizes .signals-high);
     room = h;
   }
 
@@ -110,10 +111,9 @@ module _ {s places : List ℕ} {window : ℕ} (k : Opened s places window) where
     readings-refused {n = n} {p = p} e = not-read (k .holds) (to-contents (λ l w. readings (namesAt s l) w r ≡ unread n p) (readings-off (namesAt s places) window r e)) refl
 
     module _ {a : List ℕ} {count q : ℕ} (y : Noted-as (entries (namesAt s places) window r) a count q) where
-      -- or their entries can be written,
-      pub noted-writable : CanWrite (namesAt s places) (take count a)
+      writable : CanWrite (namesAt s places) (take count a)
       unfolding spansIn
-      noted-writable =
+      writable =
           let w = entries-within (namesAt s places) window r (omega (arith, known .sizes .window-low, k .window-is)) (y .all) in
           record {
             few = omega (arith, names-many s places, of-contents (λ (p : List ℕ). length p ≤ mostSignals) (known .sizes .signals-high));
@@ -121,6 +121,10 @@ module _ {s places : List ℕ} {window : ℕ} (k : Opened s places window) where
             shaped = all-shaped (length (namesAt s places)) window (map spanOf (take count a)) w;
             short = of-contents (λ (p : List ℕ). All (λ w. length w ≤ mostNameBytes) (namesAt s p)) (head-names s (sheet-head s (known .reads) .2) .short);
           }
+
+      -- or their entries can be written, with the places that are lent for it,
+      pub noted-writable : {part : List ℕ} → part ≡ places → CanWrite (namesAt s part) (take count a)
+      noted-writable e = subst (λ (p : List ℕ). CanWrite (namesAt s p) (take count a)) (sym e) writable
 
       whole-text : (spans : Bool) (es : List Span) → MovedTo spans (marksOfAll (map spanOf (take count a))) es → Written spans s r (entriesText spans (namesAt s places) es)
       unfolding spansIn
@@ -135,7 +139,10 @@ module _ {s places : List ℕ} {window : ℕ} (k : Opened s places window) where
         text = ap (λ (p : List ℕ). entriesText spans (namesAt s p) es) (k .names-are);
       }
 
+      promised : {spans : Bool} {O U : List ℕ} {x : Result ℕ} → WritesMoved spans (namesAt s places) (take count a) O U x → Moves spans s r O U x
+      promised {spans} (too-large es m h e) = no-room (whole-text spans es m) h e
+      promised {spans} (written es m h l e) = moved (whole-text spans es m) h l e
+
       -- and what is written of them is what the move promises.
-      pub as-moved : {spans : Bool} {O U : List ℕ} {x : Result ℕ} → WritesMoved spans (namesAt s places) (take count a) O U x → Moves spans s r O U x
-      as-moved {spans} (too-large es m h e) = no-room (whole-text spans es m) h e
-      as-moved {spans} (written es m h l e) = moved (whole-text spans es m) h l e
+      pub as-moved : {spans : Bool} {part O U : List ℕ} {x : Result ℕ} → part ≡ places → WritesMoved spans (namesAt s part) (take count a) O U x → Moves spans s r O U x
+      as-moved {spans} {part} {O} {U} {x} e w = promised (subst (λ (p : List ℕ). WritesMoved spans (namesAt s p) (take count a) O U x) e w)

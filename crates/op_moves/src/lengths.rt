@@ -37,7 +37,7 @@ fn singles_length(name: usize, first: usize, last: usize, used: usize) -> usize
 fn run_length(
     spans: bool,
     s: &[u8],
-    places: &[u64],
+    places: &[u16],
     row: usize,
     first: usize,
     last: usize,
@@ -55,7 +55,7 @@ fn run_length(
 }
 
 // How long the text of the move is, or that it is over 32,768 bytes: the lengths of its entries, added up.
-pub fn moved_length(spans: bool, s: &[u8], places: &[u64], noted: &[u32]) -> usize
+pub fn moved_length(spans: bool, s: &[u8], places: &[u16], noted: &[u32]) -> usize
     requires { ⌜ CanWrite (namesAt (now s) (now places)) (now noted) ⌝ }
     ensures { λ r. ⌜ Measures mostBytes (length (movedText spans (namesOf s places) (now (noted .entry)))) r ⌝ }
 {

@@ -3,6 +3,8 @@ use crate::lengths::moved_length;
 use crate::texts::write_moved;
 use open_sheet::Opening;
 use open_sheet::open_sheet;
+use read_index::INDEX;
+use read_index::LINKS;
 use read_lines::Step;
 use read_readings::noted::ROW_SPANS;
 use read_readings::whole::note_entries;
@@ -10,13 +12,13 @@ use sort_numbers::sort_below;
 use spec_limits::BYTES;
 use spec_limits::READINGS;
 use spec_limits::ROWS;
-use spec_limits::SIGNALS;
 use spec_limits::TOPS;
 ghost use mathlib.Core.Bool.{true, false};
 ghost use Rattle.read_names.specs.Spellings.{namesAt};
 ghost use Rattle.read_names.specs.Slices.{before, after, namesOf};
 ghost use Rattle.spec_moves.specs.Moves.{Moves};
 ghost use Rattle.op_moves.specs.MovedText.{CanWrite, WritesMoved};
+ghost use Rattle.read_index.specs.Index.{placesIn, IndexOf};
 ghost use Rattle.op_moves.specs.MovingSays.{movingSays, Opened};
 
 // How long the written text is, or a refusal's number and place.
@@ -26,7 +28,7 @@ pub enum Moving {
 }
 
 // Writes the text of the move, if it is short enough and there is room for it. It is measured first, so that a refusal writes nothing.
-fn write_noted(spans: bool, s: &[u8], places: &[u64], noted: &mut [u32], out: &mut [u8]) -> Moving
+fn write_noted(spans: bool, s: &[u8], places: &[u16], noted: &mut [u32], out: &mut [u8]) -> Moving
     requires { ⌜ CanWrite (namesAt (now s) (now places)) (now noted) ⌝ }
     ensures { λ r. ⌜ WritesMoved spans (namesOf s places) (before noted) (before out) (after out) (movingSays r) ⌝ }
 {
@@ -46,18 +48,18 @@ fn write_noted(spans: bool, s: &[u8], places: &[u64], noted: &mut [u32], out: &m
 fn move_opened(
     spans: bool,
     s: &[u8],
-    places: &[u64],
+    names: &[u16],
     window: usize,
     readings: &[u8],
     out: &mut [u8],
 ) -> Moving
-    requires { ⌜ Opened (now s) (now places) window ⌝ }
+    requires { ⌜ Opened (now s) (placesIn (now names)) window × IndexOf (now s) (now names) ⌝ }
     ensures { λ r. ⌜ Moves spans (before s) (before readings) (before out) (after out) (movingSays r) ⌝ }
 {
     let mut noted = [1u32; READINGS];
-    let c = note_entries(s, places, window, readings, &mut noted);
+    let c = note_entries(s, names, window, readings, &mut noted);
     match c {
-        Step::Got(count, _) => write_noted(spans, s, places, &mut noted[..count], out),
+        Step::Got(count, _) => write_noted(spans, s, &names[LINKS..], &mut noted[..count], out),
         Step::Refused(n, p) => Moving::Refused(n, p),
     }
 }
@@ -66,17 +68,17 @@ fn move_opened(
 fn move_readings(spans: bool, s: &[u8], readings: &[u8], out: &mut [u8]) -> Moving
     ensures { λ r. ⌜ Moves spans (before s) (before readings) (before out) (after out) (movingSays r) ⌝ }
 {
-    let mut places = [0u64; SIGNALS];
+    let mut names = [0u16; INDEX];
     let mut rows = [8u64; ROWS];
     let mut tops = [0u16; TOPS];
-    let o = open_sheet(s, &mut places, &mut rows, &mut tops);
+    let o = open_sheet(s, &mut names, &mut rows, &mut tops);
     match o {
         Opening::Sheet {
             window,
             signals,
             tops: _,
             count: _,
-        } => move_opened(spans, s, &places[..signals], window, readings, out),
+        } => move_opened(spans, s, &names[..LINKS + signals], window, readings, out),
         Opening::Refused(n, p) => Moving::Refused(n, p),
     }
 }

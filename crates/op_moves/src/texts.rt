@@ -16,7 +16,7 @@ ghost use Rattle.op_moves.specs.MovedText.{Writable, CanWrite, runEntrie
 // The readings of a row's span, one a tick.
 fn write_singles(
     s: &[u8],
-    places: &[u64],
+    places: &[u16],
     signal: usize,
     value: bool,
     first: usize,
@@ -40,7 +40,7 @@ fn write_singles(
 fn write_run(
     spans: bool,
     s: &[u8],
-    places: &[u64],
+    places: &[u16],
     row: usize,
     first: usize,
     last: usize,
@@ -60,7 +60,7 @@ fn write_run(
 }
 
 // The text of the move: the joined spans of the numbers, one after the other.
-pub fn write_moved(spans: bool, s: &[u8], places: &[u64], noted: &[u32], out: &mut [u8]) -> usize
+pub fn write_moved(spans: bool, s: &[u8], places: &[u16], noted: &[u32], out: &mut [u8]) -> usize
     requires { ⌜ CanWrite (namesAt (now s) (now places)) (now noted) × Counted 0 (movedText spans (namesAt (now s) (now places)) (now noted)) ⌝ }
     ensures { λ r. ⌜ Wrote (movedText spans (namesOf s places) (now (noted .entry))) 0 (before out) (after out) r ⌝ }
 {

@@ -8,9 +8,9 @@ use Prim.Native.Nat.{ℕ, zero, suc, _+_, _≤_, _<_}
 use native.Mathlib.Omega.{arith}
 use borrow.Author.Tests.{le-leb, lt-leb}
 use lib.Dec.{leb}
-use lib.ListN.{length, getD, take, drop, List·getD-append}
-use lib.Seq.{sets, sets-eq, length-take-le}
-use Rattle.spec_limits.specs.Limits.{mostBytes, mostSignals, mostHidden, mostRows}
+use lib.ListN.{length, getD, drop, length-drop, List·getD-append}
+use lib.Seq.{sets, sets-eq}
+use Rattle.spec_limits.specs.Limits.{mostBytes, mostHidden, mostRows}
 use Rattle.read_bytes.specs.Read.Read.{got, refused as unread}
 use Rattle.read_names.specs.Spellings.{namesAt}
 use Rattle.spec_tilco.specs.Lists.{total}
@@ -18,7 +18,8 @@ use Rattle.spec_tilco.specs.Formula.{stepOf, hiddens, Sheet, signalRows, formul
 use Rattle.spec_tilco.specs.Inference.{Node, signal, notOf, gate, look, node}
 use Rattle.spec_tilco.specs.Lowering.{lows, topsAll, program, rowCount}
 use Rattle.spec_tilco.proofs.Order.{Ordered, LooksWithin, row-count, children-before, looks-within}
-use Rattle.read_head.specs.SheetHead.{headOf, head, Sizes, Headed}
+use Rattle.read_index.specs.Index.{links, nameCount, firstNames}
+use Rattle.read_head.specs.SheetHead.{headOf, head, firstPlaces, NamesPut, Sizes, Headed}
 use Rattle.read_sheet.specs.Sheet.{rules, Contents, contents, sheetOf, meant, near}
 use Rattle.read_sheet.specs.RuleAnswers.{AllRules}
 use Rattle.read_head.specs.declared.Heading.{Heading}
@@ -33,7 +34,7 @@ use Rattle.lower_rule.specs.declared.rules.AllLowered.{AllLowered}
 use Rattle.lower_rule.specs.declared.rules.AllLowered.the-variants.{Next}
 use Rattle.lower_rule.proofs.InTurn.{tops-length, went-all}
 use Rattle.lower_rule.proofs.Sheets.{sheet-used, sheet-row}
-use Rattle.lower_lines.specs.InTurn.{Legible}
+use Rattle.lower_lines.specs.InTurn.{Legible, rulesAt}
 use Rattle.lower_sheet.specs.SheetRows.{InPlace, RulesStand}
 use Rattle.lower_lines.specs.declared.RuleLines.{RuleLines}
 use Rattle.lower_lines.specs.declared.RuleLines.the-variants as lines
@@ -107,31 +108,32 @@ module _ (s : Sheet) (B B′ : Buffers) (at used : ℕ) (w : LowersAll (lows (fo
 
 -- ---- all of it
 
--- The text is not too long, and its head was read: the window w, n signals whose names' places are the table's first numbers, m rules, and
--- the place p of the first one's line.
+-- The text is not too long, and its head was read: the window w, n signals whose names stand in the index T, m rules, and the place p of the first
+-- one's line.
 pub record Begun (s T : List ℕ) (w n m p : ℕ) : Type 0 where
   pub short : length s ≤ mostBytes
-  pub table : length T ≡ mostSignals
+  pub put : NamesPut s T n
   pub sizes : Sizes w n m
-  pub head-is : head s ≡ got (headOf w (take n T) m) p
+  pub head-is : head s ≡ got (headOf w (firstPlaces n T) m) p
 
-pub begun : {s T : List ℕ} {r : Heading} {w n m p : ℕ} → Headed s T r → r ≡ heading.Lines w n m p → length s ≤ mostBytes → length T ≡ mostSignals → Begun s T w n m p
-begun x e l k = let h = when-headed x e in record { short = l; table = k; sizes = h .1; head-is = h .0 }
+pub begun : {s T : List ℕ} {r : Heading} {w n m p : ℕ} → Headed s T r → r ≡ heading.Lines w n m p → length s ≤ mostBytes → Begun s T w n m p
+begun x e l = let h = when-headed x e in record { short = l; put = h .2; sizes = h .1; head-is = h .0 }
 
 module _ {s T : List ℕ} {w n m p : ℕ} (o : Begun s T w n m p) where
   abbrev places : List ℕ
-  places = take n T
-
-  pub places-long : length places ≡ n
-  places-long = length-take-le n T (omega (arith, o .table, o .sizes .signals-high))
+  places = firstPlaces n T
 
   -- the rules' lines can be read
-  pub legible : Legible s places m p
+  pub legible : Legible s (firstNames n T) m p
   legible =
       let a = head-past s (o .head-is) in
-      record { within = a .inside; before = a .before; few = omega (arith, places-long, o .sizes .signals-high); most = o .sizes .rules-high }
+      record { within = a .inside; before = a .before; index = o .put .index; most = o .sizes .rules-high }
 
-  module _ {B ts : List ℕ} {r : RuleLines} (x : RulesStand (rules (namesAt s places) s m p) (length places) (buffers B ts) r) where
+  module _ {B ts : List ℕ} {r : RuleLines} (y : RulesStand (rulesAt s (firstNames n T) m p) (nameCount (firstNames n T)) (buffers B ts) r) where
+    -- as many names as places
+    x : RulesStand (rules (namesAt s places) s m p) (length places) (buffers B ts) r
+    x = subst (λ (i : ℕ). RulesStand (rules (namesAt s places) s m p) i (buffers B ts) r) (sym (length-drop links (firstNames n T))) y
+
     -- a rule is refused
     pub rule-refused : {i k : ℕ} → r ≡ lines.Refused i k → SheetOpens s T B ts (opening.Refused i k)
     rule-refused e = refused-at (in-refused s (refused-rule s (o .short) (o .head-is) (when-no-rules x e)))
@@ -184,4 +186,4 @@ module _ {s T : List ℕ} {w n m p : ℕ} (o : Begun s T w n m p) where
 
         -- it is accepted
         pub fitting : (t count : ℕ) → l ≡ Next t count → SheetOpens s T B ts (opening.Sheet w n t count)
-        fitting t count f = ready {n = n} (omega (arith, o .table, o .sizes .signals-high)) (readied t count f)
+        fitting t count f = ready {n = n} (o .put) (readied t count f)

@@ -3,8 +3,9 @@
 use mathlib.Core.Path.{_≡_}
 use mathlib.Core.List.{List}
 use Prim.Native.Nat.{ℕ, _≤_}
-use lib.ListN.{length, take}
+use lib.ListN.{length}
 use Rattle.spec_tilco.specs.Lowering.{program, rowCount}
+use Rattle.read_head.specs.SheetHead.{firstPlaces, NamesPut}
 use Rattle.read_sheet.specs.Sheet.{Contents, meant}
 use Rattle.close_rules.specs.Codes.{Codes, TopsAre}
 use Rattle.open_sheet.specs.declared.Opening.{Opening}
@@ -23,7 +24,7 @@ pub record OpenedSheet (s places B tops : List ℕ) (w t count : ℕ) : Type 0 w
   pub tops-are : TopsAre (program (meant contents)) tops t
   pub few : t ≤ length tops
 
--- What each case of the sheet's opening says: the names' places are the first n.
-pub data SheetOpens (s places B tops : List ℕ) : Opening → Type 0 where
-  ready : {w n t count : ℕ} → n ≤ length places → OpenedSheet s (take n places) B tops w t count → SheetOpens s places B tops (opening.Sheet w n t count)
-  refused-at : {n p : ℕ} → sheetIn s ≡ refused n p → SheetOpens s places B tops (opening.Refused n p)
+-- What each case of the sheet's opening says: its n names stand in the index T.
+pub data SheetOpens (s T B tops : List ℕ) : Opening → Type 0 where
+  ready : {w n t count : ℕ} → NamesPut s T n → OpenedSheet s (firstPlaces n T) B tops w t count → SheetOpens s T B tops (opening.Sheet w n t count)
+  refused-at : {n p : ℕ} → sheetIn s ≡ refused n p → SheetOpens s T B tops (opening.Refused n p)

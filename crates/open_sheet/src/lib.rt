@@ -4,6 +4,7 @@ use lower_rule::rules::AllLowered;
 use lower_sheet::whole::lower_rules;
 use read_head::Heading;
 use read_head::head;
+use read_index::LINKS;
 use spec_limits::BYTES;
 ghost use mathlib.Core.Path.{_≡_};
 ghost use Prim.Native.Nat.{ℕ};
@@ -41,15 +42,15 @@ fn refused_head(h: Heading) -> Opening
     }
 }
 
-// Reads and lowers the sheet: the places of its names, the words of its rows and its top rows.
-pub fn open_sheet(s: &[u8], places: &mut [u64], rows: &mut [u64], tops: &mut [u16]) -> Opening
-    requires { ⌜ Fresh (now places) (now rows) (now tops) ⌝ }
-    ensures { λ r. ⌜ SheetOpens (now (s .entry)) (now (places .exit)) (now (rows .exit)) (now (tops .exit)) r ⌝ }
+// Reads and lowers the sheet: the index of its names, the words of its rows and its top rows.
+pub fn open_sheet(s: &[u8], names: &mut [u16], rows: &mut [u64], tops: &mut [u16]) -> Opening
+    requires { ⌜ Fresh (now names) (now rows) (now tops) ⌝ }
+    ensures { λ r. ⌜ SheetOpens (now (s .entry)) (now (names .exit)) (now (rows .exit)) (now (tops .exit)) r ⌝ }
 {
     if BYTES < s.len() {
         return Opening::Refused(1, 0);
     }
-    let h = head(s, places);
+    let h = head(s, names);
     let Heading::Lines {
         window,
         signals,
@@ -59,7 +60,8 @@ pub fn open_sheet(s: &[u8], places: &mut [u64], rows: &mut [u64], tops: &mut [u1
     else {
         return refused_head(h);
     };
-    let r = lower_rules(s, &places[..signals], rules, first, tops, rows);
+    let end = LINKS + signals;
+    let r = lower_rules(s, &names[..end], rules, first, tops, rows);
     match r {
         RuleLines::Read {
             hidden: _,

@@ -9,7 +9,7 @@ use native.Mathlib.Nat.{mul-le-mul}
 use native.Mathlib.Omega.{arith}
 use borrow.Author.Tests.{leb-true}
 use lib.Dec.{leb}
-use lib.ListN.{length, take}
+use lib.ListN.{length}
 use Rattle.spec_limits.specs.Limits.{mostTicks, mostHidden, mostRows}
 use Rattle.read_bytes.specs.Read.{Read}
 use Rattle.read_bytes.specs.Read.Read.{got, refused as unread}
@@ -20,7 +20,7 @@ use Rattle.spec_tilco.specs.Lowering.{rowCount}
 use Rattle.spec_tilco.specs.Table.{words, Stands, tableWords, Inside}
 use Rattle.table_marks.specs.Sizes.{mostWords, mostTableWords}
 use Rattle.read_sheet.specs.Sheet.{Contents, sheetOf, meant}
-use Rattle.read_head.specs.SheetHead.{Sizes}
+use Rattle.read_head.specs.SheetHead.{firstPlaces, NamesPut, Sizes}
 use Rattle.read_sheet.proofs.Wholes.{sheet-sizes}
 use Rattle.open_sheet.specs.declared.Opening.{Opening}
 use Rattle.open_sheet.specs.declared.Opening.the-variants as opening
@@ -75,18 +75,18 @@ module _ (s : List ℕ) {k : Contents} where
 
 -- ---- the sheet's answer, case by case
 
-of-ready : {s places B tops : List ℕ} {w n t count : ℕ} → SheetOpens s places B tops (opening.Sheet w n t count) → (n ≤ length places) × OpenedSheet s (take n places) B tops w t count
+of-ready : {s names B tops : List ℕ} {w n t count : ℕ} → SheetOpens s names B tops (opening.Sheet w n t count) → NamesPut s names n × OpenedSheet s (firstPlaces n names) B tops w t count
 of-ready (ready l k) = (l, k)
 
-of-refused : {s places B tops : List ℕ} {n p : ℕ} → SheetOpens s places B tops (opening.Refused n p) → sheetIn s ≡ refused n p
+of-refused : {s names B tops : List ℕ} {n p : ℕ} → SheetOpens s names B tops (opening.Refused n p) → sheetIn s ≡ refused n p
 of-refused (refused-at e) = e
 
-module _ {s places B tops : List ℕ} {r : Opening} (x : SheetOpens s places B tops r) where
-  pub when-sheet : {w n t count : ℕ} → r ≡ opening.Sheet w n t count → (n ≤ length places) × OpenedSheet s (take n places) B tops w t count
-  when-sheet e = of-ready (subst (SheetOpens s places B tops) e x)
+module _ {s names B tops : List ℕ} {r : Opening} (x : SheetOpens s names B tops r) where
+  pub when-sheet : {w n t count : ℕ} → r ≡ opening.Sheet w n t count → NamesPut s names n × OpenedSheet s (firstPlaces n names) B tops w t count
+  when-sheet e = of-ready (subst (SheetOpens s names B tops) e x)
 
   pub when-refused : {n p : ℕ} → r ≡ opening.Refused n p → sheetIn s ≡ refused n p
-  when-refused e = of-refused (subst (SheetOpens s places B tops) e x)
+  when-refused e = of-refused (subst (SheetOpens s names B tops) e x)
 
 -- ---- the numbers of a sheet that stands ready
 
@@ -148,20 +148,20 @@ module _ {s places B tops : List ℕ} {w t count : ℕ} (k : OpenedSheet s place
     within i = both (k .holds) (l ∙ same-words) (same-marks .0 i)
 
 -- The sheet's refusal is the opening's.
-pub sheet-refused : {s places B tops : List ℕ} (T : List ℕ) {r : Opening} {n p : ℕ} → SheetOpens s places B tops r → r ≡ opening.Refused n p → TableOpens s T places B tops r
-sheet-refused {s} {places} {B} {tops} T x e = subst (TableOpens s T places B tops) (sym e) (not-opened (not-the-sheet (when-refused x e)))
+pub sheet-refused : {s names B tops : List ℕ} (T : List ℕ) {r : Opening} {n p : ℕ} → SheetOpens s names B tops r → r ≡ opening.Refused n p → TableOpens s T names B tops r
+sheet-refused {s} {names} {B} {tops} T x e = subst (TableOpens s T names B tops) (sym e) (not-opened (not-the-sheet (when-refused x e)))
 
 -- ---- the answer of both, case by case
 
-of-hand : {s T places B tops : List ℕ} {w n t count : ℕ} → TableOpens s T places B tops (opening.Sheet w n t count) → (n ≤ length places) × OpenedTable s T (take n places) B tops w t count
+of-hand : {s T names B tops : List ℕ} {w n t count : ℕ} → TableOpens s T names B tops (opening.Sheet w n t count) → NamesPut s names n × OpenedTable s T (firstPlaces n names) B tops w t count
 of-hand (at-hand l k) = (l, k)
 
-of-not : {s T places B tops : List ℕ} {n p : ℕ} → TableOpens s T places B tops (opening.Refused n p) → Opens s T (refused n p)
+of-not : {s T names B tops : List ℕ} {n p : ℕ} → TableOpens s T names B tops (opening.Refused n p) → Opens s T (refused n p)
 of-not (not-opened o) = o
 
-module _ {s T places B tops : List ℕ} {r : Opening} (x : TableOpens s T places B tops r) where
-  pub when-opened : {w n t count : ℕ} → r ≡ opening.Sheet w n t count → (n ≤ length places) × OpenedTable s T (take n places) B tops w t count
-  when-opened e = of-hand (subst (TableOpens s T places B tops) e x)
+module _ {s T names B tops : List ℕ} {r : Opening} (x : TableOpens s T names B tops r) where
+  pub when-opened : {w n t count : ℕ} → r ≡ opening.Sheet w n t count → NamesPut s names n × OpenedTable s T (firstPlaces n names) B tops w t count
+  when-opened e = of-hand (subst (TableOpens s T names B tops) e x)
 
   pub when-not-opened : {n p : ℕ} → r ≡ opening.Refused n p → Opens s T (refused n p)
-  when-not-opened e = of-not (subst (TableOpens s T places B tops) e x)
+  when-not-opened e = of-not (subst (TableOpens s T names B tops) e x)

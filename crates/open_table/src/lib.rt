@@ -10,15 +10,15 @@ ghost use Rattle.open_table.specs.OpenedTable.{TableOpens};
 // Opens the sheet, and compares the lent table with it.
 pub fn open_table(
     s: &[u8],
-    places: &mut [u64],
+    names: &mut [u16],
     rows: &mut [u64],
     tops: &mut [u16],
     table: &[u64],
 ) -> Opening
-    requires { ⌜ Fresh (now places) (now rows) (now tops) ⌝ }
-    ensures { λ r. ⌜ TableOpens (now (s .entry)) (now (table .entry)) (now (places .exit)) (now (rows .exit)) (now (tops .exit)) r ⌝ }
+    requires { ⌜ Fresh (now names) (now rows) (now tops) ⌝ }
+    ensures { λ r. ⌜ TableOpens (now (s .entry)) (now (table .entry)) (now (names .exit)) (now (rows .exit)) (now (tops .exit)) r ⌝ }
 {
-    let o = open_sheet(s, places, rows, tops);
+    let o = open_sheet(s, names, rows, tops);
     let Opening::Sheet {
         window,
         signals: _,

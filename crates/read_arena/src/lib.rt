@@ -46,7 +46,7 @@ fn index(x: u16) -> usize
 }
 
 // The sign with this number.
-pub fn sign_of(z: u16) -> Sign
+fn sign_of(z: u16) -> Sign
     ensures { λ r. ⌜ r ≡ signOf z ⌝ }
 {
     match z {
@@ -58,7 +58,7 @@ pub fn sign_of(z: u16) -> Sign
 }
 
 // The sign's number. A sign binds tighter than those with a larger one.
-pub fn sign_number(sign: Sign) -> u16
+fn sign_number(sign: Sign) -> u16
     ensures { λ r. ⌜ r ≡ signNumber sign ⌝ }
 {
     match sign {

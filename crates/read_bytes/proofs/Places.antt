@@ -54,17 +54,17 @@ module _ (s w : List ℕ) (p i : ℕ) where
   unfolding starts
   starts-done h = rw (drop-of-length-le w h)
 
-  step : i < length w → starts s (p + i) (drop i w) ≡ eqb (getD w i 0) (peek s (p + i)) && starts s (p + i + 1) (drop (i + 1) w)
+  pub starts-step : i < length w → starts s (p + i) (drop i w) ≡ eqb (getD w i 0) (peek s (p + i)) && starts s (p + i + 1) (drop (i + 1) w)
   unfolding starts
-  step h = ap (starts s (p + i)) (drop-in w i 0 h)
+  starts-step h = ap (starts s (p + i)) (drop-in w i 0 h)
 
   pub starts-off : i < length w → (getD w i 0 ≡ peek s (p + i) → ⊥) → starts s (p + i) (drop i w) ≡ false
-  starts-off h n = step h ∙ rw (ne-eqb (getD w i 0) (peek s (p + i)) n)
+  starts-off h n = starts-step h ∙ rw (ne-eqb (getD w i 0) (peek s (p + i)) n)
 
   pub starts-on : i < length w → getD w i 0 ≡ peek s (p + i) → starts s (p + i) (drop i w) ≡ starts s (p + (i + 1)) (drop (i + 1) w)
   starts-on h e =
       let n : p + i + 1 ≡ p + (i + 1) = omega arith in
-      step h ∙ rw (eq-eqb (getD w i 0) (peek s (p + i)) e, n)
+      starts-step h ∙ rw (eq-eqb (getD w i 0) (peek s (p + i)) e, n)
 
 pub starts-first : (s w : List ℕ) (p : ℕ) → starts s p w ≡ starts s (p + 0) (drop 0 w)
 starts-first s w p = let z : p + 0 ≡ p = omega arith in rw z

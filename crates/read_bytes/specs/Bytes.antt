@@ -1,7 +1,7 @@
 -- The bytes of a quoted text, the byte at a place, and the classes of bytes (01, "The sheet" and "Numbers of refusal").
 -- Assumes nothing. A text is the list of its bytes.
 use mathlib.Core.Path.{_≡_}
-use Prim.Native.Nat.{ℕ, zero, suc, _+_}
+use Prim.Native.Nat.{ℕ, zero, suc, _+_, _*_}
 use Prim.Native.String.{String, len, charAt}
 use Prim.Native.Char as Chr
 use mathlib.Core.List.{List, [], _∷_}
@@ -66,6 +66,10 @@ nameByte b = letter b || digit b
 unfoldable pub starts : List ℕ → ℕ → List ℕ → Bool
 starts s p [] = true
 starts s p (x ∷ w) = eqb x (peek s p) && starts s (p + 1) w
+
+-- The four bytes at p as one number, the first the least.
+unfoldable pub fourAt : List ℕ → ℕ → ℕ
+fourAt s p = getD s p 0 + 256 * getD s (p + 1) 0 + 65536 * getD s (p + 2) 0 + 16777216 * getD s (p + 3) 0
 
 -- The bytes that a text starts with and that pass a test, up to the first that does not.
 unfoldable pub run : (ℕ → Bool) → List ℕ → List ℕ

@@ -1,8 +1,8 @@
 // Bytes of a text: the byte at a place, what stands there, and the class of a byte. Assumes nothing of the text.
 ghost use mathlib.Core.Path.{_≡_};
 ghost use Prim.Native.Nat.{_+_, _≤_};
-ghost use lib.ListN.{length};
-ghost use Rattle.read_bytes.specs.Bytes.{peek, classOf, nameByte, starts};
+ghost use lib.ListN.{length, drop};
+ghost use Rattle.read_bytes.specs.Bytes.{peek, classOf, nameByte, starts, fourAt};
 
 // The classes of bytes: those that tokens are made of, and all others.
 pub enum Class {
@@ -44,12 +44,23 @@ pub fn name_byte(b: u8) -> bool
     }
 }
 
-// Do the bytes of `w` stand at `at`, where the text has room for them?
-pub fn stands_at(s: &[u8], at: usize, w: &[u8]) -> bool
-    requires { ⌜ at + length (now w) ≤ length (now s) ⌝ }
-    ensures { λ r. ⌜ r ≡ starts (now (s .entry)) at (now (w .entry)) ⌝ }
+// The four bytes at `at` as one number. The compiler makes one load of it.
+fn four_at(s: &[u8], at: usize) -> u32
+    requires { ⌜ at + 4 ≤ length (now s) ⌝ }
+    ensures { λ r. ⌜ r ≡ fourAt (now (s .entry)) at ⌝ }
 {
-    let mut i = 0;
+    s[at] as u32
+        + 256 * (s[at + 1] as u32)
+        + 65536 * (s[at + 2] as u32)
+        + 16777216 * (s[at + 3] as u32)
+}
+
+// Do the bytes of `w` from `from` on stand where those before them would end?
+fn rest_stands(s: &[u8], at: usize, w: &[u8], from: usize) -> bool
+    requires { ⌜ (at + length (now w) ≤ length (now s)) × (from ≤ length (now w)) ⌝ }
+    ensures { λ r. ⌜ r ≡ starts (now (s .entry)) (at + from) (drop from (now (w .entry))) ⌝ }
+{
+    let mut i = from;
     while i < w.len() {
         let p = at + i;
         let b = s[p];
@@ -60,6 +71,24 @@ pub fn stands_at(s: &[u8], at: usize, w: &[u8]) -> bool
         i += 1;
     }
     true
+}
+
+// Do the bytes of `w` stand at `at`, where the text has room for them? Four are compared at once.
+pub fn stands_at(s: &[u8], at: usize, w: &[u8]) -> bool
+    requires { ⌜ at + length (now w) ≤ length (now s) ⌝ }
+    ensures { λ r. ⌜ r ≡ starts (now (s .entry)) at (now (w .entry)) ⌝ }
+{
+    let mut i = 0;
+    while i + 4 <= w.len() {
+        let p = at + i;
+        let b = four_at(s, p);
+        let x = four_at(w, i);
+        if b != x {
+            return false;
+        }
+        i += 4;
+    }
+    rest_stands(s, at, w, i)
 }
 
 // The same, where `w` may reach past the end of the text.

@@ -1,145 +1,225 @@
 // The parser of a rule: its levels call one another in a cycle, and the remaining text falls. `s` is the sheet up to the rule's LF, `names`
-// are the places of the declared names in it, `at` the place to read from, `used` the nodes in the arena, `hidden` the next hidden signal's
+// the index of the declared names in it, `at` the place to read from, `used` the nodes in the arena, `hidden` the next hidden signal's
 // row, and at most `depth` of `(` and `!` may still be opened.
 use read_arena::Node;
 use read_arena::Sign;
 use read_arena::put_keep;
 use read_arena::put_node;
-use read_arena::sign_number;
-use read_arena::sign_of;
 use read_bytes::bytes::Class;
 use read_bytes::bytes::byte_at;
 use read_bytes::bytes::class_of;
+use read_bytes::bytes::starts_at;
+use read_index::LINKS;
+use read_index::find;
 use read_names::is_since;
 use read_names::is_until;
 use read_parts::parts::Parsed;
+use read_parts::parts::join;
+use read_parts::parts::letter_at;
 use read_parts::parts::name;
-use read_parts::parts::repeats;
-use read_parts::parts::sign_at;
-use read_parts::parts::sign_len;
+use read_parts::parts::sign_after_first;
+use read_parts::parts::time_at;
 use read_parts::parts::times_at;
 ghost use Prim.Native.Nat.{_-_};
-ghost use Rattle.read_arena.specs.Nodes.{opOf};
+ghost use Rattle.spec_tilco.specs.Formula.{And, Or, Implies, Iff};
+ghost use Rattle.read_index.specs.Index.{IndexOf};
 ghost use Rattle.read_parts.specs.Parsed.{PartReady};
-ghost use Rattle.read_parts.specs.Promise.{AtByte, AtLetter, AfterPart, AfterKeyword, AfterFirst};
-ghost use Rattle.read_parts.specs.Promise.{plainAt, timedAt, belowAt, levelAt, moreAt, negatedAt, parensAt, nameOrKeepAt, sinceUntilAt, secondAt, Reads, ReadsOn, ReadsSecond};
+ghost use Rattle.read_parts.specs.Promise.{AtByte, AtLetter, AfterKeyword, AfterFirst};
+ghost use Rattle.read_parts.specs.Promise.{plainAt, timedAt, levelAt, negatedAt, parensAt, nameOrKeepAt, sinceUntilAt, secondAt, Reads, ReadsSecond};
+
+// A plain part. A declared name is looked up at once: it is neither since nor until.
+fn operand(
+    s: &[u8],
+    names: &[u16],
+    arena: &mut [u16],
+    at: usize,
+    used: usize,
+    hidden: usize,
+    depth: usize,
+) -> Parsed
+    requires { ⌜ PartReady (now s) (now arena) (IndexOf (now s) (now names)) at used hidden ⌝ }
+    ensures { λ r. ⌜ Reads (plainAt s names depth at) s arena at used hidden r ⌝ }
+{
+    if letter_at(s, at) {
+        let f = find(s, names, s, at);
+        let i = f.signal;
+        let next = f.end;
+        if i < names.len() - LINKS {
+            put_node(arena, used, Node::Name(i as u16));
+            let count = used + 1;
+            return Parsed::Got(next, count, hidden);
+        }
+    }
+    plain_part(s, names, arena, at, used, hidden, depth)
+}
 
 // A plain part and its intervals.
 fn timed(
     s: &[u8],
-    names: &[u64],
+    names: &[u16],
     arena: &mut [u16],
     at: usize,
     used: usize,
     hidden: usize,
     depth: usize,
 ) -> Parsed
-    requires { ⌜ PartReady (now s) (now arena) (now names) at used hidden ⌝ }
+    requires { ⌜ PartReady (now s) (now arena) (IndexOf (now s) (now names)) at used hidden ⌝ }
     ensures { λ r. ⌜ Reads (timedAt s names depth at) s arena at used hidden r ⌝ }
 {
-    let r = plain_part(s, names, arena, at, used, hidden, depth);
+    let r = operand(s, names, arena, at, used, hidden, depth);
     let Parsed::Got(next, count, rows) = r else {
         return r;
     };
-    times_at(s, arena, next, count, rows)
-}
-
-// A part of the sign's level: a timed part for `&`, an and-part for `|`, an or-part for `=>`, an implication part for `<=>`.
-fn below_part(
-    sign: Sign,
-    s: &[u8],
-    names: &[u64],
-    arena: &mut [u16],
-    at: usize,
-    used: usize,
-    hidden: usize,
-    depth: usize,
-) -> Parsed
-    requires { ⌜ PartReady (now s) (now arena) (now names) at used hidden ⌝ }
-    ensures { λ r. ⌜ Reads (belowAt s names depth (opOf sign) at) s arena at used hidden r ⌝ }
-{
-    let level = sign_number(sign);
-    if level == 0 {
-        timed(s, names, arena, at, used, hidden, depth)
+    if time_at(s, next) {
+        times_at(s, arena, next, count, rows)
     } else {
-        joined(sign_of(level - 1), s, names, arena, at, used, hidden, depth)
+        r
     }
 }
 
-// Parts joined by the sign: a part of the level of `&`, then what follows it at each level up to the sign's.
-pub fn joined(
-    sign: Sign,
+// And-part: timed parts joined by `&`.
+fn and_part(
     s: &[u8],
-    names: &[u64],
+    names: &[u16],
     arena: &mut [u16],
     at: usize,
     used: usize,
     hidden: usize,
     depth: usize,
 ) -> Parsed
-    requires { ⌜ PartReady (now s) (now arena) (now names) at used hidden ⌝ }
-    ensures { λ r. ⌜ Reads (levelAt s names depth (opOf sign) at) s arena at used hidden r ⌝ }
-{
-    let last = sign_number(sign);
-    let mut r = below_part(Sign::And, s, names, arena, at, used, hidden, depth);
-    let mut level = 0;
-    while level <= last {
-        let Parsed::Got(next, count, rows) = r else {
-            return r;
-        };
-        r = more(sign_of(level), s, names, arena, next, count, rows, depth);
-        level += 1;
-    }
-    r
-}
-
-// The sign and the parts after a part, whose node is the last one.
-fn more(
-    sign: Sign,
-    s: &[u8],
-    names: &[u64],
-    arena: &mut [u16],
-    at: usize,
-    used: usize,
-    hidden: usize,
-    depth: usize,
-) -> Parsed
-    requires { ⌜ AfterPart (now s) (now arena) (now names) at used hidden ⌝ }
-    ensures { λ r. ⌜ ReadsOn (moreAt s names depth (opOf sign) at) s arena at used hidden r ⌝ }
+    requires { ⌜ PartReady (now s) (now arena) (IndexOf (now s) (now names)) at used hidden ⌝ }
+    ensures { λ r. ⌜ Reads (levelAt s names depth And at) s arena at used hidden r ⌝ }
 {
     let mut place = at;
     let mut nodes = used;
     let mut rows = hidden;
-    while sign_at(s, place, sign) {
-        let part = place + sign_len(sign);
-        let r = below_part(sign, s, names, arena, part, nodes, rows, depth);
+    let mut first = true;
+    loop {
+        let r = timed(s, names, arena, place, nodes, rows, depth);
         let Parsed::Got(next, last, below) = r else {
             return r;
         };
-        let left = nodes - 1;
-        let right = last - 1;
-        put_node(arena, last, Node::Pair(sign, left, right));
-        place = next;
-        nodes = last + 1;
-        rows = below;
-        if !repeats(sign) {
-            return Parsed::Got(place, nodes, rows);
+        let count = join(arena, Sign::And, first, nodes, last);
+        if !starts_at(s, next, b"&") {
+            return Parsed::Got(next, count, below);
         }
+        place = next + 1;
+        nodes = count;
+        rows = below;
+        first = false;
     }
-    Parsed::Got(place, nodes, rows)
+}
+
+// Or-part: and-parts joined by `|`.
+fn or_part(
+    s: &[u8],
+    names: &[u16],
+    arena: &mut [u16],
+    at: usize,
+    used: usize,
+    hidden: usize,
+    depth: usize,
+) -> Parsed
+    requires { ⌜ PartReady (now s) (now arena) (IndexOf (now s) (now names)) at used hidden ⌝ }
+    ensures { λ r. ⌜ Reads (levelAt s names depth Or at) s arena at used hidden r ⌝ }
+{
+    let mut place = at;
+    let mut nodes = used;
+    let mut rows = hidden;
+    let mut first = true;
+    loop {
+        let r = and_part(s, names, arena, place, nodes, rows, depth);
+        let Parsed::Got(next, last, below) = r else {
+            return r;
+        };
+        let count = join(arena, Sign::Or, first, nodes, last);
+        if !starts_at(s, next, b"|") {
+            return Parsed::Got(next, count, below);
+        }
+        place = next + 1;
+        nodes = count;
+        rows = below;
+        first = false;
+    }
+}
+
+// Implication part: one or-part, or two joined by `=>`.
+fn implication(
+    s: &[u8],
+    names: &[u16],
+    arena: &mut [u16],
+    at: usize,
+    used: usize,
+    hidden: usize,
+    depth: usize,
+) -> Parsed
+    requires { ⌜ PartReady (now s) (now arena) (IndexOf (now s) (now names)) at used hidden ⌝ }
+    ensures { λ r. ⌜ Reads (levelAt s names depth Implies at) s arena at used hidden r ⌝ }
+{
+    let mut place = at;
+    let mut nodes = used;
+    let mut rows = hidden;
+    let mut first = true;
+    loop {
+        let r = or_part(s, names, arena, place, nodes, rows, depth);
+        let Parsed::Got(next, last, below) = r else {
+            return r;
+        };
+        let count = join(arena, Sign::Implies, first, nodes, last);
+        if !sign_after_first(s, next, first, b"=>") {
+            return Parsed::Got(next, count, below);
+        }
+        place = next + 2;
+        nodes = count;
+        rows = below;
+        first = false;
+    }
+}
+
+// Formula: one implication part, or two joined by `<=>`.
+pub fn formula(
+    s: &[u8],
+    names: &[u16],
+    arena: &mut [u16],
+    at: usize,
+    used: usize,
+    hidden: usize,
+    depth: usize,
+) -> Parsed
+    requires { ⌜ PartReady (now s) (now arena) (IndexOf (now s) (now names)) at used hidden ⌝ }
+    ensures { λ r. ⌜ Reads (levelAt s names depth Iff at) s arena at used hidden r ⌝ }
+{
+    let mut place = at;
+    let mut nodes = used;
+    let mut rows = hidden;
+    let mut first = true;
+    loop {
+        let r = implication(s, names, arena, place, nodes, rows, depth);
+        let Parsed::Got(next, last, below) = r else {
+            return r;
+        };
+        let count = join(arena, Sign::Iff, first, nodes, last);
+        if !sign_after_first(s, next, first, b"<=>") {
+            return Parsed::Got(next, count, below);
+        }
+        place = next + 3;
+        nodes = count;
+        rows = below;
+        first = false;
+    }
 }
 
 // A plain part, by its first byte.
 fn plain_part(
     s: &[u8],
-    names: &[u64],
+    names: &[u16],
     arena: &mut [u16],
     at: usize,
     used: usize,
     hidden: usize,
     depth: usize,
 ) -> Parsed
-    requires { ⌜ PartReady (now s) (now arena) (now names) at used hidden ⌝ }
+    requires { ⌜ PartReady (now s) (now arena) (IndexOf (now s) (now names)) at used hidden ⌝ }
     ensures { λ r. ⌜ Reads (plainAt s names depth at) s arena at used hidden r ⌝ }
 {
     let b = byte_at(s, at);
@@ -168,14 +248,14 @@ fn plain_part(
 // `!` and a plain part.
 fn deny(
     s: &[u8],
-    names: &[u64],
+    names: &[u16],
     arena: &mut [u16],
     at: usize,
     used: usize,
     hidden: usize,
     depth: usize,
 ) -> Parsed
-    requires { ⌜ AtByte (now s) (now arena) (now names) at used hidden ⌝ }
+    requires { ⌜ AtByte (now s) (now arena) (IndexOf (now s) (now names)) at used hidden ⌝ }
     ensures { λ r. ⌜ Reads (negatedAt s names depth at) s arena at used hidden r ⌝ }
 {
     if depth == 0 {
@@ -195,21 +275,21 @@ fn deny(
 // A formula in parentheses.
 fn paren(
     s: &[u8],
-    names: &[u64],
+    names: &[u16],
     arena: &mut [u16],
     at: usize,
     used: usize,
     hidden: usize,
     depth: usize,
 ) -> Parsed
-    requires { ⌜ AtByte (now s) (now arena) (now names) at used hidden ⌝ }
+    requires { ⌜ AtByte (now s) (now arena) (IndexOf (now s) (now names)) at used hidden ⌝ }
     ensures { λ r. ⌜ Reads (parensAt s names depth at) s arena at used hidden r ⌝ }
 {
     if depth == 0 {
         return Parsed::Refused(8, at);
     }
     let inner = at + 1;
-    let r = joined(Sign::Iff, s, names, arena, inner, used, hidden, depth - 1);
+    let r = formula(s, names, arena, inner, used, hidden, depth - 1);
     let Parsed::Got(next, count, rows) = r else {
         return r;
     };
@@ -224,14 +304,14 @@ fn paren(
 // A name, or since or until with what follows.
 fn word(
     s: &[u8],
-    names: &[u64],
+    names: &[u16],
     arena: &mut [u16],
     at: usize,
     used: usize,
     hidden: usize,
     depth: usize,
 ) -> Parsed
-    requires { ⌜ AtLetter (now s) (now arena) (now names) at used hidden ⌝ }
+    requires { ⌜ AtLetter (now s) (now arena) (IndexOf (now s) (now names)) at used hidden ⌝ }
     ensures { λ r. ⌜ Reads (nameOrKeepAt s names depth at) s arena at used hidden r ⌝ }
 {
     if is_since(s, at) {
@@ -250,7 +330,7 @@ fn word(
 // What follows since or until, which are five bytes before it: `(`, two formulas, `)`.
 fn keep(
     s: &[u8],
-    names: &[u64],
+    names: &[u16],
     arena: &mut [u16],
     at: usize,
     used: usize,
@@ -258,7 +338,7 @@ fn keep(
     depth: usize,
     since: bool,
 ) -> Parsed
-    requires { ⌜ AfterKeyword (now s) (now arena) (now names) at used hidden ⌝ }
+    requires { ⌜ AfterKeyword (now s) (now arena) (IndexOf (now s) (now names)) at used hidden ⌝ }
     ensures { λ r. ⌜ Reads (sinceUntilAt s names depth since at) s arena (at - 5) used hidden r ⌝ }
 {
     let b = byte_at(s, at);
@@ -270,7 +350,7 @@ fn keep(
     }
     let inner = at + 1;
     let first = hidden + 1;
-    let r = joined(Sign::Iff, s, names, arena, inner, used, first, depth - 1);
+    let r = formula(s, names, arena, inner, used, first, depth - 1);
     let Parsed::Got(next, count, rows) = r else {
         return r;
     };
@@ -280,7 +360,7 @@ fn keep(
 // From the comma of since or until on; the first formula's node is the last one, and `row` is the hidden signal's.
 fn second(
     s: &[u8],
-    names: &[u64],
+    names: &[u16],
     arena: &mut [u16],
     at: usize,
     used: usize,
@@ -289,7 +369,7 @@ fn second(
     since: bool,
     row: usize,
 ) -> Parsed
-    requires { ⌜ AfterFirst (now s) (now arena) (now names) at used hidden row ⌝ }
+    requires { ⌜ AfterFirst (now s) (now arena) (IndexOf (now s) (now names)) at used hidden row ⌝ }
     ensures { λ r. ⌜ ReadsSecond (secondAt s names depth since at) s arena (at - 4) used hidden row r ⌝ }
 {
     let b = byte_at(s, at);
@@ -297,7 +377,7 @@ fn second(
         return Parsed::Refused(5, at);
     }
     let inner = at + 1;
-    let r = joined(Sign::Iff, s, names, arena, inner, used, hidden, depth);
+    let r = formula(s, names, arena, inner, used, hidden, depth);
     let Parsed::Got(next, last, rows) = r else {
         return r;
     };

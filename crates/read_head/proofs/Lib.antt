@@ -1,5 +1,6 @@
 -- The laws, one idea a file.
 pub mod Signals
+pub mod NamesPut
 pub mod Heads
 pub mod HeadPrefix
 pub mod DeclaredNames

@@ -7,13 +7,14 @@ use Prim.Native.Nat.{ℕ, _+_, _<_, _≤_}
 use native.Mathlib.Omega.{arith}
 use borrow.Author.Tests.{eq-eqb, ne-eqb, eqb-true, not-false, ltb-true, lt-ltb, le-ltb}
 use lib.Dec.{eqb, ltb}
-use lib.ListN.{length}
+use lib.ListN.{length, getD}
 use Rattle.read_names.specs.declared.NameRead.{NameRead}
 use Rattle.read_names.specs.declared.NameRead.the-variants.{Name, Other}
 use Rattle.read_bytes.specs.declared.numbers.Number.{Number}
 use Rattle.read_bytes.specs.declared.numbers.Number.the-variants.{Value, Missing}
+use Rattle.read_bytes.specs.Read.{Read, andThen}
 use Rattle.read_bytes.specs.Read.Read.{got, refused}
-use Rattle.read_bytes.specs.Bytes.{byte, between, peek, starts, runEnd}
+use Rattle.read_bytes.specs.Bytes.{byte, pick, between, peek, starts, runEnd}
 use Rattle.read_names.specs.EndNumbers.{endNumber}
 use Rattle.read_names.specs.Spellings.{spellingAt, nameAt}
 use Rattle.read_names.proofs.Names.{named}
@@ -21,7 +22,7 @@ use Rattle.read_bytes.specs.Numbers.{number}
 use Rattle.read_lines.specs.Lines.{inLine, lineEnd, line, whole, wholeNumber, wholeName, numberLine, rangedLine, nameLine}
 use Rattle.read_bytes.proofs.Tests.{between-in, between-is}
 use Rattle.read_bytes.proofs.Places.{Reach}
-use Rattle.read_bytes.proofs.Runs.{end-stops}
+use Rattle.read_bytes.proofs.Runs.{end-more, end-here, end-stops}
 use Rattle.read_bytes.proofs.Answers.{not-both, through, came}
 
 pub lf-ends : (b : ℕ) → b ≡ byte "\n" → inLine b ≡ false
@@ -32,6 +33,16 @@ pub lf-not : (b : ℕ) → (b ≡ byte "\n" → ⊥) → inLine b ≡ true
 unfolding inLine
 lf-not b n = rw (ne-eqb b (byte "\n") n)
 
+-- A line that reaches the byte k after i goes on past it if it is no LF, and else ends there.
+module _ (s : List ℕ) (p i k : ℕ) (l : i + k < length s) (e : lineEnd s p ≡ lineEnd s (i + k)) where
+  pub past-byte : (getD s (i + k) 0 ≡ byte "\n" → ⊥) → lineEnd s p ≡ lineEnd s (i + (k + 1))
+  past-byte n =
+      let a : i + k + 1 ≡ i + (k + 1) = omega arith in
+      e ∙ end-more inLine s (i + k) l (lf-not (getD s (i + k) 0) n) ∙ ap (lineEnd s) a
+
+  pub at-byte : getD s (i + k) 0 ≡ byte "\n" → i + k ≡ lineEnd s p
+  at-byte h = sym (e ∙ end-here inLine s (i + k) l (lf-ends (getD s (i + k) 0) h))
+
 -- A value takes its line whole, or not.
 module _ (x q e n p : ℕ) where
   pub whole-is : q ≡ e → got x (e + 1) ≡ whole x q e n p
@@ -39,6 +50,14 @@ module _ (x q e n p : ℕ) where
 
   pub whole-not : (q ≡ e → ⊥) → refused n p ≡ whole x q e n p
   whole-not h = rw (ne-eqb q e h)
+
+-- A number that was read is from lo to hi, or not.
+module _ (lo hi content v : ℕ) {R : Read ℕ} {x q : ℕ} (a : R ≡ got x q) where
+  pub range-in : lo ≤ x → x ≤ hi → got x q ≡ andThen R (λ y r. pick (between lo hi y) (λ _. got y r) (refused content v))
+  range-in l h = rw (a, between-in lo hi x l h)
+
+  pub range-out : between lo hi x ≡ false → refused content v ≡ andThen R (λ y r. pick (between lo hi y) (λ _. got y r) (refused content v))
+  range-out o = rw (a, o)
 
 module _ (s : List ℕ) (p : ℕ) (key : List ℕ) (form : ℕ) where
   module _ (e : ℕ) (a : starts s p key ≡ true) (d : e ≡ lineEnd s (p + length key)) where
@@ -67,14 +86,9 @@ module _ (s : List ℕ) (p : ℕ) (key : List ℕ) (form : ℕ) where
     unfolding nameLine
     name-line-is content b = rw (a, b)
 
-  module _ (content lo hi : ℕ) {x q : ℕ} (a : numberLine s p key form ≡ got x q) where
-    pub ranged-in : lo ≤ x → x ≤ hi → got x q ≡ rangedLine s p key form content lo hi
-    unfolding rangedLine
-    ranged-in l h = rw (a, between-in lo hi x l h)
-
-    pub ranged-out : between lo hi x ≡ false → refused content (p + length key) ≡ rangedLine s p key form content lo hi
-    unfolding rangedLine
-    ranged-out o = rw (a, o)
+  pub ranged-in : (content lo hi : ℕ) {x q : ℕ} → numberLine s p key form ≡ got x q → lo ≤ x → x ≤ hi → got x q ≡ rangedLine s p key form content lo hi
+  unfolding rangedLine
+  ranged-in content lo hi a l h = range-in lo hi content (p + length key) a l h
 
 -- Where a line's value and its LF stand.
 pub record Placed (s : List ℕ) (p : ℕ) (key : List ℕ) (v e : ℕ) : Type 0 where

@@ -3,11 +3,9 @@
 use mathlib.Core.Path.{_≡_, refl, sym, ap, subst, _∙_}
 use mathlib.Core.List.{List, [], _∷_, _++_}
 use Prim.Native.Nat.{ℕ, zero, suc, _+_, _-_, _<_, _≤_}
-use native.Mathlib.Numerals.{add-one}
 use native.Mathlib.Omega.{arith}
 use borrow.Author.Tests.{lt-ltb, le-ltb}
-use lib.ListN.{length, take, set, length-append}
-use lib.Seq.{take-suc-set}
+use lib.ListN.{length, length-append}
 use Rattle.read_bytes.specs.Read.{Read}
 use Rattle.read_bytes.specs.Read.Read.{got, refused}
 use Rattle.read_lines.specs.Lines.{inTurn, upTo}
@@ -36,15 +34,6 @@ module _ {A : Type 0} (P : List A → ℕ → Read A) where
   turn-next n i t p {a} {q} h e =
       let back : n - i - 1 ≡ n - (i + 1) = omega arith in
       turn-on (n - i) t p (omega arith) e ∙ ap (λ (k : ℕ). inTurn P k (t ++ (a ∷ [])) q) back
-
-  -- The same, where what was read is kept in a table.
-  pub turn-store : (n i : ℕ) (T : List A) (p : ℕ) {a : A} {q : ℕ} → i < n → i < length T → P (take i T) p ≡ got a q → inTurn P (n - i) (take i T) p ≡ inTurn P (n - (i + 1)) (take (i + 1) (set T i a)) q
-  turn-store n i T p {a} {q} h l e =
-      let f : take i T ++ (a ∷ []) ≡ take (i + 1) (set T i a) = rw add-one (sym (take-suc-set T i a l)) in
-      turn-next n i (take i T) p h e ∙ ap (λ (k : List A). inTurn P (n - (i + 1)) k q) f
-
-  pub turn-done : (n i : ℕ) (T : List A) (p : ℕ) → i ≡ n → inTurn P (n - i) (take i T) p ≡ got (take n T) p
-  turn-done n i T p e = turn-end (n - i) (take i T) p (omega arith) ∙ ap (λ (k : ℕ). got (take k T) p) e
 
   -- Parts that J reads as P does, as long as Q holds of those before, are read in turn alike, and Q holds of them all.
   module _ (J : List A → ℕ → Read A) (Q : List A → Type 0) (part : (t : List A) (p : ℕ) (a : A) (q : ℕ) → Q t → P t p ≡ got a q → (J t p ≡ got a q) × Q (t ++ (a ∷ []))) where

@@ -14,10 +14,10 @@ use Rattle.read_names.specs.declared.NameRead.the-variants.{Name, Other}
 use Rattle.read_bytes.specs.declared.numbers.Number.{Number}
 use Rattle.read_bytes.specs.declared.numbers.Number.the-variants.{Value, Missing}
 use Rattle.read_bytes.specs.Read.Read.{got, refused}
-use Rattle.read_bytes.specs.Bytes.{byte, peek, between, digit, nameByte, starts, runEnd}
+use Rattle.read_bytes.specs.Bytes.{byte, peek, pick, between, digit, nameByte, starts, runEnd}
 use Rattle.read_names.specs.Spellings.{nameAt}
 use Rattle.read_bytes.specs.Numbers.{digits, number}
-use Rattle.read_lines.specs.Lines.{inLine, lineEnd, keyedAt, lfAt, NoName, line, wholeNumber, wholeName, numberLine, nameLine}
+use Rattle.read_lines.specs.Lines.{inLine, lineEnd, keyedAt, lfAt, NoName, line, wholeNumber, wholeName, numberLine, rangedLine, endedNumber, numberValue, rangedValue, nameLine}
 use Rattle.read_bytes.proofs.Places.{peek-in, inside-test}
 use Rattle.read_bytes.proofs.Runs.{end-more, end-here, end-within}
 use Rattle.read_names.proofs.Names.{named}
@@ -147,6 +147,28 @@ module _ (s : List ℕ) (p : ℕ) (key : List ℕ) where
     pub number-open : {x q : ℕ} → number s (p + length key) ≡ Value x q → lfAt s q ≡ false → refused form p ≡ numberLine s p key form
     number-open {x} {q} f l = number-refused (Value x q) f (λ e h. whole-not x q e form p (lf-placed h l))
 
+    -- What follows the key of a line is all that is left to read of it,
+    number-keyed : keyedAt s p key ≡ true → numberValue s p (p + length key) form ≡ numberLine s p key form
+    unfolding numberValue
+    number-keyed k = go (number s (p + length key)) refl
+      where
+        go : (n : Number) → number s (p + length key) ≡ n → endedNumber s p form n ≡ numberLine s p key form
+        go Missing f = number-missing f
+        go (Value x q) f = on (lfAt s q) refl
+          where
+            on : (b : Bool) → lfAt s q ≡ b → pick b (λ _. got x (q + 1)) (refused form p) ≡ numberLine s p key form
+            on true l = number-first k l f
+            on false l = number-open f l
+
+    pub ranged-keyed : (content lo hi : ℕ) → keyedAt s p key ≡ true → rangedLine s p key form content lo hi ≡ rangedValue s p (p + length key) form content lo hi
+    unfolding rangedLine rangedValue
+    ranged-keyed content lo hi k = rw (number-keyed k)
+
+    -- and a line whose key does not stand has no form.
+    pub ranged-unkeyed : (content lo hi : ℕ) → keyedAt s p key ≡ false → rangedLine s p key form content lo hi ≡ refused form p
+    unfolding rangedLine numberLine
+    ranged-unkeyed content lo hi k = rw (keyed-not k)
+
     pub name-not-whole : (content : ℕ) {v e : ℕ} → line s p key form ≡ got v e → NoName s (p + length key) → refused content v ≡ nameLine s p key form content
     name-not-whole content {v} {e} a never =
         let h = placed s p key form a in
@@ -155,6 +177,21 @@ module _ (s : List ℕ) (p : ℕ) (key : List ℕ) where
         missed : Placed s p key v e → (w : NameRead) → nameAt s v ≡ w → refused content v ≡ wholeName v content e w
         missed h (Name q n) f = whole-not v q e content v (lf-placed h (never q n (sym (ap (nameAt s) (h .value)) ∙ f)))
         missed h Other f = refl
+
+-- The number that follows a key: none, one with an LF after it, or one without.
+module _ (s : List ℕ) (p v form : ℕ) where
+  pub value-missing : number s v ≡ Missing → refused form p ≡ numberValue s p v form
+  unfolding numberValue
+  value-missing f = rw f
+
+  module _ {x q : ℕ} (f : number s v ≡ Value x q) where
+    pub value-ended : lfAt s q ≡ true → got x (q + 1) ≡ numberValue s p v form
+    unfolding numberValue
+    value-ended l = rw (f, l)
+
+    pub value-open : lfAt s q ≡ false → refused form p ≡ numberValue s p v form
+    unfolding numberValue
+    value-open l = rw (f, l)
 
 -- Where no name was read, or one that no LF follows.
 module _ (s : List ℕ) (v : ℕ) where

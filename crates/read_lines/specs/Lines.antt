@@ -69,6 +69,20 @@ unfoldable pub rangedLine : List ℕ → ℕ → List ℕ → ℕ → ℕ → �
 rangedLine s p key form content lo hi =
     andThen (numberLine s p key form) (λ x q. pick (between lo hi x) (λ _. got x q) (refused content (p + length key)))
 
+-- A number with an LF after it, of the line at p: the number, and the place after the line. Or the line's form is refused at p.
+abbrev pub endedNumber : List ℕ → ℕ → ℕ → Number → Read ℕ
+endedNumber s p form (Value x q) = pick (lfAt s q) (λ _. got x (q + 1)) (refused form p)
+endedNumber s p form Missing = refused form p
+
+-- What follows the key of the line at p, from v on: a number with an LF after it.
+unfoldable pub numberValue : List ℕ → ℕ → ℕ → ℕ → Read ℕ
+numberValue s p v form = endedNumber s p form (number s v)
+
+-- The same with a number from lo to hi. Or the line's content is refused at v.
+unfoldable pub rangedValue : List ℕ → ℕ → ℕ → ℕ → ℕ → ℕ → ℕ → Read ℕ
+rangedValue s p v form content lo hi =
+    andThen (numberValue s p v form) (λ x q. pick (between lo hi x) (λ _. got x q) (refused content v))
+
 -- The line at p with a key and a name: the place of the name, and the place after the line. Or its form is refused at p, or its content at the value.
 unfoldable pub nameLine : List ℕ → ℕ → List ℕ → ℕ → ℕ → Read ℕ
 nameLine s p key form content = andThen (line s p key form) (λ v e. wholeName v content e (nameAt s v))

@@ -8,7 +8,7 @@ use read_names::name_at;
 ghost use mathlib.Core.Path.{_≡_};
 ghost use Prim.Native.Nat.{_+_, _≤_};
 ghost use lib.ListN.{length};
-ghost use Rattle.read_lines.specs.Lines.{says, lineEnd, keyedAt, lfAt, NoName, line, numberLine, rangedLine, nameLine};
+ghost use Rattle.read_lines.specs.Lines.{says, lineEnd, keyedAt, lfAt, NoName, line, numberValue, rangedValue, rangedLine, nameLine};
 
 // What a reader of lines answers: a value and the place after it, or a refusal's number and place.
 pub enum Step {
@@ -16,8 +16,8 @@ pub enum Step {
     Refused(usize, usize),
 }
 
-// The place of the first LF from `at` on, or the text's length.
-pub fn line_end(s: &[u8], at: usize) -> usize
+// The place of the first LF from `at` on, or the text's length. The bytes are looked at one by one.
+fn rest_end(s: &[u8], at: usize) -> usize
     ensures { λ r. ⌜ r ≡ lineEnd (now (s .entry)) at ⌝ }
 {
     let mut i = at;
@@ -30,8 +30,35 @@ pub fn line_end(s: &[u8], at: usize) -> usize
     i
 }
 
+// The same, four bytes a turn while four are left.
+pub fn line_end(s: &[u8], at: usize) -> usize
+    ensures { λ r. ⌜ r ≡ lineEnd (now (s .entry)) at ⌝ }
+{
+    if s.len() < 4 {
+        return rest_end(s, at);
+    }
+    let last = s.len() - 4;
+    let mut i = at;
+    while i <= last {
+        if s[i] == b'\n' {
+            return i;
+        }
+        if s[i + 1] == b'\n' {
+            return i + 1;
+        }
+        if s[i + 2] == b'\n' {
+            return i + 2;
+        }
+        if s[i + 3] == b'\n' {
+            return i + 3;
+        }
+        i += 4;
+    }
+    rest_end(s, i)
+}
+
 // Does the key stand at `at`, and the text reach to the place of its value?
-fn keyed(s: &[u8], at: usize, key: &[u8]) -> bool
+pub fn keyed(s: &[u8], at: usize, key: &[u8]) -> bool
     requires { ⌜ at ≤ length (now s) ⌝ }
     ensures { λ r. ⌜ r ≡ keyedAt (now (s .entry)) at (now (key .entry)) ⌝ }
 {
@@ -44,7 +71,7 @@ fn keyed(s: &[u8], at: usize, key: &[u8]) -> bool
 }
 
 // Does an LF of the text stand at `at`?
-fn lf_at(s: &[u8], at: usize) -> bool
+pub fn lf_at(s: &[u8], at: usize) -> bool
     ensures { λ r. ⌜ r ≡ lfAt (now (s .entry)) at ⌝ }
 {
     if at < s.len() { s[at] == b'\n' } else { false }
@@ -65,15 +92,11 @@ pub fn line_at(s: &[u8], at: usize, key: &[u8], form: usize) -> Step
     Step::Refused(form, at)
 }
 
-// The line at `at` with the key `key` and a number: the number, and the place after the line.
-pub fn number_line(s: &[u8], at: usize, key: &[u8], form: usize) -> Step
-    requires { ⌜ at ≤ length (now s) ⌝ }
-    ensures { λ r. ⌜ says r ≡ numberLine (now (s .entry)) at (now (key .entry)) form ⌝ }
+// The number at `v` and the LF after it, of the line at `at`: the number, and the place after the line.
+fn number_value(s: &[u8], at: usize, v: usize, form: usize) -> Step
+    requires { ⌜ v ≤ length (now s) ⌝ }
+    ensures { λ r. ⌜ says r ≡ numberValue (now (s .entry)) at v form ⌝ }
 {
-    if !keyed(s, at, key) {
-        return Step::Refused(form, at);
-    }
-    let v = at + key.len();
     let d = number_at(s, v);
     let Number::Value(x, q) = d else {
         return Step::Refused(form, at);
@@ -87,6 +110,32 @@ pub fn number_line(s: &[u8], at: usize, key: &[u8], form: usize) -> Step
 }
 
 // The same, with a number from `lo` to `hi`.
+pub fn ranged_value(
+    s: &[u8],
+    at: usize,
+    v: usize,
+    form: usize,
+    content: usize,
+    lo: usize,
+    hi: usize,
+) -> Step
+    requires { ⌜ v ≤ length (now s) ⌝ }
+    ensures { λ r. ⌜ says r ≡ rangedValue (now (s .entry)) at v form content lo hi ⌝ }
+{
+    let l = number_value(s, at, v, form);
+    let Step::Got(x, q) = l else {
+        return l;
+    };
+    if x < lo {
+        return Step::Refused(content, v);
+    }
+    if hi < x {
+        return Step::Refused(content, v);
+    }
+    Step::Got(x, q)
+}
+
+// The line at `at` with the key `key` and such a number.
 pub fn ranged_line(
     s: &[u8],
     at: usize,
@@ -99,18 +148,12 @@ pub fn ranged_line(
     requires { ⌜ at ≤ length (now s) ⌝ }
     ensures { λ r. ⌜ says r ≡ rangedLine (now (s .entry)) at (now (key .entry)) form content lo hi ⌝ }
 {
-    let l = number_line(s, at, key, form);
-    let Step::Got(x, q) = l else {
-        return l;
-    };
-    let v = at + key.len();
-    if x < lo {
-        return Step::Refused(content, v);
+    if keyed(s, at, key) {
+        let v = at + key.len();
+        ranged_value(s, at, v, form, content, lo, hi)
+    } else {
+        Step::Refused(form, at)
     }
-    if hi < x {
-        return Step::Refused(content, v);
-    }
-    Step::Got(x, q)
 }
 
 // The refusal of a line whose value is no name that takes it whole: for its form, where the key or the LF is missing, or for its content.

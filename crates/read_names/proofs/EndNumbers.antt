@@ -1,14 +1,14 @@
 -- The number at a name's end: the digits there and what stands before them, how they are read, and that a name is what stands before them and their number.
 -- Assumes nothing. w is a name's text, d the digits at its end, t what follows it.
 use mathlib.Core.Path.{_≡_, refl, sym, ap, ap₂, _∙_}
-use mathlib.Core.Bool.{Bool, true, false, true≢false, false≢true, not, _||_, and-eq-true-iff, and-false, or-true}
+use mathlib.Core.Bool.{Bool, true, false, true≢false, false≢true, not, _||_, and-eq-true-iff, and-true, and-false, or-true}
 use mathlib.Core.List.{List, [], _∷_, _++_}
 use Prim.Native.Nat.{ℕ, zero, suc, _+_, _-_, _*_, _<_, _≤_}
 use native.Mathlib.Omega.{arith}
 use native.Mathlib.Decide.{decLt}
-use borrow.Author.Tests.{ne-eqb, eqb-false, le-leb, lt-leb, not-true}
+use borrow.Author.Tests.{eq-eqb, ne-eqb, eqb-false, le-leb, lt-leb, not-true}
 use lib.Dec.{leb, eqb}
-use lib.ListN.{length, getD, take, drop, length-append, take-append-drop}
+use lib.ListN.{length, getD, take, drop, take-append-drop}
 use lib.Seq.{length-take-le}
 use Rattle.spec_limits.specs.Limits.{mostEndNumber}
 use Rattle.read_names.specs.declared.EndNumber.the-variants.{Number, Absent}
@@ -65,20 +65,6 @@ pub digit-before : (w : List ℕ) (k : ℕ) → k < length w → digit (getD w k
 unfolding every
 digit-before w k l e h = rw (drop-in w k 0 l, e, h)
 
-pub ends-none : (w : List ℕ) → length (stem w) ≡ length w → endDigits w ≡ []
-ends-none w e = go (endDigits w) refl
-  where
-    go : (d : List ℕ) → endDigits w ≡ d → d ≡ []
-    go [] i = refl
-    go (b ∷ d) i = absurd (omega (arith, e, ap length (parts w), length-append (stem w) (endDigits w), ap length i))
-
-pub none-ends : (w : List ℕ) → none (endDigits w) ≡ true → length (stem w) ≡ length w
-none-ends w e = go (endDigits w) refl e
-  where
-    go : (d : List ℕ) → endDigits w ≡ d → none d ≡ true → length (stem w) ≡ length w
-    go [] i z = omega (arith, ap length (parts w), length-append (stem w) (endDigits w), ap length i)
-    go (b ∷ d) i z = absurd (false≢true z)
-
 -- ---- how the digits are read
 
 -- What the reader of numbers makes of the digits d at i: there are none; it takes them whole; or it takes fewer, and they are no end number.
@@ -87,8 +73,8 @@ pub data EndRead (i : ℕ) : List ℕ → read.Number → Type 0 where
   whole : {b : ℕ} {d : List ℕ} → none d || not (eqb b (byte "0")) ≡ true → EndRead i (b ∷ d) (Value (decimal 0 (b ∷ d)) (i + length (b ∷ d)))
   part : {d : List ℕ} {x q : ℕ} → isEndNumber d ≡ false → q < i + length d → EndRead i d (Value x q)
 
--- More than five digits are over 9,999.
-large : (b : ℕ) (d : List ℕ) → byte "1" ≤ b → 5 ≤ length d → isEndNumber (b ∷ d) ≡ false
+-- More than four digits are over 9,999.
+large : (b : ℕ) (d : List ℕ) → byte "1" ≤ b → 4 ≤ length d → isEndNumber (b ∷ d) ≡ false
 unfolding isEndNumber decimal every
 large b d l n =
     let m = decimal-more 0 (10 * 0 + (b - byte "0")) (bytes "9999") d (omega arith) refl (omega arith) in
@@ -172,22 +158,56 @@ module _ {i : ℕ} where
   read-large (whole {b} {d} h) e l = rw (h, lt-leb (decimal 0 (b ∷ d)) mostEndNumber l)
   read-large (part f n) e l = absurd (omega arith)
 
--- What the digits say is a number exactly if they are an end number.
-pub number-is : (d : List ℕ) {x : ℕ} → numberOf d ≡ Number x → isEndNumber d ≡ true
-unfolding numberOf
-number-is d {x} e = go (isEndNumber d) refl e
-  where
-    go : (b : Bool) → isEndNumber d ≡ b → pick b (λ _. Number (decimal 0 d)) Absent ≡ Number x → b ≡ true
-    go true i f = refl
-    go false i f = let z : _≡_ {A = ℕ} 0 1 = cc in absurd (omega arith)
-
-pub number-not : (d : List ℕ) → numberOf d ≡ Absent → isEndNumber d ≡ false
+-- Where the digits say that there is no number, they are no end number.
+number-not : (d : List ℕ) → numberOf d ≡ Absent → isEndNumber d ≡ false
 unfolding numberOf
 number-not d e = go (isEndNumber d) refl e
   where
     go : (b : Bool) → isEndNumber d ≡ b → pick b (λ _. Number (decimal 0 d)) Absent ≡ Absent → b ≡ false
     go true i f = let z : _≡_ {A = ℕ} 0 1 = cc in absurd (omega arith)
     go false i f = refl
+
+-- ---- whether they end a name well: how many they are and the first of them tell
+
+-- Up to four digits are not over 9,999.
+small : (d : List ℕ) → every digit d ≡ true → length d ≤ 4 → leb (decimal 0 d) mostEndNumber ≡ true
+unfolding decimal
+small d h l =
+    let m = decimal-more 0 1 d (bytes "0000") (omega arith) h l in
+    le-leb (decimal 0 d) mostEndNumber (omega arith)
+
+-- Of digits alone all are at the end.
+all-end : (d : List ℕ) → every digit d ≡ true → endDigits d ≡ d
+unfolding endDigits
+all-end [] h = refl
+all-end (b ∷ d) h = rw h
+
+pub ends-few : (d : List ℕ) → every digit d ≡ true → length d < 2 → true ≡ wellEnded d
+unfolding wellEnded isEndNumber
+ends-few [] h l = rw (all-end [] h)
+ends-few (b ∷ []) h l = rw (all-end (b ∷ []) h, small (b ∷ []) h (omega arith))
+ends-few (b ∷ c ∷ d) h l = absurd (omega arith)
+
+pub ends-many : (d : List ℕ) → every digit d ≡ true → 4 < length d → false ≡ wellEnded d
+unfolding wellEnded isEndNumber
+ends-many [] h l = absurd (omega arith)
+ends-many (b ∷ []) h l = absurd (omega arith)
+ends-many (b ∷ c ∷ d) h l = rw (all-end (b ∷ c ∷ d) h) (go (decLt b (byte "1")))
+  where
+    go : Dec (b < byte "1") → false ≡ isEndNumber (b ∷ c ∷ d)
+    go (yes n) = rw (eq-eqb b (byte "0") (omega (arith, digit-low b (digits-parts b (c ∷ d) h .0) .0)))
+    go (no n) = sym (large b (c ∷ d) (omega arith) (omega arith))
+
+pub ends-first : (d : List ℕ) → every digit d ≡ true → 2 ≤ length d → length d ≤ 4 → not (eqb (getD d 0 0) (byte "0")) ≡ wellEnded d
+unfolding wellEnded isEndNumber
+ends-first [] h l k = absurd (omega arith)
+ends-first (b ∷ []) h l k = absurd (omega arith)
+ends-first (b ∷ c ∷ d) h l k = rw (all-end (b ∷ c ∷ d) h, small (b ∷ c ∷ d) h k) (sym (and-true (not (eqb b (byte "0")))))
+
+-- A name ends as well as the digits at its end.
+pub ends-alike : (w : List ℕ) → wellEnded (endDigits w) ≡ wellEnded w
+unfolding wellEnded
+ends-alike w = rw (all-end (endDigits w) (end-every w))
 
 -- ---- a name is its first part and its number
 

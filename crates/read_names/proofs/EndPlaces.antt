@@ -1,13 +1,14 @@
 -- The number at the end of a spelling, in the text: where its digits start, and how they are read.
 -- Assumes that the spelling starts in the text.
 use mathlib.Core.Path.{_≡_, refl, sym, ap, ap₂, subst, _∙_}
-use mathlib.Core.Bool.{Bool, true, false, true≢false, _||_, or-true}
+use mathlib.Core.Bool.{Bool, true, false, true≢false, not}
 use mathlib.Core.List.{List, _++_, append-assoc}
 use Prim.Native.Nat.{ℕ, suc, _+_, _-_, _<_, _≤_}
 use native.Mathlib.Omega.{arith}
 use native.Mathlib.Decide.{decLt}
+use lib.Dec.{eqb}
 use lib.ListN.{length, getD, take, drop, drop-of-length-le, length-append, length-drop, take-append-drop}
-use lib.Seq.{length-take-le, take-append-seam, drop-append-seam, drop-drop, getD-drop}
+use lib.Seq.{length-take-le, take-append-seam, drop-append-seam, drop-drop, getD-drop, getD-take}
 use Rattle.spec_limits.specs.Limits.{mostEndNumber}
 use Rattle.read_names.specs.declared.EndNumber.{EndNumber}
 use Rattle.read_names.specs.declared.EndNumber.the-variants.{Number, Absent}
@@ -16,13 +17,13 @@ use Rattle.read_names.specs.declared.NameRead.the-variants.{Name, Other}
 use Rattle.read_bytes.specs.declared.numbers.Number.the-variants.{Value, Missing}
 use Rattle.read_bytes.specs.Bytes.{byte, peek, pick, digit, nameByte, every, runEnd}
 use Rattle.read_bytes.specs.Numbers.{number}
-use Rattle.read_names.specs.EndNumbers.{endDigits, stem, none, numberOf, endNumber, wellEnded}
+use Rattle.read_names.specs.EndNumbers.{endDigits, stem, numberOf, endNumber, wellEnded}
 use Rattle.read_names.specs.Spellings.{spellingAt, spellingEnd, stemEnd, Spelled, DigitsTo}
 use Rattle.read_bytes.proofs.Places.{peek-out}
 use Rattle.read_bytes.proofs.Tests.{between-low, between-high}
 use Rattle.read_bytes.proofs.Runs.{run-every, every-at, run-slice, end-stops, end-reach, run-byte}
 use Rattle.read_names.proofs.Spelling.{name-digit}
-use Rattle.read_names.proofs.EndNumbers.{parts, end-every, stem-all, stem-to, digit-before, ends-none, none-ends, EndRead, end-read, read-missing, read-part, read-number, read-large, number-is, number-not}
+use Rattle.read_names.proofs.EndNumbers.{parts, end-every, stem-all, stem-to, digit-before, EndRead, end-read, read-missing, read-part, read-number, read-large, ends-few, ends-many, ends-first, ends-alike}
 
 -- A byte that ends a spelling is no digit.
 after-spelling : (s : List ℕ) (p : ℕ) → digit (peek s (spellingEnd s p)) ≡ false
@@ -147,27 +148,15 @@ module _ {s : List ℕ} {p e : ℕ} (h : Spelled s p e) where
   abbrev Ended : NameRead → Type 0
   Ended r = r ≡ pick (wellEnded (spellingAt s p)) (λ _. Name e (endNumber (spellingAt s p))) Other
 
-  module _ {i : ℕ} (z : i ≡ stemEnd s p) {n : EndNumber} (read-is : n ≡ numberOf (take (e - i) (drop i s))) where
-    is : n ≡ endNumber (spellingAt s p)
-    is = read-is ∙ ap numberOf (digits-slice z)
+  module _ {i : ℕ} (z : i ≡ stemEnd s p) where
+    ends-here : wellEnded (take (e - i) (drop i s)) ≡ wellEnded (spellingAt s p)
+    ends-here = ap wellEnded (digits-slice z) ∙ ends-alike (spellingAt s p)
 
-    pub name-numbered : {x : ℕ} → n ≡ Number x → Ended (Name e n)
-    unfolding wellEnded
-    name-numbered a = rw (number-is (endDigits (spellingAt s p)) (sym is ∙ a), or-true (none (endDigits (spellingAt s p)))) (ap (Name e) is)
+    pub name-well : {n : EndNumber} → n ≡ numberOf (take (e - i) (drop i s)) → wellEnded (take (e - i) (drop i s)) ≡ true → Ended (Name e n)
+    name-well read-is a = rw (sym ends-here ∙ a) (ap (Name e) (read-is ∙ ap numberOf (digits-slice z)))
 
-    pub name-plain : i ≡ e → Ended (Name e n)
-    unfolding wellEnded
-    name-plain l =
-        let d = ends-none (spellingAt s p) (omega (arith, z, long)) in
-        rw d (ap (Name e) (is ∙ ap numberOf d))
-
-    pub name-wrong : n ≡ Absent → (i ≡ e → ⊥) → Ended Other
-    unfolding wellEnded
-    name-wrong a l = rw (number-not (endDigits (spellingAt s p)) (sym is ∙ a)) (go (none (endDigits (spellingAt s p))) refl)
-      where
-        go : (b : Bool) → none (endDigits (spellingAt s p)) ≡ b → Other ≡ pick (b || false) (λ _. Name e (endNumber (spellingAt s p))) Other
-        go false f = refl
-        go true f = absurd (l (omega (arith, z, long, none-ends (spellingAt s p) f)))
+    pub name-wrong : wellEnded (take (e - i) (drop i s)) ≡ false → Ended Other
+    name-wrong a = rw (sym ends-here ∙ a)
 
 -- ---- what they say
 
@@ -201,3 +190,17 @@ module _ {s : List ℕ} {i e : ℕ} (h : DigitsTo s i e) where
 
     pub end-large : q ≡ e → mostEndNumber < x → Absent ≡ numberOf (take (e - i) (drop i s))
     end-large z = read-large read-value (z ∙ sym many)
+
+  -- ---- whether they end a name well
+
+  pub well-few : e - i < 2 → true ≡ wellEnded (take (e - i) (drop i s))
+  well-few l = ends-few (take (e - i) (drop i s)) (h .digits) (omega (arith, many))
+
+  pub well-many : 4 < e - i → false ≡ wellEnded (take (e - i) (drop i s))
+  well-many l = ends-many (take (e - i) (drop i s)) (h .digits) (omega (arith, many))
+
+  pub well-first : 2 ≤ e - i → e - i ≤ 4 → not (eqb (getD s i 0) (byte "0")) ≡ wellEnded (take (e - i) (drop i s))
+  well-first l k =
+      let n : i + 0 ≡ i = omega arith in
+      let first : getD (take (e - i) (drop i s)) 0 0 ≡ getD s i 0 = getD-take (e - i) (drop i s) 0 0 (omega arith) ∙ getD-drop i s 0 0 ∙ ap (λ (q : ℕ). getD s q 0) n in
+      ap (λ (b : ℕ). not (eqb b (byte "0"))) (sym first) ∙ ends-first (take (e - i) (drop i s)) (h .digits) (omega (arith, many)) (omega (arith, many))

@@ -9,17 +9,17 @@ use native.Mathlib.Omega.{arith}
 use native.Mathlib.Decide.{decLt}
 use borrow.Author.Tests.{eqb-true, eqb-false, eq-eqb, ne-eqb, le-leb, lt-leb, leb-true, not-true}
 use lib.Dec.{leb, eqb}
-use lib.ListN.{length, getD, take, drop, drop-of-length-le, length-append, List·getD-append}
-use lib.Seq.{getD-drop, getD-take, getD-append-seam}
+use lib.ListN.{length, getD, length-append, List·getD-append}
+use lib.Seq.{getD-append-seam}
 use Rattle.spec_limits.specs.Limits.{mostNameBytes}
 use Rattle.read_names.specs.declared.EndNumber.{EndNumber}
 use Rattle.read_names.specs.declared.NameRead.the-variants.{Name, Other}
 use Rattle.read_bytes.specs.Bytes.{bytes, byte, peek, pick, letter, nameByte, runEnd, every}
 use Rattle.read_names.specs.EndNumbers.{endNumber, wellEnded}
-use Rattle.read_names.specs.Spellings.{spellingAt, spellingEnd, namesAt, sameText, findName, isSpelled, nameAt}
+use Rattle.read_names.specs.Spellings.{spellingAt, spellingEnd, namesAt, sameText, findName, isSpelled, isReserved, nameAt, Spelled}
 use Rattle.read_bytes.proofs.Tests.{between-in}
-use Rattle.read_bytes.proofs.Places.{Reach, drop-in}
-use Rattle.read_bytes.proofs.Runs.{run-every, run-byte, run-slice}
+use Rattle.read_bytes.proofs.Places.{Reach}
+use Rattle.read_bytes.proofs.Runs.{run-byte}
 use Rattle.read_names.proofs.Spelling.{word-ahead, is-word}
 
 same-is : (a b : List ℕ) → sameText a b ≡ true → a ≡ b
@@ -72,21 +72,33 @@ module _ (s : List ℕ) (a : ℕ) (w : List ℕ) where
           let r = run-byte nameByte s a k (omega arith) in
           absurd (differs (omega (arith, r .0)) (sym (r .1) ∙ ap (λ l. getD l k 0) i))
 
--- The spelling of r at p, cut out up to e, held against the spelling of s at a. The byte of s at a from k on is the one at k from a on.
-module _ (r : List ℕ) (p e : ℕ) (ends : e ≡ spellingEnd r p) where
-  pub cut-long : length (take (e - p) (drop p r)) ≡ e - p
-  unfolding runEnd
-  cut-long = rw (run-slice nameByte r p e ends) (omega arith)
+  -- It is as long as w where it is w.
+  word-long : every nameByte w ≡ true → isSpelled s a w ≡ true → length (spellingAt s a) ≡ length w
+  word-long h e = ap length (same-is (spellingAt s a) w (sym (word-same h) ∙ e))
 
-  module _ (s : List ℕ) (a : ℕ) where
-    pub cut-same : isSpelled s a (take (e - p) (drop p r)) ≡ sameText (spellingAt s a) (spellingAt r p)
-    cut-same = rw (run-slice nameByte r p e ends) (word-same s a (spellingAt r p) (run-every nameByte r p))
+  not-long : every nameByte w ≡ true → (length (spellingAt s a) ≡ length w → ⊥) → isSpelled s a w ≡ false
+  not-long h n = go (isSpelled s a w) refl
+    where
+      go : (b : Bool) → isSpelled s a w ≡ b → b ≡ false
+      go false e = refl
+      go true e = absurd (n (word-long h e))
 
-    pub cut-other : (k : ℕ) → k < e - p → (a + (e - p) ≤ length s → getD (take (length s - k) (drop k s)) a 0 ≡ getD (take (e - p) (drop p r)) k 0 → ⊥) → sameText (spellingAt s a) (spellingAt r p) ≡ false
-    unfolding runEnd
-    cut-other k h differs =
-        word-other s a (spellingAt r p) k (omega arith)
-        (λ l i. differs (omega arith) (getD-take (length s - k) (drop k s) a 0 (omega arith) ∙ getD-drop k s a 0 ∙ i ∙ sym (ap (λ w. getD w k 0) (run-slice nameByte r p e ends))))
+-- The reserved words, one after the other.
+module _ (s : List ℕ) (p : ℕ) where
+  pub reserved-since : isSpelled s p (bytes "since") ≡ true → true ≡ isReserved s p
+  unfolding isReserved
+  reserved-since a = rw a
+
+  pub reserved-until : isSpelled s p (bytes "since") ≡ false → isSpelled s p (bytes "until") ≡ isReserved s p
+  unfolding isReserved
+  reserved-until a = rw a
+
+-- Each has five bytes.
+pub reserved-five : {s : List ℕ} {p e : ℕ} → Spelled s p e → (e - p ≡ 5 → ⊥) → false ≡ isReserved s p
+unfolding isReserved every nameByte runEnd
+reserved-five {s} {p} {e} h n =
+    let long : length (spellingAt s p) ≡ 5 → ⊥ = λ l. n (omega (arith, l, h .ends)) in
+    rw (not-long s p (bytes "since") refl long, not-long s p (bytes "until") refl long)
 
 -- Whether the first name is w settles the search there, or moves it on by one.
 module _ (w n : List ℕ) (ns : List (List ℕ)) where
@@ -179,22 +191,6 @@ names-at s [] i h = absurd (omega arith)
 names-at s (p ∷ ps) zero h = refl
 names-at s (p ∷ ps) (suc i) h = names-at s ps i (omega arith)
 
--- The search from the place i on.
-module _ (s ps w : List ℕ) (i : ℕ) where
-  pub search-end : length ps ≤ i → i + findName w (namesAt s (drop i ps)) ≡ i
-  unfolding namesAt findName
-  search-end h = rw (drop-of-length-le ps h) (omega arith)
-
-  first : i < length ps → namesAt s (drop i ps) ≡ spellingAt s (getD ps i 0) ∷ namesAt s (drop (i + 1) ps)
-  unfolding namesAt
-  first h = ap (namesAt s) (drop-in ps i 0 h)
-
-  pub search-here : i < length ps → sameText (spellingAt s (getD ps i 0)) w ≡ true → i + findName w (namesAt s (drop i ps)) ≡ i
-  search-here h e = rw (first h, find-here w (spellingAt s (getD ps i 0)) (namesAt s (drop (i + 1) ps)) e) (omega arith)
-
-  pub search-on : i < length ps → sameText (spellingAt s (getD ps i 0)) w ≡ false → i + findName w (namesAt s (drop i ps)) ≡ i + 1 + findName w (namesAt s (drop (i + 1) ps))
-  search-on h e = rw (first h, find-later w (spellingAt s (getD ps i 0)) (namesAt s (drop (i + 1) ps)) e) (omega arith)
-
 -- NAMES OF A SHEET
 module _ (s : List ℕ) (p b : ℕ) (eb : b ≡ peek s p) where
   pub name-not : letter b ≡ false → Other ≡ nameAt s p
@@ -213,18 +209,24 @@ module _ (s : List ℕ) (p b : ℕ) (eb : b ≡ peek s p) where
     unfolding runEnd
     short h = le-leb (length (spellingAt s p)) mostNameBytes (omega arith)
 
-    pub name-since : e - p ≤ mostNameBytes → isSpelled s p (bytes "since") ≡ true → Other ≡ nameAt s p
-    unfolding nameAt
-    name-since h a = rw (first-letter, short h, a)
+    module _ (h : e - p ≤ mostNameBytes) where
+      pub name-reserved : isReserved s p ≡ true → Other ≡ nameAt s p
+      unfolding nameAt isReserved
+      name-reserved a = go (isSpelled s p (bytes "since")) refl (isSpelled s p (bytes "until")) refl
+        where
+          go : (b : Bool) → isSpelled s p (bytes "since") ≡ b → (d : Bool) → isSpelled s p (bytes "until") ≡ d → Other ≡ nameAt s p
+          go true f d g = rw (first-letter, short h, f)
+          go false f true g = rw (first-letter, short h, f, g)
+          go false f false g = absurd (false≢true (sym (rw (f, g)) ∙ a))
 
-    module _ (h : e - p ≤ mostNameBytes) (a : isSpelled s p (bytes "since") ≡ false) where
-      pub name-until : isSpelled s p (bytes "until") ≡ true → Other ≡ nameAt s p
-      unfolding nameAt
-      name-until d = rw (first-letter, short h, a, d)
-
-      pub name-is : isSpelled s p (bytes "until") ≡ false → pick (wellEnded (spellingAt s p)) (λ _. Name e (endNumber (spellingAt s p))) Other ≡ nameAt s p
-      unfolding nameAt
-      name-is d = rw (first-letter, short h, a, d, ← ee)
+      pub name-is : isReserved s p ≡ false → pick (wellEnded (spellingAt s p)) (λ _. Name e (endNumber (spellingAt s p))) Other ≡ nameAt s p
+      unfolding nameAt isReserved
+      name-is a = go (isSpelled s p (bytes "since")) refl (isSpelled s p (bytes "until")) refl
+        where
+          go : (b : Bool) → isSpelled s p (bytes "since") ≡ b → (d : Bool) → isSpelled s p (bytes "until") ≡ d → pick (wellEnded (spellingAt s p)) (λ _. Name e (endNumber (spellingAt s p))) Other ≡ nameAt s p
+          go true f d g = absurd (false≢true (sym a ∙ rw f))
+          go false f true g = absurd (false≢true (sym a ∙ rw (f, g)))
+          go false f false g = rw (first-letter, short h, f, g, ← ee)
 
 -- What a name is, and the number at its end.
 pub record Named (s : List ℕ) (p q : ℕ) (n : EndNumber) : Type 0 where

@@ -3,16 +3,16 @@
 use mathlib.Core.Path.{_≡_, refl, sym, ap, _∙_}
 use mathlib.Core.Bool.{Bool, true, false, true≢false, not, _&&_, and-eq-true-iff, or-true}
 use mathlib.Core.List.{List, [], _∷_}
-use Prim.Native.Nat.{ℕ, suc, _+_, _-_, _<_, _≤_}
+use Prim.Native.Nat.{ℕ, suc, _+_, _<_}
 use native.Mathlib.Omega.{arith}
 use native.Mathlib.Decide.{decLt}
 use borrow.Author.Tests.{eqb-true}
 use lib.Dec.{eqb}
-use lib.ListN.{length, take, drop}
+use lib.ListN.{length}
 use Rattle.read_bytes.specs.Bytes.{peek, letter, digit, nameByte, starts, runEnd, every}
 use Rattle.read_names.specs.Spellings.{spellingAt, spellingEnd, sameText, isSpelled}
 use Rattle.read_bytes.proofs.Places.{Reach, peek-in, inside-test}
-use Rattle.read_bytes.proofs.Runs.{run-every, run-more, run-none, run-past, end-reach, run-slice}
+use Rattle.read_bytes.proofs.Runs.{run-more, run-none, run-past, end-reach}
 
 -- A byte of a name is a letter or a digit.
 module _ (b : ℕ) where
@@ -89,12 +89,3 @@ module _ (s : List ℕ) (p : ℕ) (w : List ℕ) where
   pub is-by : starts s p w ≡ true → not (nameByte (peek s (p + length w))) ≡ isSpelled s p w
   unfolding isSpelled
   is-by a = rw a
-
--- The spelling at a of s, cut out up to e, is the spelling at b of r exactly if the two spellings are the same.
-module _ (s : List ℕ) (a : ℕ) (r : List ℕ) (b : ℕ) where
-  pub same-cut : (e : ℕ) → e ≡ spellingEnd s a → isSpelled r b (take (e - a) (drop a s)) ≡ sameText (spellingAt s a) (spellingAt r b)
-  same-cut e h = rw (run-slice nameByte s a e h) (is-word r b (spellingAt s a) (run-every nameByte s a))
-
-  pub same-past : length s ≤ a → isSpelled r b [] ≡ sameText (spellingAt s a) (spellingAt r b)
-  unfolding every
-  same-past h = rw (run-past nameByte s a h) (is-word r b [] refl)

@@ -1,9 +1,9 @@
 -- Spellings, and names among them (01, "The sheet"; E8).
 -- Assumes nothing.
 use mathlib.Core.Path.{_≡_}
-use Prim.Native.Nat.{ℕ, suc, _+_, _-_, _<_, _≤_}
+use Prim.Native.Nat.{ℕ, suc, _+_, _-_, _≤_}
 use mathlib.Core.List.{List, [], _∷_}
-use mathlib.Core.Bool.{Bool, true, false, not, _&&_}
+use mathlib.Core.Bool.{Bool, true, false, not, _&&_, _||_}
 use lib.ListN.{length, take, drop}
 use lib.Dec.{leb, eqb}
 use Rattle.spec_limits.specs.Limits.{mostNameBytes}
@@ -49,6 +49,10 @@ findName w (n ∷ ns) = pick (not (sameText n w)) (λ _. suc (findName w ns)) 0
 unfoldable pub isSpelled : List ℕ → ℕ → List ℕ → Bool
 isSpelled s p w = starts s p w && not (nameByte (peek s (p + length w)))
 
+-- Is the spelling at p a reserved word: since or until?
+unfoldable pub isReserved : List ℕ → ℕ → Bool
+isReserved s p = isSpelled s p (bytes "since") || isSpelled s p (bytes "until")
+
 -- A name from p on: a letter, then letters or digits, 1 to 16 in all, neither since nor until, and digits at its end are an end number. Or no name.
 unfoldable pub nameAt : List ℕ → ℕ → NameRead
 nameAt s p =
@@ -69,10 +73,3 @@ pub record DigitsTo (s : List ℕ) (i e : ℕ) : Type 0 where
   pub inside : e ≤ length s
   pub digits : every digit (take (e - i) (drop i s)) ≡ true
   pub stops : digit (peek s e) ≡ false
-
--- The spelling at p of r ends at e: it is not empty, and the text s has as many bytes.
-pub record Searched (s r : List ℕ) (p e : ℕ) : Type 0 where
-  pub some : p < e
-  pub ends : e ≡ spellingEnd r p
-  pub inside : e ≤ length r
-  pub fits : e - p ≤ length s

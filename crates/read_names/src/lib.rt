@@ -15,8 +15,7 @@ ghost use lib.ListN.{length, take, drop};
 ghost use Rattle.read_bytes.specs.Bytes.{bytes, peek, pick, nameByte};
 ghost use Rattle.read_names.specs.declared.NameRead.the-variants.{Name, Other};
 ghost use Rattle.read_names.specs.EndNumbers.{numberOf, endNumber, wellEnded};
-ghost use Rattle.read_names.specs.Spellings.{spellingAt, spellingEnd, stemEnd, sameText, findName, isSpelled, nameAt, Spelled, DigitsTo, Searched};
-ghost use Rattle.read_names.specs.Slices.{before, namesOf};
+ghost use Rattle.read_names.specs.Spellings.{spellingAt, spellingEnd, stemEnd, isSpelled, isReserved, nameAt, Spelled, DigitsTo};
 
 // The number at the end of a name, or that there is none.
 pub enum EndNumber {
@@ -52,7 +51,7 @@ pub fn is_spelled(s: &[u8], at: usize, w: &[u8]) -> bool
 }
 
 // The same, where the text has room for the spelling.
-fn spelled_inside(s: &[u8], at: usize, w: &[u8]) -> bool
+pub fn spelled_inside(s: &[u8], at: usize, w: &[u8]) -> bool
     requires { ⌜ at + length (now w) ≤ length (now s) ⌝ }
     ensures { λ r. ⌜ r ≡ isSpelled (now (s .entry)) at (now (w .entry)) ⌝ }
 {
@@ -80,6 +79,20 @@ pub fn is_until(s: &[u8], at: usize) -> bool
     is_spelled(s, at, b"until")
 }
 
+// Is the spelling at `at`, which ends at `e`, a reserved word? Both have five bytes.
+fn is_reserved(s: &[u8], at: usize, e: usize) -> bool
+    requires { ⌜ Spelled (now s) at e ⌝ }
+    ensures { λ r. ⌜ r ≡ isReserved (now (s .entry)) at ⌝ }
+{
+    if e - at == 5 {
+        if is_since(s, at) {
+            return true;
+        }
+        return is_until(s, at);
+    }
+    false
+}
+
 // The place after the spelling at `at`. A byte below `a` is no letter, so it is a digit or ends the spelling.
 pub fn spelling_end(s: &[u8], at: usize) -> usize
     ensures { λ r. ⌜ r ≡ spellingEnd (now (s .entry)) at ⌝ }
@@ -102,74 +115,6 @@ pub fn spelling_end(s: &[u8], at: usize) -> usize
         i += 1;
     }
     i
-}
-
-// Are the spellings at `a` of `s` and at `b` of `r` the same?
-pub fn same_spelling(s: &[u8], a: usize, r: &[u8], b: usize) -> bool
-    requires { ⌜ b ≤ length (now r) ⌝ }
-    ensures { λ v. ⌜ v ≡ sameText (spellingAt (now (s .entry)) a) (spellingAt (now (r .entry)) b) ⌝ }
-{
-    if a < s.len() {
-        let e = spelling_end(s, a);
-        is_spelled(r, b, &s[a..e])
-    } else {
-        is_spelled(r, b, b"")
-    }
-}
-
-// What `find_name` finds, by comparing whole spellings.
-fn find_whole(s: &[u8], names: &[u64], r: &[u8], at: usize) -> usize
-    requires { ⌜ at ≤ length (now r) ⌝ }
-    ensures { λ v. ⌜ v ≡ findName (spellingAt (before r) at) (namesOf s names) ⌝ }
-{
-    let mut i = 0;
-    while i < names.len() {
-        let a = names[i] as usize;
-        if same_spelling(s, a, r, at) {
-            return i;
-        }
-        i += 1;
-    }
-    i
-}
-
-// The same for a spelling up to `e` that is not empty and not longer than `s`. The last byte mostly decides: that of such a spelling at `a` is `lasts[a]`.
-fn find_quick(s: &[u8], names: &[u64], r: &[u8], at: usize, e: usize) -> usize
-    requires { ⌜ Searched (now s) (now r) at e ⌝ }
-    ensures { λ v. ⌜ v ≡ findName (spellingAt (before r) at) (namesOf s names) ⌝ }
-{
-    let w = &r[at..e];
-    let before = w.len() - 1;
-    let last = w[before];
-    let lasts = &s[before..];
-    let mut i = 0;
-    while i < names.len() {
-        let a = names[i] as usize;
-        if a < lasts.len() {
-            if lasts[a] == last {
-                if spelled_inside(s, a, w) {
-                    return i;
-                }
-            }
-        }
-        i += 1;
-    }
-    i
-}
-
-// The number of the first of the names that is the spelling at `at` of `r`, or how many names there are. The names stand at places of `s`.
-pub fn find_name(s: &[u8], names: &[u64], r: &[u8], at: usize) -> usize
-    requires { ⌜ at ≤ length (now r) ⌝ }
-    ensures { λ v. ⌜ v ≡ findName (spellingAt (before r) at) (namesOf s names) ⌝ }
-{
-    let e = spelling_end(r, at);
-    let n = e - at;
-    if 0 < n {
-        if n <= s.len() {
-            return find_quick(s, names, r, at, e);
-        }
-    }
-    find_whole(s, names, r, at)
 }
 
 // Where the digits at the end of the spelling at `at`, which ends at `e`, start: after its last letter.
@@ -207,22 +152,32 @@ pub fn end_number(s: &[u8], at: usize, e: usize) -> EndNumber
     }
 }
 
+// Are there no digits from `at` up to `e` at a name's end, or are they an end number? How many they are and the first of them tell.
+fn ends_well(s: &[u8], at: usize, e: usize) -> bool
+    requires { ⌜ DigitsTo (now s) at e ⌝ }
+    ensures { λ r. ⌜ r ≡ wellEnded (take (e - at) (drop at (now (s .entry)))) ⌝ }
+{
+    let many = e - at;
+    if many < 2 {
+        return true;
+    }
+    if 4 < many {
+        return false;
+    }
+    s[at] != b'0'
+}
+
 // The name from `at` up to `e`, if digits at its end are an end number. Or no name.
 fn name_to(s: &[u8], at: usize, e: usize) -> NameRead
     requires { ⌜ Spelled (now s) at e ⌝ }
     ensures { λ r. ⌜ r ≡ pick (wellEnded (spellingAt (now (s .entry)) at)) (λ _. Name e (endNumber (spellingAt (now (s .entry)) at))) Other ⌝ }
 {
     let i = stem_end(s, at, e);
-    let n = end_number(s, i, e);
-    match n {
-        EndNumber::Number(_) => NameRead::Name(e, n),
-        EndNumber::Absent => {
-            if i == e {
-                NameRead::Name(e, n)
-            } else {
-                NameRead::Other
-            }
-        }
+    if ends_well(s, i, e) {
+        let n = end_number(s, i, e);
+        NameRead::Name(e, n)
+    } else {
+        NameRead::Other
     }
 }
 
@@ -236,10 +191,7 @@ pub fn name_at(s: &[u8], at: usize) -> NameRead
         b'a'..=b'z' => {
             let e = spelling_end(s, at);
             if e - at <= NAME_BYTES {
-                if is_since(s, at) {
-                    return NameRead::Other;
-                }
-                if is_until(s, at) {
+                if is_reserved(s, at, e) {
                     return NameRead::Other;
                 }
                 return name_to(s, at, e);

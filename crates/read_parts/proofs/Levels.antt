@@ -54,6 +54,10 @@ module _ {a a′ : List ℕ} {L e p m h x : ℕ} {R : Read Written} where
       go : Parses a a′ L e p m h x R (Got q u h′) → Arena u a′
       go (parsed w eq f ar sm he hh) = ar
 
+  -- A formula by another name.
+  pub got-as : {R′ : Read Written} {q u h′ : ℕ} → ((f : Written) → R ≡ got f q → R′ ≡ got f q) → Parses a a′ L e p m h x R (Got q u h′) → Parses a a′ L e p m h x R′ (Got q u h′)
+  got-as {q = q} {u} {h′} same (parsed w eq f ar sm he hh) = parsed {q = q} {u = u} {h′ = h′} w (same w eq) f ar sm he hh
+
   -- A refusal by another name, whatever stands in the arena.
   pub refused-as : {R′ : Read Written} {b b′ : List ℕ} {L′ e′ p′ m′ k′ x′ : ℕ} {r : Parsed} {n k : ℕ} → (R ≡ refused n k → R′ ≡ refused n k)
       → Parses a a′ L e p m h x R r → r ≡ Refused n k → Parses b b′ L′ e′ p′ m′ k′ x′ R′ r
@@ -208,10 +212,7 @@ module _ {a a₁ : List ℕ} {L p m h x q u h₂ : ℕ} {R : Read Written} (n : 
   ended = andThen R (λ f y. pick (eqb y n) (λ _. got f y) (refused 5 y))
 
   pub whole : q ≡ n → Parses a a₁ L 1 p m h x ended (Got q u h₂)
-  whole e = go A
-    where
-      go : Parses a a₁ L 1 p m h x R (Got q u h₂) → Parses a a₁ L 1 p m h x ended (Got q u h₂)
-      go (parsed f eq w ar sm he hs) = parsed {q = q} {u = u} {h′ = h₂} f (rw (eq, eq-eqb q n e)) w ar sm he hs
+  whole e = got-as (λ f eq. rw (eq, eq-eqb q n e)) A
 
   pub not-whole : (q ≡ n → ⊥) → Parses a a₁ L 1 p m h x ended (Refused 5 q)
   not-whole e = go A

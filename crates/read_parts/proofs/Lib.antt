@@ -2,6 +2,6 @@
 pub mod Levels
 pub mod Rooms
 pub mod Steps
-pub mod Follows
+pub mod Turns
 pub mod Timed
 pub mod Later

@@ -6,8 +6,6 @@ use mathlib.Core.List.{List, [], _∷_}
 use mathlib.Core.Logic.{_⊎_, inl, inr, ⊎-elim}
 use mathlib.Core.Option.{Option, some}
 use Prim.Native.Nat.{ℕ, zero, suc, _+_, _-_, _*_, _<_, _≤_}
-use native.Mathlib.Nat.{zero-add, suc-add}
-use native.Mathlib.Numerals.{add-one}
 use native.Mathlib.Omega.{arith}
 use borrow.Author.Tests.{eq-eqb, ne-eqb, eqb-true, lt-ltb, le-ltb}
 use lib.Dec.{eqb, ltb}
@@ -18,21 +16,25 @@ use Rattle.read_bytes.specs.declared.bytes.Class.the-variants as class
 use Rattle.read_bytes.specs.declared.bytes.Class.the-variants.{Letter, Digit, Bracket, Other}
 use Rattle.read_bytes.specs.Read.{andThen}
 use Rattle.read_bytes.specs.Read.Read.{got, refused}
-use Rattle.read_bytes.specs.Bytes.{byte, bytes, peek, pick, oneOf, classOf, starts, nameByte, InLine}
-use Rattle.read_names.specs.Spellings.{spellingAt, spellingEnd, namesAt, findName, isSpelled}
+use Rattle.read_bytes.specs.Bytes.{byte, bytes, peek, pick, letter, oneOf, classOf, starts, nameByte, InLine}
+use Rattle.read_names.specs.Spellings.{spellingAt, spellingEnd, findName, isSpelled}
+use Rattle.read_index.specs.declared.Found.{Found}
+use Rattle.read_index.specs.Index.{nameCount, namesIn, IndexOf}
+use Rattle.read_index.specs.Finds.{Finds}
 use Rattle.read_bytes.proofs.Places.{inside as inside-at, Reach}
 use Rattle.read_bytes.proofs.Classes.{class-letter}
 use Rattle.read_names.proofs.Spelling.{word-ahead}
-use Rattle.read_names.proofs.Names.{names-many}
-use Rattle.read_arena.specs.declared.Sign.{Sign}
-use Rattle.read_arena.specs.Nodes.{opOf, signNumber, signOf}
+use Rattle.read_names.proofs.Names.{named}
+use Rattle.read_index.proofs.NameTexts.{text-name}
+use Rattle.read_index.proofs.Places.{names-in-many}
+use Rattle.read_index.proofs.Looking.{found-text}
 use Rattle.spec_ticks.proofs.Bits.{lt-or-ge}
 use Rattle.spec_tilco.specs.Formula.{Op, And, Or, Implies, Iff, Written}
 use Rattle.read_interval.specs.declared.Offsets.{Offsets}
 use Rattle.read_interval.specs.declared.Offsets.the-variants.{Over}
 use Rattle.read_interval.specs.Interval.{interval}
 use Rattle.read_interval.proofs.Intervals.{one-of, none-of, interval-reach}
-use Rattle.read_parts.specs.FormulaText.{Reader, declared, offsetsThen, times, timedPart, signText, repeats, more, level, below, formula, negated, thenParen, inParens, second, sinceUntil, nameOrKeep, plainPartIn, inside, plainPart}
+use Rattle.read_parts.specs.FormulaText.{Reader, declared, offsetsThen, times, signText, repeats, more, formula, negated, thenParen, inParens, second, sinceUntil, nameOrKeep, plainPartIn, inside, plainPart}
 
 -- ---- signs
 
@@ -60,22 +62,6 @@ sign-some Or = omega arith
 sign-some Implies = omega arith
 sign-some Iff = omega arith
 
--- A sign of n bytes stands at p: it has a byte at least, and ends inside the text.
-pub record Signed (s : List ℕ) (p : ℕ) (o : Op) (n : ℕ) : Type 0 where
-  pub stands : starts s p (signText o) ≡ true
-  pub long : n ≡ length (signText o)
-  pub some : 1 ≤ n
-  pub inside : p + n ≤ length s
-
-pub signed : (s : List ℕ) (p : ℕ) (o : Op) {t : Bool} {n : ℕ} → p ≤ length s → t ≡ starts s p (signText o) → t ≡ true → n ≡ length (signText o) → Signed s p o n
-signed s p o within told met long =
-    let stands = sym told ∙ met in
-    record { stands = stands; long = long; some = omega (arith, sign-some o); inside = omega (arith, sign-inside o s p within stands) }
-
--- Whether a sign stands there, by the code's name for it.
-pub sign-told : (s : List ℕ) (p : ℕ) {r : Bool} {sign k : Sign} → sign ≡ k → r ≡ starts s p (signText (opOf k)) → r ≡ starts s p (signText (opOf sign))
-sign-told s p e h = rw e h
-
 -- The sign does not follow.
 pub more-none : (o : Op) (P : Reader) (s : List ℕ) (n : ℕ) (f : Written) (p : ℕ) → starts s p (signText o) ≡ false → more o P s n f p ≡ got f p
 unfolding more
@@ -86,82 +72,12 @@ more-none o P s (suc n) f p e = rw e
 abbrev pub onward : Op → Reader → List ℕ → ℕ → Written → Reader
 onward o P s n f q = pick (repeats o) (λ _. more o P s n f q) (got f q)
 
-pub onward-more : (o : Op) (P : Reader) (s : List ℕ) (n : ℕ) (f : Written) (q : ℕ) {b : Bool} → b ≡ repeats o → b ≡ true → onward o P s n f q ≡ more o P s n f q
-onward-more o P s n f q e k = let z : repeats o ≡ true = sym e ∙ k in rw z
-
-pub onward-stop : (o : Op) (P : Reader) (s : List ℕ) (n : ℕ) (f : Written) (q : ℕ) {b : Bool} → b ≡ repeats o → b ≡ false → onward o P s n f q ≡ got f q
-onward-stop o P s n f q e k = let z : repeats o ≡ false = sym e ∙ k in rw z
-
 -- The sign follows, and n is enough.
 pub more-one : (o : Op) (P : Reader) (s : List ℕ) (n : ℕ) (f : Written) (p : ℕ) → starts s p (signText o) ≡ true → p < length s → length s ≤ p + n
     → more o P s n f p ≡ andThen (P (p + length (signText o))) (λ g q. onward o P s (n - 1) (Written.pair o f g) q)
 unfolding more
 more-one o P s zero f p e h l = absurd (omega arith)
 more-one o P s (suc n) f p e h l = let back : suc n - 1 ≡ n = omega arith in rw (e, back)
-
--- ---- levels
-
-pub level-most : (sign : Sign) → signNumber sign ≤ 3
-level-most Sign.And = omega arith
-level-most Sign.Or = omega arith
-level-most Sign.Implies = omega arith
-level-most Sign.Iff = omega arith
-
--- The sign with a number has it.
-number-of : (i : ℕ) → i ≤ 3 → signNumber (signOf i) ≡ i
-unfolding signOf
-number-of zero h = refl
-number-of (suc zero) h = refl
-number-of (suc (suc zero)) h = refl
-number-of (suc (suc (suc zero))) h = refl
-number-of (suc (suc (suc (suc i)))) h = absurd (omega arith)
-
--- What is read before the level with the number i: a timed part, and what follows it at each level below.
-abbrev pub upTo : ℕ → Reader → List ℕ → Reader
-upTo zero P s = timedPart P s
-upTo (suc i) P s = level (opOf (signOf i)) (upTo i P s) s
-
--- These are the parts of that level.
-parts-up-to : (sign : Sign) (P : Reader) (s : List ℕ) → below (opOf sign) P s ≡ upTo (signNumber sign) P s
-unfolding signOf
-parts-up-to Sign.And P s = refl
-parts-up-to Sign.Or P s = refl
-parts-up-to Sign.Implies P s = refl
-parts-up-to Sign.Iff P s = refl
-
--- A level is what is read before the next.
-pub level-up-to : (sign : Sign) (P : Reader) (s : List ℕ) (p : ℕ) → level (opOf sign) (below (opOf sign) P s) s p ≡ upTo (signNumber sign + 1) P s p
-unfolding signOf
-level-up-to Sign.And P s p = refl
-level-up-to Sign.Or P s p = refl
-level-up-to Sign.Implies P s p = refl
-level-up-to Sign.Iff P s p = refl
-
--- One level more.
-pub one-level : (i : ℕ) → i ≤ 3 → (P : Reader) (s : List ℕ) (p : ℕ)
-    → upTo (i + 1) P s p ≡ andThen (upTo i P s p) (λ f q. more (opOf (signOf i)) (below (opOf (signOf i)) P s) s (length s) f q)
-unfolding level
-one-level i h P s p = rw (add-one i, parts-up-to (signOf i) P s, number-of i h)
-
--- The parts of the first level are timed parts, those of any other the level before it.
-pub below-first : (sign : Sign) (P : Reader) (s : List ℕ) (p : ℕ) → signNumber sign ≡ 0 → below (opOf sign) P s p ≡ timedPart P s p
-below-first sign P s p e = rw (parts-up-to sign P s, e)
-
-module _ {n : ℕ} {k : Sign} (sign : Sign) (e : n ≡ signNumber sign) (some : n ≡ 0 → ⊥) (before : k ≡ signOf (n - 1)) where
-  pub number-before : signNumber k + 1 ≡ n
-  number-before = rw before (omega (arith, some, number-of (n - 1) (omega (arith, level-most sign))))
-
-  pub below-next : (P : Reader) (s : List ℕ) (p : ℕ) → below (opOf sign) P s p ≡ level (opOf k) (below (opOf k) P s) s p
-  below-next P s p = rw (parts-up-to sign P s, ← e, ← number-before) (sym (level-up-to k P s p))
-
--- A refusal is that of every level above.
-refused-by : (k i : ℕ) (P : Reader) (s : List ℕ) (p : ℕ) {n q : ℕ} → upTo i P s p ≡ refused n q → upTo (k + i) P s p ≡ refused n q
-unfolding level
-refused-by zero i P s p e = rw zero-add e
-refused-by (suc k) i P s p e = rw (suc-add, refused-by k i P s p e)
-
-pub refused-above : (i j : ℕ) → i ≤ j → (P : Reader) (s : List ℕ) (p : ℕ) {n q : ℕ} → upTo i P s p ≡ refused n q → upTo j P s p ≡ refused n q
-refused-above i j h P s p e = let sum : j ≡ (j - i) + i = omega arith in rw sum (refused-by (j - i) i P s p e)
 
 -- ---- intervals
 
@@ -293,23 +209,33 @@ module _ (d : ℕ) (names : List (List ℕ)) (s : List ℕ) (p : ℕ) where
   word-name e k = rw (e, k)
 
 -- A letter starts a spelling.
-pub letter-ahead : (s : List ℕ) (p : ℕ) → classOf (peek s p) ≡ Letter → Reach s (p + 1) (spellingEnd s p)
+pub spelled-ahead : (s : List ℕ) (p : ℕ) → letter (peek s p) ≡ true → Reach s (p + 1) (spellingEnd s p)
 unfolding nameByte
-letter-ahead s p e = word-ahead s p (rw (class-letter (peek s p) .0 e))
+spelled-ahead s p e = word-ahead s p (rw e)
 
--- Names given by their places in the text.
-module _ (s places : List ℕ) (p i : ℕ) (e : i ≡ findName (spellingAt s p) (namesAt s places)) where
-  pub name-found : {q : ℕ} → i < length places → q ≡ spellingEnd s p → declared (namesAt s places) s p ≡ got (Written.name i) q
+pub letter-ahead : (s : List ℕ) (p : ℕ) → classOf (peek s p) ≡ Letter → Reach s (p + 1) (spellingEnd s p)
+letter-ahead s p e = spelled-ahead s p (class-letter (peek s p) .0 e)
+
+-- Names that are looked up in an index.
+module _ (s T : List ℕ) (p i : ℕ) (e : i ≡ findName (spellingAt s p) (namesIn s T)) where
+  pub name-found : {q : ℕ} → i < nameCount T → q ≡ spellingEnd s p → declared (namesIn s T) s p ≡ got (Written.name i) q
   unfolding declared
   name-found h k =
-      let l : ltb (findName (spellingAt s p) (namesAt s places)) (length (namesAt s places)) ≡ true = lt-ltb (findName (spellingAt s p) (namesAt s places)) (length (namesAt s places)) (omega (arith, names-many s places)) in
+      let l : ltb (findName (spellingAt s p) (namesIn s T)) (length (namesIn s T)) ≡ true = lt-ltb (findName (spellingAt s p) (namesIn s T)) (length (namesIn s T)) (omega (arith, names-in-many s T)) in
       rw (l, e, k)
 
-  pub name-unknown : length places ≤ i → declared (namesAt s places) s p ≡ refused 6 p
+  pub name-unknown : nameCount T ≤ i → declared (namesIn s T) s p ≡ refused 6 p
   unfolding declared
   name-unknown h =
-      let l : ltb (findName (spellingAt s p) (namesAt s places)) (length (namesAt s places)) ≡ false = le-ltb (findName (spellingAt s p) (namesAt s places)) (length (namesAt s places)) (omega (arith, names-many s places)) in
+      let l : ltb (findName (spellingAt s p) (namesIn s T)) (length (namesIn s T)) ≡ false = le-ltb (findName (spellingAt s p) (namesIn s T)) (length (namesIn s T)) (omega (arith, names-in-many s T)) in
       rw l
+
+-- What is found at a letter is a name, and so neither since nor until.
+pub plain-found : (d : ℕ) (s T : List ℕ) (p : ℕ) {f : Found} → IndexOf s T → letter (peek s p) ≡ true → Finds (namesIn s T) s p f → f .signal < nameCount T
+    → plainPart d (namesIn s T) s p ≡ got (Written.name (f .signal)) (f .end)
+plain-found d s T p {f} x k e h =
+    let n = named s p (text-name s p (found-text x e (omega (arith, names-in-many s T)))) in
+    plain-letter d (namesIn s T) s p (class-letter (peek s p) .1 k) ∙ word-name d (namesIn s T) s p (n .not-since) (n .not-until) ∙ name-found s T p (f .signal) (e .found) h (e .ends)
 
 -- ---- since and until
 

@@ -4,7 +4,6 @@ use mathlib.Core.Path.{_≡_}
 use mathlib.Core.List.{List}
 use Prim.Native.Nat.{ℕ, _+_, _-_, _≤_}
 use lib.ListN.{length}
-use Rattle.spec_limits.specs.Limits.{mostSignals}
 use Rattle.read_bytes.specs.Read.{Read}
 use Rattle.read_bytes.specs.Read.Read.{got, refused}
 use Rattle.spec_tilco.specs.Formula.{Written, hiddens}
@@ -22,13 +21,13 @@ pub record Progress (L e p m h q u h′ : ℕ) : Type 0 where
   pub rows : h ≤ h′
   pub hidden : h′ + p ≤ h + q
 
--- The arena has m nodes and room for a node for each byte of s from p on, and hidden signals' rows stay in 16 bits.
-pub record PartReady (s a names : List ℕ) (p m h : ℕ) : Type 0 where
+-- The arena has m nodes and room for a node for each byte of s from p on, hidden signals' rows stay in 16 bits, and N is known of the declared names.
+pub record PartReady (s a : List ℕ) (N : Type 0) (p m h : ℕ) : Type 0 where
   pub within : p ≤ length s
   pub arena : Arena m a
   pub room : NodeRoom a m (length s - p)
   pub rows : h + (length s - p) ≤ 65535
-  pub few : length names ≤ mostSignals
+  pub names : N
 
 -- The answer is what R says, and on a formula the arena holds it at its last node, its hidden signals numbered from x. What stood in the
 -- arena a stands in a′ as it did.

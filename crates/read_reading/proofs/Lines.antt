@@ -12,13 +12,21 @@ use Rattle.read_bytes.specs.Read.Read.{got, refused}
 use Rattle.read_bytes.specs.Bytes.{bytes, between, starts}
 use Rattle.read_names.specs.declared.NameRead.{NameRead}
 use Rattle.read_names.specs.declared.NameRead.the-variants.{Name, Other}
-use Rattle.read_names.specs.Spellings.{spellingAt, namesAt, findName, nameAt}
-use Rattle.read_lines.specs.Lines.{line, wholeName, numberLine, rangedLine, nameLine}
+use Rattle.read_names.specs.EndNumbers.{endNumber}
+use Rattle.read_names.specs.Spellings.{spellingAt, findName, nameAt}
+use Rattle.read_index.specs.declared.Found.{Found}
+use Rattle.read_index.specs.Index.{nameCount, namesIn, IndexOf}
+use Rattle.read_index.specs.Finds.{Finds}
+use Rattle.read_lines.specs.Lines.{keyedAt, lfAt, line, wholeName, numberLine, rangedLine, nameLine}
 use Rattle.read_bytes.proofs.Places.{Reach}
 use Rattle.read_bytes.proofs.Values.{number-reach}
-use Rattle.read_names.proofs.Names.{names-many, name-reach}
+use Rattle.read_names.proofs.Names.{name-reach}
+use Rattle.read_index.proofs.NameTexts.{text-name}
+use Rattle.read_index.proofs.Places.{names-in-many}
+use Rattle.read_index.proofs.Looking.{found-text}
 use Rattle.read_bytes.proofs.Answers.{not-both, same-value, same-place, through, came}
 use Rattle.read_lines.proofs.KeyedLines.{placed, number-held, name-held, line-past, ranged-past}
+use Rattle.read_lines.proofs.ValueFirst.{name-first}
 use Rattle.read_reading.specs.Spans.{Span, span}
 use Rattle.read_reading.specs.OneEntry.{knownLine, tickLine, firstKey, toLine, lastTick, entry}
 
@@ -35,19 +43,27 @@ name-place s p key form content h =
     let w = placed s p key form (d .first) in
     omega (arith, w .order, w .inside, name-value (d .value) content (d .place) (nameAt s (d .value)) (d .then))
 
--- A name that is read: its number among the names at places of the sheet, or its refusal.
-module _ (s ps r : List ℕ) (p : ℕ) {v q : ℕ} (a : nameLine r p (bytes "signal=") 11 12 ≡ got v q) (i : ℕ) (e : i ≡ findName (spellingAt r v) (namesAt s ps)) where
-  pub known-is : i < length ps → got i q ≡ knownLine (namesAt s ps) r p
+-- A name that is read: its number among the names of the sheet's index, or its refusal.
+module _ (s T r : List ℕ) (p : ℕ) {v q : ℕ} (a : nameLine r p (bytes "signal=") 11 12 ≡ got v q) (i : ℕ) (e : i ≡ findName (spellingAt r v) (namesIn s T)) where
+  pub known-is : i < nameCount T → got i q ≡ knownLine (namesIn s T) r p
   unfolding knownLine
   known-is h =
-      let l : findName (spellingAt r v) (namesAt s ps) < length (namesAt s ps) = omega (arith, names-many s ps) in
-      rw (a, lt-ltb (findName (spellingAt r v) (namesAt s ps)) (length (namesAt s ps)) l, e)
+      let l : findName (spellingAt r v) (namesIn s T) < length (namesIn s T) = omega (arith, names-in-many s T) in
+      rw (a, lt-ltb (findName (spellingAt r v) (namesIn s T)) (length (namesIn s T)) l, e)
 
-  pub known-not : length ps ≤ i → refused 12 v ≡ knownLine (namesAt s ps) r p
+  pub known-not : nameCount T ≤ i → refused 12 v ≡ knownLine (namesIn s T) r p
   unfolding knownLine
   known-not h =
-      let l : length (namesAt s ps) ≤ findName (spellingAt r v) (namesAt s ps) = omega (arith, names-many s ps) in
-      rw (a, le-ltb (findName (spellingAt r v) (namesAt s ps)) (length (namesAt s ps)) l)
+      let l : length (namesIn s T) ≤ findName (spellingAt r v) (namesIn s T) = omega (arith, names-in-many s T) in
+      rw (a, le-ltb (findName (spellingAt r v) (namesIn s T)) (length (namesIn s T)) l)
+
+-- What is found among the names is a name.
+pub known-found : (s T r : List ℕ) (p : ℕ) {f : Found} → IndexOf s T → keyedAt r p (bytes "signal=") ≡ true → Finds (namesIn s T) r (p + 7) f → f .signal < nameCount T → lfAt r (f .end) ≡ true
+    → got (f .signal) (f .end + 1) ≡ knownLine (namesIn s T) r p
+known-found s T r p {f} x k d h l =
+    let t = found-text x d (omega (arith, names-in-many s T)) in
+    let n = text-name r (p + 7) t ∙ ap (λ (q : ℕ). Name q (endNumber (spellingAt r (p + 7)))) (sym (d .ends)) in
+    known-is s T r p (sym (name-first r p (bytes "signal=") 11 k l 12 n)) (f .signal) (d .found) h
 
 -- What follows a line with a declared name stands after it.
 pub known-past : (names : List (List ℕ)) (r : List ℕ) (p : ℕ) {i q : ℕ} → knownLine names r p ≡ got i q → Reach r (p + 1) q × (i < length names)

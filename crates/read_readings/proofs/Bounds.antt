@@ -13,8 +13,8 @@ use Rattle.read_bytes.specs.Read.{Read}
 use Rattle.read_bytes.specs.Read.Read.{got}
 use Rattle.read_lines.specs.Lines.{upTo}
 use Rattle.read_bytes.proofs.Answers.{same-value, came}
-use Rattle.read_names.specs.Spellings.{namesAt}
-use Rattle.read_names.proofs.Names.{names-many}
+use Rattle.read_index.specs.Index.{nameCount, namesIn}
+use Rattle.read_index.proofs.Places.{names-in-many}
 use Rattle.spec_tilco.specs.Formula.{Sheet}
 use Rattle.spec_tilco.specs.Inference.{Mark, mark}
 use Rattle.spec_tilco.specs.Lists.{All}
@@ -82,12 +82,12 @@ puts-inside k W n {ms} a i p =
     λ r t v m. ⊎-elim (i r t v) (λ x. all-at (MarkWithin k W) ms a (mark r t v) x .1) (p .exactly (mark r t v) .0 m)
 
 -- A table with room for a declared signal's row has room for each of the entries.
-pub entries-room : (s ps : List ℕ) (W n m : ℕ) (r : List ℕ) {es : List Span} {q : ℕ} → 1 ≤ W → W ≤ 64 * n → 2 * length ps * n ≤ m
-    → entries (namesAt s ps) W r ≡ got es q → All (SpanRoom n m) es
-entries-room s ps W n m r {es} some h l e =
-    all-weaker (Within (length (namesAt s ps)) W) (SpanRoom n m) room-for es (entries-within (namesAt s ps) W r some e)
+pub entries-room : (s T : List ℕ) (W n m : ℕ) (r : List ℕ) {es : List Span} {q : ℕ} → 1 ≤ W → W ≤ 64 * n → 2 * nameCount T * n ≤ m
+    → entries (namesIn s T) W r ≡ got es q → All (SpanRoom n m) es
+entries-room s T W n m r {es} some h l e =
+    all-weaker (Within (length (namesIn s T)) W) (SpanRoom n m) room-for es (entries-within (namesIn s T) W r some e)
   where
-    room-for : (d : Span) → Within (length (namesAt s ps)) W d → SpanRoom n m d
+    room-for : (d : Span) → Within (length (namesIn s T)) W d → SpanRoom n m d
     room-for d i =
-        let b : 2 * (d .signal + 1) * n ≤ 2 * length ps * n = mul-le-mul-right n (omega (arith, names-many s ps, i .signal)) in
+        let b : 2 * (d .signal + 1) * n ≤ 2 * nameCount T * n = mul-le-mul-right n (omega (arith, names-in-many s T, i .signal)) in
         record { order = i .order; ticks = omega (arith, i .ticks); row = omega arith }

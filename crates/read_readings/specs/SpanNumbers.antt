@@ -6,7 +6,8 @@ use mathlib.Core.List.{List, map}
 use Prim.Native.Nat.{ℕ, _+_, _*_, _/_, _%_, _<_, _≤_}
 use lib.Dec.{eqb}
 use lib.ListN.{length, take}
-use Rattle.spec_limits.specs.Limits.{mostTicks, mostReadings, mostSignals}
+use Rattle.spec_limits.specs.Limits.{mostTicks, mostReadings}
+use Rattle.read_index.specs.Index.{IndexOf}
 use Rattle.read_lines.specs.declared.Step.{Step}
 use Rattle.read_lines.specs.declared.Step.the-variants.{Got, Refused}
 use Rattle.read_bytes.specs.Read.{Read}
@@ -25,11 +26,12 @@ spanOf w = span (w / (2 * rowSpans)) (eqb (w / rowSpans % 2) 1) (w / mostTicks %
 unfoldable pub spansIn : List ℕ → ℕ → List Span
 spansIn a k = map spanOf (take k a)
 
--- Entries can be noted in the array a: their window has ticks, its spans have numbers, and the array has room for every entry of a text.
-pub record CanNote (places : List ℕ) (window : ℕ) (a : List ℕ) : Type 0 where
+-- Entries can be noted in the array a: the names are indexed, their window has ticks, its spans have numbers, and the array has room for every entry of
+-- a text.
+pub record CanNote (s names : List ℕ) (window : ℕ) (a : List ℕ) : Type 0 where
+  pub index : IndexOf s names
   pub some : 1 ≤ window
   pub ticks : window ≤ mostTicks
-  pub signals : length places ≤ mostSignals
   pub room : mostReadings ≤ length a
 
 -- What each answer says of the text, R, and the array: its first k numbers are the text's entries, or the text is refused.

@@ -4,7 +4,8 @@ use mathlib.Core.Path.{_≡_}
 use mathlib.Core.List.{List}
 use Prim.Native.Nat.{ℕ, _*_, _≤_}
 use lib.ListN.{length}
-use Rattle.spec_limits.specs.Limits.{mostTicks, mostSignals}
+use Rattle.spec_limits.specs.Limits.{mostTicks}
+use Rattle.read_index.specs.Index.{nameCount, IndexOf}
 use Rattle.read_bytes.specs.Read.{Read}
 use Rattle.read_bytes.specs.Read.Read.{got, refused}
 use Rattle.spec_tilco.specs.Inference.{Mark}
@@ -12,13 +13,13 @@ use Rattle.table_marks.specs.Puts.{Puts}
 use Rattle.read_readings.specs.declared.whole.Outcome.{Outcome}
 use Rattle.read_readings.specs.declared.whole.Outcome.the-variants.{Accepted, Refused}
 
--- Readings can be taken into the table T: their window has ticks, which n words cover, and the table has the rows of the signals.
-pub record CanTake (places : List ℕ) (window n : ℕ) (T : List ℕ) : Type 0 where
+-- Readings can be taken into the table T: the names are indexed, their window has ticks, which n words cover, and the table has the rows of the signals.
+pub record CanTake (s names : List ℕ) (window n : ℕ) (T : List ℕ) : Type 0 where
+  pub index : IndexOf s names
   pub some : 1 ≤ window
   pub ticks : window ≤ mostTicks
   pub covered : window ≤ 64 * n
-  pub signals : length places ≤ mostSignals
-  pub room : 2 * length places * n ≤ length T
+  pub room : 2 * nameCount names * n ≤ length T
 
 -- What each outcome of taking says of the text and the table: every reading is put, or every word is kept.
 pub data ReadingsTaken (R : Read (List Mark)) (n : ℕ) (T T′ : List ℕ) : Outcome → Type 0 where

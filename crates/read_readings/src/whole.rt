@@ -12,7 +12,8 @@ ghost use Prim.Native.Nat.{ℕ};
 ghost use Rattle.read_lines.specs.declared.Step.the-variants.{Refused};
 ghost use Rattle.read_bytes.specs.Read.{Refusal};
 ghost use Rattle.read_bytes.specs.Read.Read.{refused};
-ghost use Rattle.read_names.specs.Slices.{before, after, namesOf};
+ghost use Rattle.read_names.specs.Slices.{before, after};
+ghost use Rattle.read_index.specs.Index.{namesIn};
 ghost use Rattle.read_reading.specs.OneEntry.{entrySays};
 ghost use Rattle.read_readings.specs.Readings.{entries, readings};
 ghost use Rattle.read_readings.specs.SpanNumbers.{CanNote, EntriesNoted};
@@ -42,9 +43,9 @@ fn refused_entry(a: Entry) -> Step
 }
 
 // Notes each entry of the text: how many there are, and the text's end.
-pub fn note_entries(s: &[u8], places: &[u64], window: usize, r: &[u8], noted: &mut [u32]) -> Step
-    requires { ⌜ CanNote (now places) window (now noted) ⌝ }
-    ensures { λ v. ⌜ EntriesNoted (entries (namesOf s places) window (before r)) (after noted) v ⌝ }
+pub fn note_entries(s: &[u8], names: &[u16], window: usize, r: &[u8], noted: &mut [u32]) -> Step
+    requires { ⌜ CanNote (now s) (now names) window (now noted) ⌝ }
+    ensures { λ v. ⌜ EntriesNoted (entries (namesIn (before s) (before names)) window (before r)) (after noted) v ⌝ }
 {
     if BYTES < r.len() {
         return Step::Refused(10, 0);
@@ -53,7 +54,7 @@ pub fn note_entries(s: &[u8], places: &[u64], window: usize, r: &[u8], noted: &m
     let mut count = 0;
     let mut at = 0;
     while at < r.len() {
-        let a = entry_at(spans, s, places, window, r, at);
+        let a = entry_at(spans, s, names, window, r, at);
         let Entry::Taken {
             signal,
             value,
@@ -76,17 +77,17 @@ pub fn note_entries(s: &[u8], places: &[u64], window: usize, r: &[u8], noted: &m
 // written by `memset`, a byte an instruction as docs/BENCHMARKS.md counts them.
 pub fn take_readings(
     s: &[u8],
-    places: &[u64],
+    names: &[u16],
     window: usize,
     n: usize,
     r: &[u8],
     table: &mut [u64],
 ) -> Outcome
-    requires { ⌜ CanTake (now places) window n (now table) ⌝ }
-    ensures { λ v. ⌜ ReadingsTaken (readings (namesOf s places) window (before r)) n (before table) (after table) v ⌝ }
+    requires { ⌜ CanTake (now s) (now names) window n (now table) ⌝ }
+    ensures { λ v. ⌜ ReadingsTaken (readings (namesIn (before s) (before names)) window (before r)) n (before table) (after table) v ⌝ }
 {
     let mut noted = [1u32; READINGS];
-    let c = note_entries(s, places, window, r, &mut noted);
+    let c = note_entries(s, names, window, r, &mut noted);
     match c {
         Step::Got(count, _) => {
             put_noted(&noted, count, n, table);

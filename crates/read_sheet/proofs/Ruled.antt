@@ -1,6 +1,6 @@
 -- The lines of the rules: each answer of the reader of a line, what follows a line, and a loop over them.
 -- Assumes nothing.
-use mathlib.Core.Path.{_≡_, sym, ap, _∙_}
+use mathlib.Core.Path.{_≡_, sym, ap, subst, _∙_}
 use mathlib.Core.Bool.{Bool, true, false}
 use mathlib.Core.List.{List, [], _∷_, _++_}
 use Prim.Native.Nat.{ℕ, _+_, _-_, _*_, _<_, _≤_}
@@ -11,7 +11,7 @@ use Rattle.spec_limits.specs.Limits.{mostRuleBytes}
 use Rattle.read_bytes.specs.Read.{andThen}
 use Rattle.read_bytes.specs.Read.Read.{got, refused}
 use Rattle.read_bytes.specs.Bytes.{bytes, pick, between}
-use Rattle.read_names.specs.Spellings.{namesAt}
+use Rattle.read_index.specs.Index.{placesIn, namesIn, Indexed, IndexOf}
 use Rattle.read_lines.specs.Lines.{line, inTurn}
 use Rattle.read_bytes.proofs.Tests.{between-in, between-low, between-high}
 use Rattle.read_bytes.proofs.Places.{Reach}
@@ -46,12 +46,16 @@ module _ (names : List (List ℕ)) (s : List ℕ) (v e : ℕ) where
   unfolding ruleTo
   rule-long h = rw (between-high 1 mostRuleBytes (e - v) h)
 
-module _ (s places : List ℕ) (v e h : ℕ) (a : List ℕ) (z : LineReady s a places v h) (d : ValueEnds s v e) (few : e - v ≤ mostRuleBytes) where
+module _ (s T : List ℕ) (v e h : ℕ) (a : List ℕ) (z : LineReady s a T v h) (d : ValueEnds s v e) (few : e - v ≤ mostRuleBytes) where
   cut-length : length (take e s) ≡ e
   cut-length = let i = d .inside in length-take-le e s (omega arith)
 
+  -- its names are the sheet's, though its formula is read in a part of the text
+  same-names : namesIn (take e s) T ≡ namesIn s T
+  same-names = names-kept s e (d .inside) (d .lf) (placesIn T) (up-to (d .order) (placesIn T) (z .before))
+
   -- its formula can be read
-  pub rule-ready : formula.PartReady (take e s) a places v 0 h
+  pub rule-ready : formula.PartReady (take e s) a (IndexOf (take e s) T) v 0 h
   rule-ready =
       let l = cut-length in
       let o = d .order in
@@ -62,18 +66,15 @@ module _ (s places : List ℕ) (v e h : ℕ) (a : List ℕ) (z : LineReady s a p
         arena = record { inside = omega arith; right = λ n k. let w : ⊥ = omega arith in absurd w };
         room = record { fits = omega arith; few = omega arith };
         rows = omega arith;
-        few = z .few;
+        names = subst (λ (ns : List (List ℕ)). Indexed ns T) (sym same-names) (z .index);
       }
 
   module _ (a′ : List ℕ) (some : 1 ≤ e - v) where
-    -- its names are the sheet's, though its formula is read in a part of the text
-    in-part : rule (namesAt (take e s) places) (take e s) v ≡ rule (namesAt s places) (take e s) v
-    in-part =
-        let n = names-kept s e (d .inside) (d .lf) places (up-to (d .order) places (z .before)) in
-        ap (λ (names : List (List ℕ)). rule names (take e s) v) n
+    in-part : rule (namesIn (take e s) T) (take e s) v ≡ rule (namesIn s T) (take e s) v
+    in-part = ap (λ (names : List (List ℕ)). rule names (take e s) v) same-names
 
     -- a formula is read: so is the rule
-    pub rule-read : {q u h′ : ℕ} → Parses a a′ (length (take e s)) 1 v 0 h h (rule (namesAt (take e s) places) (take e s) v) (Got q u h′) → RuleRead a′ h (ruleTo (namesAt s places) s v e) (Got (e + 1) u h′)
+    pub rule-read : {q u h′ : ℕ} → Parses a a′ (length (take e s)) 1 v 0 h h (rule (namesIn (take e s) T) (take e s) v) (Got q u h′) → RuleRead a′ h (ruleTo (namesIn s T) s v e) (Got (e + 1) u h′)
     unfolding ruleTo
     rule-read {q} {u} {h′} (parsed w x far arena same held next) =
         let l = cut-length in
@@ -89,7 +90,7 @@ module _ (s places : List ℕ) (v e h : ℕ) (a : List ℕ) (z : LineReady s a p
         })
 
     -- the formula is refused: so is the rule
-    pub rule-refused : {n k : ℕ} → Parses a a′ (length (take e s)) 1 v 0 h h (rule (namesAt (take e s) places) (take e s) v) (Refused n k) → RuleRead a′ h (ruleTo (namesAt s places) s v e) (Refused n k)
+    pub rule-refused : {n k : ℕ} → Parses a a′ (length (take e s)) 1 v 0 h h (rule (namesIn (take e s) T) (take e s) v) (Refused n k) → RuleRead a′ h (ruleTo (namesIn s T) s v e) (Refused n k)
     unfolding ruleTo
     rule-refused {n} {k} (refuses x) = let y = sym in-part ∙ x in refused-at {k = n} {p = k} (rw (between-in 1 mostRuleBytes (e - v) some few, y))
 
@@ -113,14 +114,14 @@ module _ (s : List ℕ) (p : ℕ) {v e : ℕ} (x : line s p (bytes "rule=") 2 �
   line-ended = let w = placed s p (bytes "rule=") 2 x in record { order = w .order; inside = w .inside; lf = w .lf }
 
   -- its rule can be read
-  pub line-ready : {a places : List ℕ} {h : ℕ} → LineReady s a places p h → LineReady s a places v h
-  line-ready {places = places} z =
+  pub line-ready : {a T : List ℕ} {h : ℕ} → LineReady s a T p h → LineReady s a T v h
+  line-ready {T = T} z =
       let w = placed s p (bytes "rule=") 2 x in
       let l : p ≤ v = omega (arith, w .value) in
       record {
         within = omega (arith, w .order, w .inside);
-        before = up-to l places (z .before);
-        few = z .few;
+        before = up-to l (placesIn T) (z .before);
+        index = z .index;
         room = z .room;
         rows = z .rows;
       }

@@ -4,22 +4,23 @@ use mathlib.Core.Path.{_≡_}
 use mathlib.Core.List.{List}
 use Prim.Native.Nat.{ℕ, _+_, _-_, _≤_, _<_}
 use lib.ListN.{length}
-use Rattle.spec_limits.specs.Limits.{arenaNumbers, mostRuleBytes, mostSignals}
+use Rattle.spec_limits.specs.Limits.{arenaNumbers, mostRuleBytes}
 use Rattle.read_bytes.specs.Read.{Read}
 use Rattle.read_bytes.specs.Read.Read.{got, refused}
 use Rattle.read_bytes.specs.Bytes.{byte, peek}
 use Rattle.spec_tilco.specs.Formula.{Written, hiddens}
 use Rattle.spec_tilco.specs.Lists.{All, total}
+use Rattle.read_index.specs.Index.{placesIn, IndexOf}
 use Rattle.read_arena.specs.NodeRules.{Arena, Held}
 use Rattle.read_parts.specs.declared.parts.Parsed.{Parsed}
 use Rattle.read_parts.specs.declared.parts.Parsed.the-variants as parsed
 
 -- A rule's line can be read at p: the names stand before it, the arena a has a node for each byte of a rule, and the rows of its hidden
 -- signals, from h on, stay in 16 bits.
-pub record LineReady (s a places : List ℕ) (p h : ℕ) : Type 0 where
+pub record LineReady (s a names : List ℕ) (p h : ℕ) : Type 0 where
   pub within : p ≤ length s
-  pub before : All (λ v. v ≤ p) places
-  pub few : length places ≤ mostSignals
+  pub before : All (λ v. v ≤ p) (placesIn names)
+  pub index : IndexOf s names
   pub room : arenaNumbers ≤ length a
   pub rows : h + mostRuleBytes ≤ 65535
 
@@ -30,8 +31,8 @@ pub record ValueEnds (s : List ℕ) (v e : ℕ) : Type 0 where
   pub lf : peek s e ≡ byte "\n"
 
 -- A rule's line can be read from its value at v on, up to its LF at e.
-pub record AtValue (s a places : List ℕ) (v e h : ℕ) : Type 0 where
-  pub ready : LineReady s a places v h
+pub record AtValue (s a names : List ℕ) (v e h : ℕ) : Type 0 where
+  pub ready : LineReady s a names v h
   pub ended : ValueEnds s v e
 
 -- A rule was read up to q: it stands in the arena at the last of u nodes, its hidden signals numbered from h, and h′ is the next row.

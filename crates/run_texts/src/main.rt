@@ -8,6 +8,8 @@ use op_check::check;
 use read_bytes::bytes::starts_at;
 use read_head::Heading;
 use read_head::head;
+use read_index::INDEX;
+use read_index::LINKS;
 use read_readings::whole::Outcome;
 use read_readings::whole::take_readings;
 use run_cases::heading;
@@ -16,6 +18,7 @@ use run_cases::print;
 use run_cases::print_number;
 use run_cases::print_refusal;
 use run_cases::text_under;
+use spec_limits::BYTES;
 use spec_limits::LISTED;
 use spec_limits::LISTED_WORDS;
 use spec_limits::SIGNALS;
@@ -48,14 +51,18 @@ fn run_readings(cases: &[u8], above: usize, at: usize)
     let n = text_under(cases, above, &mut lines);
     let mut buffer = io::large_buffer();
     let m = text_under(cases, at, &mut buffer);
-    let mut places = [0u64; SIGNALS];
+    if BYTES < n {
+        print(b"--- no sheet\n");
+        return;
+    }
+    let mut names = [0u16; INDEX];
     let s = &lines[..n];
     let Heading::Lines {
         window,
         signals,
         rules: _,
         first: _,
-    } = head(s, &mut places)
+    } = head(s, &mut names)
     else {
         print(b"--- no sheet\n");
         return;
@@ -63,7 +70,7 @@ fn run_readings(cases: &[u8], above: usize, at: usize)
     let mut table = [0u64; SIGNAL_WORDS];
     let answer = take_readings(
         s,
-        &places[..signals],
+        &names[..LINKS + signals],
         window,
         WORDS,
         &buffer[..m],

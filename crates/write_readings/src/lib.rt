@@ -18,7 +18,7 @@ ghost use Rattle.write_readings.specs.EntryTexts.{valueText, entryText, 
 // An entry's last two lines, whatever its ticks are: its signal's name, and its value.
 fn write_value(
     s: &[u8],
-    places: &[u64],
+    places: &[u16],
     signal: usize,
     value: bool,
     out: &mut [u8],
@@ -37,7 +37,7 @@ fn write_value(
 pub fn write_entry(
     spans: bool,
     s: &[u8],
-    places: &[u64],
+    places: &[u16],
     signal: usize,
     value: bool,
     first: usize,
@@ -59,7 +59,7 @@ pub fn write_entry(
 }
 
 // How many bytes a signal's name has.
-pub fn name_length(s: &[u8], places: &[u64], signal: usize) -> usize
+pub fn name_length(s: &[u8], places: &[u16], signal: usize) -> usize
     requires { ⌜ signal < length (now places) ⌝ }
     ensures { λ r. ⌜ r ≡ length (getD (namesAt (now (s .entry)) (now (places .entry))) signal []) ⌝ }
 {

@@ -2,6 +2,7 @@
 use native.Mathlib.Omega.{arith}
 use mathlib.Core.Path.{refl}
 use lib.ListN.{length-take}
+use Rattle.read_head.proofs.NamesPut.{places-lent}
 use Rattle.open_sheet.proofs.Buffers.{fresh}
 use Rattle.open_table.proofs.Tables.{when-sheet, when-refused, words-most}
 use Rattle.list_settled.proofs.Printing.{begun, prints-no-sheet, prints-no-room, prints-on-table}
@@ -50,26 +51,28 @@ returns c =
     let y = when-sheet (c .before .before .before .before .before .before .before .before .before .before .before .before .open-sheet .ensures) (c .before .before .before .before .before .before .before .o .given .1) in
     prints-no-room (y .1) _ (c .before .before .before .before .before .words-of .ensures) (omega (arith, c .before .before .before .before .if1 .taken)) (c .before .before .write-refusal .ensures)
 
-array-share-prefix-places : tie.Need-array-share-prefix-places
-array-share-prefix-places c =
-    let y = when-sheet (c .before .before .before .before .before .before .before .before .open-sheet .ensures) (c .before .before .before .o .given .1) in
-    y .0
+add-settle-table : tie.Need-add-settle-table
+add-settle-table c = let y = when-sheet (c .before .before .before .before .before .before .before .before .open-sheet .ensures) (c .before .before .before .o .given .1) in omega (arith, y .0 .few)
 
-slice-aggregate-settle-table : tie.Need-slice-aggregate-settle-table
-slice-aggregate-settle-table c =
-    let y = when-sheet (c .before .before .before .before .before .before .before .before .before .open-sheet .ensures) (c .before .before .before .before .o .given .1) in
-    simp length-take (omega (arith, y .0))
+sub-settle-table : tie.Need-sub-settle-table
+sub-settle-table c = search needs
+
+part-settle-table-start : tie.Need-part-settle-table-start
+part-settle-table-start c = search needs
+
+part-settle-table-end : tie.Need-part-settle-table-end
+part-settle-table-end c = let y = when-sheet (c .before .before .before .before .before .before .before .before .before .open-sheet .ensures) (c .before .before .before .before .o .given .1) in omega (arith, y .0 .few)
 
 slice-relend-prefix-settle-table : tie.Need-slice-relend-prefix-settle-table
 slice-relend-prefix-settle-table c = search needs
 
-slice-aggregate-settle-table-2 : tie.Need-slice-aggregate-settle-table-2
-slice-aggregate-settle-table-2 c = simp length-take (omega (arith, c .before .before .if1 .left))
+slice-aggregate-settle-table : tie.Need-slice-aggregate-settle-table
+slice-aggregate-settle-table c = simp length-take (omega (arith, c .before .before .before .if1 .left))
 
 settle-table-requires : tie.Need-settle-table-requires
 settle-table-requires c κs =
-    let y = when-sheet (c .before .before .before .before .before .before .before .before .before .before .before .open-sheet .ensures) (c .before .before .before .before .before .before .o .given .1) in
-    begun (y .1) _ (c .before .before .before .before .words-of .ensures)
+    let y = when-sheet (c .before .before .before .before .before .before .before .before .before .before .before .before .open-sheet .ensures) (c .before .before .before .before .before .before .before .o .given .1) in
+    begun (y .1) _ (c .before .before .before .before .before .words-of .ensures) (places-lent (y .0))
 
 enum-known-o-2 : tie.Need-enum-known-o-2
 enum-known-o-2 c = search needs
@@ -85,8 +88,8 @@ same-length-3 c = search needs
 
 returns-2 : tie.Need-returns-2
 returns-2 c =
-    let y = when-sheet (c .before .before .before .before .before .before .before .before .before .before .before .before .before .before .before .before .open-sheet .ensures) (c .before .before .before .before .before .before .before .before .before .before .before .o .given .1) in
-    prints-on-table (y .1) _ (c .before .before .before .before .before .before .before .before .before .words-of .ensures) (omega (arith, c .before .before .before .before .before .before .before .before .if1 .left)) (c .before .before .before .before .settle-table .ensures)
+    let y = when-sheet (c .before .before .before .before .before .before .before .before .before .before .before .before .before .before .before .before .before .open-sheet .ensures) (c .before .before .before .before .before .before .before .before .before .before .before .before .o .given .1) in
+    prints-on-table (y .1) _ (c .before .before .before .before .before .before .before .before .before .before .words-of .ensures) (omega (arith, c .before .before .before .before .before .before .before .before .before .if1 .left)) (c .before .before .before .before .settle-table .ensures)
 
 same-length-4 : tie.Need-same-length-4
 same-length-4 c = search needs
@@ -109,10 +112,12 @@ settle-spec =
     write-refusal-requires
     same-length
     returns
-    array-share-prefix-places
-    slice-aggregate-settle-table
+    add-settle-table
+    sub-settle-table
+    part-settle-table-start
+    part-settle-table-end
     slice-relend-prefix-settle-table
-    slice-aggregate-settle-table-2
+    slice-aggregate-settle-table
     settle-table-requires
     enum-known-o-2
     write-refusal-requires-2

@@ -1,5 +1,6 @@
 -- `write_signals` meets its contract. The invariant: the signals from the place `i` on are left to be written. Assumes nothing.
 use borrow.Author.Needs.{needs}
+use mir.Facts.{fits-widen}
 use native.Mathlib.Omega.{arith}
 use mathlib.Core.Path.{_≡_, refl}
 use Prim.Native.Nat.{ℕ, _-_, _<_}
@@ -45,6 +46,9 @@ shared-slice-read-name c =
     let start = c .before .before .before .before .before .before .before .before .before in
     all-nth (λ x. x < length (now (start .args .places))) 0 (now (start .args .signals)) (c .before .before .before .loop .i) (start .pre .1) (omega arith)
 
+cast-name : tie.Need-cast-name Inv-loop μ-loop
+cast-name c = fits-widen tt (c .shared-slice-known6 .given _)
+
 write-signal-requires : tie.Need-write-signal-requires Inv-loop μ-loop
 write-signal-requires c κs =
     let at-loop = c .before .before .before .before in
@@ -89,6 +93,7 @@ write-signals-spec =
     shared-slice-read-x
     mul-name
     shared-slice-read-name
+    cast-name
     write-signal-requires
     add-i
     loop-less

@@ -17,20 +17,23 @@ use Rattle.lower_lines.proofs.read_rules.Statement.{statement}
 use Rattle.lower_lines.proofs.read_rules.Tie as tie
 
 abbrev Inv-loop : tie.InvT-loop
-Inv-loop s places m first hidden tops₀ out₀ arena₀ signals used lowered₀ i₀ place₀ row₀ tops out arena lowered i place row = (ws : List Written) × Underway (linesOf s places m first used (buffers out₀ tops₀)) (stateOf i place row lowered (buffers out tops)) ws × (length arena ≡ arenaNumbers)
+Inv-loop s names m first hidden tops₀ out₀ arena₀ signals used lowered₀ i₀ place₀ row₀ tops out arena lowered i place row = (ws : List Written) × Underway (linesOf s names m first used (buffers out₀ tops₀)) (stateOf i place row lowered (buffers out tops)) ws × (length arena ≡ arenaNumbers)
 
 abbrev μ-loop : tie.MeasureT-loop
-μ-loop s places m first hidden tops₀ out₀ arena₀ signals used lowered₀ i₀ place₀ row₀ tops out arena lowered i place row = m - i
+μ-loop s names m first hidden tops₀ out₀ arena₀ signals used lowered₀ i₀ place₀ row₀ tops out arena lowered i place row = m - i
+
+sub-signals : tie.Need-sub-signals Inv-loop μ-loop
+sub-signals c = omega (arith, c .before .before .before .before .pre .0 .0 .index .long)
 
 add-used : tie.Need-add-used Inv-loop μ-loop
 add-used c =
     let start = c .before .before .before .before in
-    omega (arith, start .pre .0 .0 .few)
+    omega (arith, start .pre .0 .0 .index .few)
 
 loop-holds : tie.Need-loop-holds Inv-loop μ-loop
 loop-holds c =
     let start = c .before .before .before .before in
-    ([], underway-none _ (start .pre .0 .0 .within) (omega (arith, start .pre .0 .0 .few)), refl)
+    ([], underway-none _ (start .pre .0 .0 .within) (omega (arith, start .pre .0 .0 .index .few)), refl)
 
 slice-aggregate-rule-line : tie.Need-slice-aggregate-rule-line Inv-loop μ-loop
 slice-aggregate-rule-line c = search needs
@@ -119,6 +122,7 @@ read-rules-spec =
     (tie.spec
     Inv-loop
     μ-loop
+    sub-signals
     add-used
     loop-holds
     slice-aggregate-rule-line

@@ -24,8 +24,11 @@ open-table-requires c κs = fresh
 enum-known-o : tie.Need-enum-known-o
 enum-known-o c = search needs
 
-array-share-prefix-places : tie.Need-array-share-prefix-places
-array-share-prefix-places c = let h = when-opened (c .before .before .before .before .before .before .open-table .ensures) (c .before .o .given .1) in omega (arith, h .0)
+add-names : tie.Need-add-names
+add-names c = let h = when-opened (c .before .before .before .before .before .before .open-table .ensures) (c .before .o .given .1) in omega (arith, h .0 .few)
+
+array-share-prefix-names : tie.Need-array-share-prefix-names
+array-share-prefix-names c = let h = when-opened (c .before .before .before .before .before .before .open-table .ensures) (c .before .o .given .1) in omega (arith, h .0)
 
 slice-aggregate-add-opened : tie.Need-slice-aggregate-add-opened
 slice-aggregate-add-opened c = let h = when-opened (c .before .before .before .before .before .before .before .open-table .ensures) (c .before .before .o .given .1) in simp length-take (omega (arith, h .0))
@@ -37,7 +40,9 @@ slice-aggregate-add-opened-3 : tie.Need-slice-aggregate-add-opened-3
 slice-aggregate-add-opened-3 c = search needs
 
 add-opened-requires : tie.Need-add-opened-requires
-add-opened-requires c κs = (when-opened (c .before .before .before .before .before .before .before .before .before .before .before .open-table .ensures) (c .before .before .before .before .before .before .o .given .1) .1, c .before .before .before .before .before .before .before .before .before .before .before .before .before .before .before .before .before .before .before .before .pre)
+add-opened-requires c κs =
+    let h = when-opened (c .before .before .before .before .before .before .before .before .before .before .before .open-table .ensures) (c .before .before .before .before .before .before .o .given .1) in
+    ((h .1, h .0 .index), c .before .before .before .before .before .before .before .before .before .before .before .before .before .before .before .before .before .before .before .before .pre)
 
 enum-known-o-2 : tie.Need-enum-known-o-2
 enum-known-o-2 c = search needs
@@ -66,7 +71,8 @@ add-with-spec =
     slice-aggregate-open-table-3
     open-table-requires
     enum-known-o
-    array-share-prefix-places
+    add-names
+    array-share-prefix-names
     slice-aggregate-add-opened
     slice-aggregate-add-opened-2
     slice-aggregate-add-opened-3

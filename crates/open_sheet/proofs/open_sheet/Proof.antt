@@ -35,15 +35,18 @@ same-length c = search needs
 returns-2 : tie.Need-returns-2
 returns-2 c = let x = c .before .enum-told .given .1 in subst (SheetOpens _ _ _ _) (sym (c .refused-head .ensures _ _ (ap headSays x))) (refused-at (in-refused _ (refused-head _ (c .before .before .before .before .before .before .before .if1 .left) (when-no-head (c .before .before .before .before .before .head .ensures) x))))
 
+add-end : tie.Need-add-end
+add-end c = let h = when-headed (c .before .before .before .before .before .head .ensures) (c .before .h .given .1) in omega (arith, h .1 .signals-high)
+
 slice-reshare-prefix-lower-rules : tie.Need-slice-reshare-prefix-lower-rules
-slice-reshare-prefix-lower-rules c = let h = when-headed (c .before .before .before .before .before .head .ensures) (c .before .h .given .1) in omega (arith, h .1 .signals-high)
+slice-reshare-prefix-lower-rules c = let h = when-headed (c .before .before .before .before .before .head .ensures) (c .before .h .given .1) in omega (arith, h .2 .room, h .2 .few)
 
 slice-aggregate-lower-rules : tie.Need-slice-aggregate-lower-rules
-slice-aggregate-lower-rules c = let h = when-headed (c .before .before .before .before .before .before .head .ensures) (c .before .before .h .given .1) in simp length-take (omega (arith, h .1 .signals-high))
+slice-aggregate-lower-rules c = let h = when-headed (c .before .before .before .before .before .before .head .ensures) (c .before .before .h .given .1) in simp length-take (omega (arith, h .2 .room, h .2 .few))
 
 lower-rules-requires : tie.Need-lower-rules-requires
 lower-rules-requires c κs =
-    let opened = begun (c .before .before .before .before .before .before .before .before .head .ensures) (c .before .before .before .before .h .given .1) (c .before .before .before .before .before .before .before .before .before .before .if1 .left) (omega arith) in
+    let opened = begun (c .before .before .before .before .before .before .before .before .head .ensures) (c .before .before .before .before .h .given .1) (c .before .before .before .before .before .before .before .before .before .before .if1 .left) in
     (legible opened, c .before .before .before .before .before .before .before .before .before .before .before .before .before .before .before .pre .room)
 
 enum-known-r : tie.Need-enum-known-r
@@ -60,7 +63,7 @@ same-length-4 c = search needs
 
 returns-3 : tie.Need-returns-3
 returns-3 c =
-    let opened = begun (c .before .before .before .before .before .before .before .before .before .before .before .before .before .before .before .before .before .head .ensures) (c .before .before .before .before .before .before .before .before .before .before .before .before .before .h .given .1) (c .before .before .before .before .before .before .before .before .before .before .before .before .before .before .before .before .before .before .before .if1 .left) (omega arith) in
+    let opened = begun (c .before .before .before .before .before .before .before .before .before .before .before .before .before .before .before .before .before .head .ensures) (c .before .before .before .before .before .before .before .before .before .before .before .before .before .h .given .1) (c .before .before .before .before .before .before .before .before .before .before .before .before .before .before .before .before .before .before .before .if1 .left) in
     more-follow opened (c .before .before .before .before .before .before .before .before .lower-rules .ensures) (c .before .before .r .given .1) (c .if2 .taken)
 
 enum-known-lowered : tie.Need-enum-known-lowered
@@ -83,7 +86,7 @@ same-length-7 c = search needs
 
 returns-4 : tie.Need-returns-4
 returns-4 c =
-    let opened = begun (c .before .before .before .before .before .before .before .before .before .before .before .before .before .before .before .before .before .before .before .before .head .ensures) (c .before .before .before .before .before .before .before .before .before .before .before .before .before .before .before .before .h .given .1) (c .before .before .before .before .before .before .before .before .before .before .before .before .before .before .before .before .before .before .before .before .before .before .if1 .left) (omega arith) in
+    let opened = begun (c .before .before .before .before .before .before .before .before .before .before .before .before .before .before .before .before .before .before .before .before .head .ensures) (c .before .before .before .before .before .before .before .before .before .before .before .before .before .before .before .before .h .given .1) (c .before .before .before .before .before .before .before .before .before .before .before .before .before .before .before .before .before .before .before .before .before .before .if1 .left) in
     fitting opened (c .before .before .before .before .before .before .before .before .before .before .before .lower-rules .ensures) (c .before .before .before .before .before .r .given .1) (c .before .before .before .if2 .left) _ _ (c .before .lowered .given .1)
 
 same-length-8 : tie.Need-same-length-8
@@ -97,7 +100,7 @@ same-length-10 c = search needs
 
 returns-5 : tie.Need-returns-5
 returns-5 c =
-    let opened = begun (c .before .before .before .before .before .before .before .before .before .before .before .before .before .before .before .before .before .before .before .head .ensures) (c .before .before .before .before .before .before .before .before .before .before .before .before .before .before .before .h .given .1) (c .before .before .before .before .before .before .before .before .before .before .before .before .before .before .before .before .before .before .before .before .before .if1 .left) (omega arith) in
+    let opened = begun (c .before .before .before .before .before .before .before .before .before .before .before .before .before .before .before .before .before .before .before .head .ensures) (c .before .before .before .before .before .before .before .before .before .before .before .before .before .before .before .h .given .1) (c .before .before .before .before .before .before .before .before .before .before .before .before .before .before .before .before .before .before .before .before .before .if1 .left) in
     not-fitting opened (c .before .before .before .before .before .before .before .before .before .before .lower-rules .ensures) (c .before .before .before .before .r .given .1) (c .before .before .if2 .left) (ap allLoweredSays (c .enum-told2 .given .1))
 
 same-length-11 : tie.Need-same-length-11
@@ -111,7 +114,7 @@ same-length-13 c = search needs
 
 returns-6 : tie.Need-returns-6
 returns-6 c =
-    let opened = begun (c .before .before .before .before .before .before .before .before .before .before .before .before .before .before .before .before .head .ensures) (c .before .before .before .before .before .before .before .before .before .before .before .before .h .given .1) (c .before .before .before .before .before .before .before .before .before .before .before .before .before .before .before .before .before .before .if1 .left) (omega arith) in
+    let opened = begun (c .before .before .before .before .before .before .before .before .before .before .before .before .before .before .before .before .head .ensures) (c .before .before .before .before .before .before .before .before .before .before .before .before .h .given .1) (c .before .before .before .before .before .before .before .before .before .before .before .before .before .before .before .before .before .before .if1 .left) in
     rule-refused opened (c .before .before .before .before .before .before .before .lower-rules .ensures) (c .before .r2 .given .1)
 
 pub open-sheet-spec : {M : Type 1} → statement M
@@ -125,6 +128,7 @@ open-sheet-spec =
     refused-head-requires
     same-length
     returns-2
+    add-end
     slice-reshare-prefix-lower-rules
     slice-aggregate-lower-rules
     lower-rules-requires

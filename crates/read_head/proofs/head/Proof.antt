@@ -5,9 +5,10 @@ use mathlib.Core.Path.{sym, ap, subst}
 use Rattle.read_lines.specs.Lines.{says}
 use Rattle.read_bytes.proofs.Answers.{answered, is-refusal}
 use Rattle.read_lines.proofs.KeyedLines.{ranged-past}
-use Rattle.read_head.specs.SheetHead.{placesOf, Headed}
+use Rattle.read_head.specs.SheetHead.{Headed}
 use Rattle.read_head.specs.SheetHead.Headed.{headed, refused-at}
 use Rattle.read_head.proofs.Signals.{signal-lines}
+use Rattle.read_head.proofs.NamesPut.{none-put, when-all, when-not-all}
 use Rattle.read_head.proofs.Heads.{refused-window, refused-signals, refused-signal, refused-rules, head-is}
 use Rattle.read_head.proofs.head.Statement.{statement}
 use Rattle.read_head.proofs.head.Tie as tie
@@ -65,7 +66,7 @@ signals-at-requires c κs =
     let at-ranged-line2 = c .before .before .before .before in
     let b = answered says (at-ranged-line2 .ranged-line2 .ensures) (c .before .before .b .given .1) in
     let w = ranged-past _ _ _ _ _ _ _ b in
-    (omega (arith, w .2), w .0 .inside)
+    (none-put _ (c .before .before .before .before .before .before .before .before .before .before .before .before .before .pre .0), omega (arith, w .2), w .0 .inside, c .before .before .before .before .before .before .before .before .before .before .before .before .before .pre .1)
 
 enum-known-d : tie.Need-enum-known-d
 enum-known-d c = search needs
@@ -89,7 +90,7 @@ returns-3 c =
     let a = answered says (at-ranged-line .ranged-line .ensures) (at-a .a .given .1) in
     let b = answered says (at-ranged-line2 .ranged-line2 .ensures) (at-b .b .given .1) in
     let x = c .before .enum-told3 .given .1 in
-    subst (Headed _ _) (sym (c .refused-line3 .ensures _ _ (ap says x))) (refused-at (refused-signal _ a b (answered (placesOf _ _) (at-signals-at .signals-at .ensures) x)))
+    subst (Headed _ _) (sym (c .refused-line3 .ensures _ _ (ap says x))) (refused-at (refused-signal _ a b (when-not-all (at-signals-at .signals-at .ensures) x)))
 
 slice-aggregate-ranged-line-3 : tie.Need-slice-aggregate-ranged-line-3
 slice-aggregate-ranged-line-3 c = search needs
@@ -101,8 +102,8 @@ ranged-line-requires-3 c κs =
     let at-b = at-signals-at .before .before .before in
     let at-ranged-line2 = at-b .before .before in
     let b = answered says (at-ranged-line2 .ranged-line2 .ensures) (at-b .b .given .1) in
-    let d = answered (placesOf _ _) (at-signals-at .signals-at .ensures) (at-d .d .given .1) in
-    signal-lines _ _ _ _ (ranged-past _ _ _ _ _ _ _ b .0 .inside) tt d .past .inside
+    let d = when-all (at-signals-at .signals-at .ensures) (at-d .d .given .1) in
+    signal-lines _ _ _ _ (ranged-past _ _ _ _ _ _ _ b .0 .inside) tt (d .0) .past .inside
 
 enum-known-e : tie.Need-enum-known-e
 enum-known-e c = search needs
@@ -127,9 +128,9 @@ returns-4 c =
     let at-ranged-line = at-a .before .before in
     let a = answered says (at-ranged-line .ranged-line .ensures) (at-a .a .given .1) in
     let b = answered says (at-ranged-line2 .ranged-line2 .ensures) (at-b .b .given .1) in
-    let d = answered (placesOf _ _) (at-signals-at .signals-at .ensures) (at-d .d .given .1) in
+    let d = when-all (at-signals-at .signals-at .ensures) (at-d .d .given .1) in
     let x = c .before .enum-told4 .given .1 in
-    subst (Headed _ _) (sym (c .refused-line4 .ensures _ _ (ap says x))) (refused-at (refused-rules _ a b d (answered says (at-ranged-line3 .ranged-line3 .ensures) x)))
+    subst (Headed _ _) (sym (c .refused-line4 .ensures _ _ (ap says x))) (refused-at (refused-rules _ a b (d .0) (answered says (at-ranged-line3 .ranged-line3 .ensures) x)))
 
 same-length-3 : tie.Need-same-length-3
 same-length-3 c = search needs
@@ -145,12 +146,12 @@ returns-5 c =
     let at-ranged-line = at-a .before .before in
     let a = answered says (at-ranged-line .ranged-line .ensures) (at-a .a .given .1) in
     let b = answered says (at-ranged-line2 .ranged-line2 .ensures) (at-b .b .given .1) in
-    let d = answered (placesOf _ _) (at-signals-at .signals-at .ensures) (at-d .d .given .1) in
+    let d = when-all (at-signals-at .signals-at .ensures) (at-d .d .given .1) in
     let e = answered says (at-ranged-line3 .ranged-line3 .ensures) (c .before .e .given .1) in
     let w = ranged-past _ _ _ _ _ _ _ a in
     let n = ranged-past _ _ _ _ _ _ _ b in
     let m = ranged-past _ _ _ _ _ _ _ e in
-    headed (head-is _ a b d e) (record { window-low = w .1; window-high = w .2; signals-low = n .1; signals-high = n .2; rules-high = m .2 })
+    headed (head-is _ a b (d .0) e) (record { window-low = w .1; window-high = w .2; signals-low = n .1; signals-high = n .2; rules-high = m .2 }) (d .1)
 
 pub head-spec : {M : Type 1} → statement M
 head-spec =

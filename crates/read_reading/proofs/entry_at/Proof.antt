@@ -55,7 +55,8 @@ known-line-requires c κs =
     let at-first-line = at-a .before .before in
     let a = answered says (at-first-line .first-line .ensures) (at-a .a .given .1) in
     let b = answered says (c .before .before .before .last-tick .ensures) (c .before .b .given .1) in
-    last-reach (c .before .before .before .before .before .before .before .before .before .before .before .args .spans) _ _ _ _ b (ranged-past _ _ _ _ _ _ _ a .0 .inside) .inside
+    let start = c .before .before .before .before .before .before .before .before .before .before .before in
+    (start .pre .0, last-reach (start .args .spans) _ _ _ _ b (ranged-past _ _ _ _ _ _ _ a .0 .inside) .inside)
 
 enum-known-c : tie.Need-enum-known-c
 enum-known-c c = search needs
@@ -77,13 +78,10 @@ returns-3 c =
     let e = c .before .enum-told3 .given .1 in
     ap entrySays (c .refused-line3 .ensures _ _ (ap says e)) ∙ refused-signal _ _ _ _ _ a b (answered says (c .before .before .before .known-line .ensures) e)
 
-slice-aggregate-ranged-line : tie.Need-slice-aggregate-ranged-line
-slice-aggregate-ranged-line c = search needs
-
-ranged-line-requires : tie.Need-ranged-line-requires
-ranged-line-requires c κs =
-    let at-known-line = c .before .before .before .before in
-    let d = answered says (at-known-line .known-line .ensures) (c .before .before .c .given .1) in
+value-line-requires : tie.Need-value-line-requires
+value-line-requires c κs =
+    let at-known-line = c .before .before .before in
+    let d = answered says (at-known-line .known-line .ensures) (c .before .c .given .1) in
     known-past _ _ _ d .0 .inside
 
 enum-known-d : tie.Need-enum-known-d
@@ -97,7 +95,7 @@ refused-line-requires-4 c κs = is-refusal says (c .enum-told4 .given .1) tt
 
 returns-4 : tie.Need-returns-4
 returns-4 c =
-    let at-c = c .before .before .before .before .before .before in
+    let at-c = c .before .before .before .before .before in
     let at-known-line = at-c .before .before in
     let at-b = at-known-line .before .before in
     let at-last-tick = at-b .before .before in
@@ -107,11 +105,11 @@ returns-4 c =
     let b = answered says (at-last-tick .last-tick .ensures) (at-b .b .given .1) in
     let d = answered says (at-known-line .known-line .ensures) (at-c .c .given .1) in
     let e = c .before .enum-told4 .given .1 in
-    ap entrySays (c .refused-line4 .ensures _ _ (ap says e)) ∙ refused-value _ _ _ _ _ a b d (answered says (c .before .before .before .ranged-line .ensures) e)
+    ap entrySays (c .refused-line4 .ensures _ _ (ap says e)) ∙ refused-value _ _ _ _ _ a b d (answered says (c .before .before .before .value-line .ensures) e)
 
 returns-5 : tie.Need-returns-5
 returns-5 c =
-    let at-c = c .before .before .before .before .before .before in
+    let at-c = c .before .before .before .before .before in
     let at-known-line = at-c .before .before in
     let at-b = at-known-line .before .before in
     let at-last-tick = at-b .before .before in
@@ -120,7 +118,7 @@ returns-5 c =
     let a = answered says (at-first-line .first-line .ensures) (at-a .a .given .1) in
     let b = answered says (at-last-tick .last-tick .ensures) (at-b .b .given .1) in
     let d = answered says (at-known-line .known-line .ensures) (at-c .c .given .1) in
-    let g = answered says (c .before .before .before .ranged-line .ensures) (c .before .d .given .1) in
+    let g = answered says (c .before .before .before .value-line .ensures) (c .before .d .given .1) in
     entry-is _ _ _ _ _ a b d g
 
 pub entry-at-spec : {M : Type 1} → statement M
@@ -142,8 +140,7 @@ entry-at-spec =
     enum-told-3
     refused-line-requires-3
     returns-3
-    slice-aggregate-ranged-line
-    ranged-line-requires
+    value-line-requires
     enum-known-d
     enum-told-4
     refused-line-requires-4

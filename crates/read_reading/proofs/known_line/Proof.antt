@@ -1,57 +1,55 @@
 -- `known_line` meets its contract. Assumes nothing.
 use borrow.Author.Needs.{needs}
-use mathlib.Core.Path.{ap, _∙_}
-use Rattle.read_lines.specs.Lines.{says}
-use Rattle.read_bytes.proofs.Answers.{answered, hand-on}
-use Rattle.read_reading.specs.OneEntry.{knownLine}
-use Rattle.read_reading.proofs.Lines.{name-place, known-is, known-not}
+use native.Mathlib.Omega.{arith}
+use denote.Ref.{now}
+use mathlib.Core.Path.{sym, _∙_}
+use Rattle.read_lines.proofs.ValueFirst.{lf-inside, keyed-is}
+use Rattle.read_reading.proofs.Lines.{known-found}
 use Rattle.read_reading.proofs.known_line.Statement.{statement}
 use Rattle.read_reading.proofs.known_line.Tie as tie
 
-slice-aggregate-name-line : tie.Need-slice-aggregate-name-line
-slice-aggregate-name-line c = search needs
+slice-aggregate-keyed : tie.Need-slice-aggregate-keyed
+slice-aggregate-keyed c = search needs
 
-name-line-requires : tie.Need-name-line-requires
-name-line-requires c κs = search needs
+keyed-requires : tie.Need-keyed-requires
+keyed-requires c κs = search needs
 
-enum-known-l : tie.Need-enum-known-l
-enum-known-l c = search needs
+add-v : tie.Need-add-v
+add-v c = search needs
 
-enum-told : tie.Need-enum-told
-enum-told c = search needs
+find-requires : tie.Need-find-requires
+find-requires c κs = (c .before .before .before .before .before .before .pre .0, keyed-is _ _ _ (sym (c .before .keyed .ensures) ∙ c .if1 .taken) .0)
+
+sub-if2 : tie.Need-sub-if2
+sub-if2 c = search needs
+
+lf-at-requires : tie.Need-lf-at-requires
+lf-at-requires c κs = search needs
+
+add-next : tie.Need-add-next
+add-next c = omega (arith, lf-inside _ _ (sym (c .before .lf-at .ensures) ∙ c .if3 .taken))
 
 returns : tie.Need-returns
-unfolding knownLine
 returns c =
-    let e = c .enum-told .given .1 in
-    ap says e ∙ hand-on _ (answered says (c .before .before .name-line .ensures) e)
+    known-found _ (now (c .before .before .before .before .before .before .before .before .before .before .args .names)) _ _ (c .before .before .before .before .before .before .before .before .before .before .pre .0) (sym (c .before .before .before .before .before .keyed .ensures) ∙ c .before .before .before .before .if1 .taken) (c .before .before .before .find .ensures) (c .before .before .if2 .taken) (sym (c .before .lf-at .ensures) ∙ c .if3 .taken)
 
-find-name-requires : tie.Need-find-name-requires
-find-name-requires c κs =
-    let a = answered says (c .before .before .before .name-line .ensures) (c .before .l .given .1) in
-    name-place _ _ _ _ _ a
+unknown-line-requires : tie.Need-unknown-line-requires
+unknown-line-requires c κs = search needs
 
 returns-2 : tie.Need-returns-2
-returns-2 c =
-    let at-name-line = c .before .before .before .before .before in
-    let a = answered says (at-name-line .name-line .ensures) (c .before .before .before .l .given .1) in
-    known-is _ _ _ _ a _ (c .before .find-name .ensures) (c .if1 .taken)
-
-returns-3 : tie.Need-returns-3
-returns-3 c =
-    let at-name-line = c .before .before .before .before .before in
-    let a = answered says (at-name-line .name-line .ensures) (c .before .before .before .l .given .1) in
-    known-not _ _ _ _ a _ (c .before .find-name .ensures) (c .if1 .left)
+returns-2 c = search needs
 
 pub known-line-spec : {M : Type 1} → statement M
 known-line-spec =
     tie.close
     (tie.spec
-    slice-aggregate-name-line
-    name-line-requires
-    enum-known-l
-    enum-told
+    slice-aggregate-keyed
+    keyed-requires
+    add-v
+    find-requires
+    sub-if2
+    lf-at-requires
+    add-next
     returns
-    find-name-requires
-    returns-2
-    returns-3)
+    unknown-line-requires
+    returns-2)

@@ -1,5 +1,6 @@
 -- `name_length` meets its contract: the name ends where its spelling does. Assumes nothing.
 use borrow.Author.Needs.{needs}
+use mir.Facts.{fits-widen}
 use native.Mathlib.Omega.{arith}
 use mathlib.Core.Path.{ap}
 use lib.ListN.{length}
@@ -14,6 +15,9 @@ mul-name c = search needs
 
 shared-slice-read-name : tie.Need-shared-slice-read-name
 shared-slice-read-name c = search needs
+
+cast-name : tie.Need-cast-name
+cast-name c = fits-widen tt (c .shared-slice-known3 .given _)
 
 spelling-end-requires : tie.Need-spelling-end-requires
 spelling-end-requires c κs = search needs
@@ -30,4 +34,4 @@ returns c =
 
 pub name-length-spec : {M : Type 1} → statement M
 name-length-spec =
-    tie.close (tie.spec mul-name shared-slice-read-name spelling-end-requires sub-result returns)
+    tie.close (tie.spec mul-name shared-slice-read-name cast-name spelling-end-requires sub-result returns)

@@ -1,5 +1,6 @@
 -- `write_value` meets its contract. Assumes nothing.
 use borrow.Author.Needs.{needs}
+use mir.Facts.{fits-widen}
 use mathlib.Core.Path.{refl}
 use Rattle.write_bytes.proofs.Writing.{like, and-then, counted-like, counted-first, counted-rest}
 use Rattle.write_readings.proofs.Parts.{value-parts}
@@ -11,6 +12,9 @@ mul-name c = search needs
 
 shared-slice-read-name : tie.Need-shared-slice-read-name
 shared-slice-read-name c = search needs
+
+cast-name : tie.Need-cast-name
+cast-name c = fits-widen tt (c .shared-slice-known3 .given _)
 
 write-name-line-requires : tie.Need-write-name-line-requires
 write-name-line-requires c κs =
@@ -45,6 +49,7 @@ write-value-spec =
     (tie.spec
     mul-name
     shared-slice-read-name
+    cast-name
     write-name-line-requires
     one-if-requires
     slice-aggregate-write-number-line

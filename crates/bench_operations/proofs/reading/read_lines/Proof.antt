@@ -8,6 +8,7 @@ use Rattle.spec_limits.specs.Limits.{mostRuleBytes, arenaNumbers}
 use Rattle.read_bytes.proofs.Places.{Reach}
 use Rattle.read_sheet.specs.RuleAnswers.{LineReady}
 use Rattle.lower_lines.specs.InTurn.{Legible}
+use Rattle.read_index.specs.Index.{placesIn, nameCount}
 use Rattle.read_head.proofs.Signals.{up-to}
 use Rattle.read_sheet.proofs.Ruled.{rule-past}
 use Rattle.read_sheet.proofs.Answers.{when-rule}
@@ -16,20 +17,23 @@ use Rattle.bench_operations.proofs.reading.read_lines.Statement.{statem
 use Rattle.bench_operations.proofs.reading.read_lines.Tie as tie
 
 -- The next line can be read.
-line-ready : {s places : List ℕ} {m first i p x : ℕ} (a : List ℕ) → Legible s places m first → Reach s first p → i < m → x ≤ length places + mostRuleBytes * i → length a ≡ arenaNumbers → LineReady s a places p x
-line-ready {places = places} a g z l r e = record {
+line-ready : {s names : List ℕ} {m first i p x : ℕ} (a : List ℕ) → Legible s names m first → Reach s first p → i < m → x ≤ nameCount names + mostRuleBytes * i → length a ≡ arenaNumbers → LineReady s a names p x
+line-ready {names = names} a g z l r e = record {
   within = z .inside;
-  before = up-to (z .ahead) places (g .before);
-  few = g .few;
+  before = up-to (z .ahead) (placesIn names) (g .before);
+  index = g .index;
   room = omega (arith, e);
-  rows = omega (arith, r, g .few, g .most);
+  rows = omega (arith, r, g .index .few, g .most);
 }
 
 abbrev Inv-loop : tie.InvT-loop
-Inv-loop s places m first arena₀ i₀ place₀ row₀ arena i place row = Reach s first place × (row ≤ length places + mostRuleBytes * i) × (length arena ≡ arenaNumbers)
+Inv-loop s names m first arena₀ i₀ place₀ row₀ arena i place row = Reach s first place × (row ≤ nameCount names + mostRuleBytes * i) × (length arena ≡ arenaNumbers)
 
 abbrev μ-loop : tie.MeasureT-loop
-μ-loop s places m first arena₀ i₀ place₀ row₀ arena i place row = m - i
+μ-loop s names m first arena₀ i₀ place₀ row₀ arena i place row = m - i
+
+sub-row : tie.Need-sub-row Inv-loop μ-loop
+sub-row c = omega (arith, c .before .before .pre .index .long)
 
 loop-holds : tie.Need-loop-holds Inv-loop μ-loop
 loop-holds c = (record { ahead = omega arith; inside = c .before .before .pre .within }, omega arith, refl)
@@ -75,6 +79,7 @@ read-lines-spec =
     (tie.spec
     Inv-loop
     μ-loop
+    sub-row
     loop-holds
     slice-aggregate-rule-line
     rule-line-requires

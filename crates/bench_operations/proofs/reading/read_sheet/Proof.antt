@@ -4,6 +4,7 @@ use lib.ListN.{length-take}
 use Rattle.read_sheet.proofs.Answers.{when-headed}
 use Rattle.open_sheet.proofs.Sheets.{begun, legible}
 use borrow.Author.Needs.{needs}
+use Rattle.open_sheet.proofs.Buffers.{fresh-names}
 use Rattle.bench_operations.proofs.reading.read_sheet.Statement.{statement}
 use Rattle.bench_operations.proofs.reading.read_sheet.Tie as tie
 
@@ -14,26 +15,29 @@ slice-aggregate-head : tie.Need-slice-aggregate-head
 slice-aggregate-head c = search needs
 
 head-requires : tie.Need-head-requires
-head-requires c κs = search needs
+head-requires c κs = (fresh-names, omega arith)
 
 enum-known-h : tie.Need-enum-known-h
 enum-known-h c = search needs
 
-array-share-prefix-places : tie.Need-array-share-prefix-places
-array-share-prefix-places c =
+add-names : tie.Need-add-names
+add-names c = let h = when-headed (c .before .before .before .before .head .ensures) (c .before .h .given .1) in omega (arith, h .2 .few)
+
+array-share-prefix-names : tie.Need-array-share-prefix-names
+array-share-prefix-names c =
     let at-head = c .before .before .before .before in
-    let h = when-headed (at-head .head .ensures) (c .before .h .given .1) in omega (arith, h .1 .signals-high)
+    let h = when-headed (at-head .head .ensures) (c .before .h .given .1) in omega (arith, h .2 .few)
 
 slice-aggregate-read-lines : tie.Need-slice-aggregate-read-lines
 slice-aggregate-read-lines c =
     let at-head = c .before .before .before .before .before in
-    let h = when-headed (at-head .head .ensures) (c .before .before .h .given .1) in simp length-take (omega (arith, h .1 .signals-high))
+    let h = when-headed (at-head .head .ensures) (c .before .before .h .given .1) in simp length-take (omega (arith, h .2 .few))
 
 read-lines-requires : tie.Need-read-lines-requires
 read-lines-requires c κs =
     let at-head = c .before .before .before .before .before in
     let at-if1 = at-head .before .before in
-    legible (begun (at-head .head .ensures) (c .before .before .h .given .1) (at-if1 .if1 .left) (omega arith))
+    legible (begun (at-head .head .ensures) (c .before .before .h .given .1) (at-if1 .if1 .left))
 
 enum-known-h-2 : tie.Need-enum-known-h-2
 enum-known-h-2 c = search needs
@@ -52,7 +56,8 @@ read-sheet-spec =
     slice-aggregate-head
     head-requires
     enum-known-h
-    array-share-prefix-places
+    add-names
+    array-share-prefix-names
     slice-aggregate-read-lines
     read-lines-requires
     enum-known-h-2

@@ -1,13 +1,24 @@
 -- `take` is safe and ends. Assumes nothing.
 use native.Mathlib.Omega.{arith}
 use mathlib.Core.Path.{refl}
-use lib.ListN.{length-take}
+use mathlib.Core.List.{List}
+use Prim.Native.Nat.{ℕ, _*_, _≤_}
+use lib.ListN.{length, length-take}
+use Rattle.spec_tilco.specs.Table.{words}
+use Rattle.read_index.specs.Index.{nameCount, firstNames}
+use Rattle.read_head.specs.SheetHead.{firstPlaces, NamesPut}
+use Rattle.open_table.specs.OpenedTable.{OpenedTable}
 use Rattle.open_sheet.proofs.Buffers.{fresh}
 use Rattle.open_table.proofs.Tables.{when-opened}
-use Rattle.spec_operations.proofs.Opened.{some-window, signals-few, signals-fit}
+use Rattle.spec_operations.proofs.Opened.{some-window}
+use Rattle.op_add.proofs.Outcomes.{names-fit}
 use borrow.Author.Needs.{needs}
 use Rattle.bench_operations.proofs.taking.take.Statement.{statement}
 use Rattle.bench_operations.proofs.taking.take.Tie as tie
+
+-- The table has the rows of the names in the index.
+signals-room : {s T U B tops : List ℕ} {n w t count : ℕ} → NamesPut s T n → OpenedTable s U (firstPlaces n T) B tops w t count → 2 * nameCount (firstNames n T) * words w ≤ length U
+signals-room {T = T} {n = n} k h = names-fit (firstNames n T) h _ refl .1
 
 slice-aggregate-open-table : tie.Need-slice-aggregate-open-table
 slice-aggregate-open-table c = search needs
@@ -24,8 +35,11 @@ open-table-requires c κs = fresh
 enum-known-o : tie.Need-enum-known-o
 enum-known-o c = search needs
 
-array-share-prefix-places : tie.Need-array-share-prefix-places
-array-share-prefix-places c =
+add-names : tie.Need-add-names
+add-names c = let h = when-opened (c .before .before .before .before .before .before .open-table .ensures) (c .before .o .given .1) in omega (arith, h .0 .few)
+
+array-share-prefix-names : tie.Need-array-share-prefix-names
+array-share-prefix-names c =
     let at-open-table = c .before .before .before .before .before .before in
     let h = when-opened (at-open-table .open-table .ensures) (c .before .o .given .1) in omega (arith, h .0)
 
@@ -37,8 +51,9 @@ slice-aggregate-take-opened c =
 take-opened-requires : tie.Need-take-opened-requires
 take-opened-requires c κs =
     let at-open-table = c .before .before .before .before .before .before .before .before in
-    let h = when-opened (at-open-table .open-table .ensures) (c .before .before .before .o .given .1) .1 in
-    (some-window h _ refl .0, some-window h _ refl .1, signals-few h _ refl .0, signals-fit h _ refl .0)
+    let h = when-opened (at-open-table .open-table .ensures) (c .before .before .before .o .given .1) in
+    let w = some-window (h .1) _ refl in
+    (h .0 .index, w .0, w .1, signals-room (h .0) (h .1))
 
 enum-known-o-2 : tie.Need-enum-known-o-2
 enum-known-o-2 c = search needs
@@ -64,7 +79,8 @@ take-spec =
     slice-aggregate-open-table-3
     open-table-requires
     enum-known-o
-    array-share-prefix-places
+    add-names
+    array-share-prefix-names
     slice-aggregate-take-opened
     take-opened-requires
     enum-known-o-2

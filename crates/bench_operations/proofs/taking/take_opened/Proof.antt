@@ -1,6 +1,9 @@
 -- `take_opened` is safe and ends. Assumes nothing.
 use native.Mathlib.Omega.{arith}
-use native.Mathlib.Nat.{le-trans}
+use denote.Ref.{now}
+use Prim.Native.Nat.{_≤_}
+use Rattle.spec_limits.specs.Limits.{mostRows}
+use Rattle.read_index.specs.Index.{nameCount}
 use Rattle.open_table.proofs.Tables.{row-words, table-most}
 use borrow.Author.Needs.{needs}
 use Rattle.bench_operations.proofs.taking.take_opened.Statement.{statement}
@@ -9,20 +12,24 @@ use Rattle.bench_operations.proofs.taking.take_opened.Tie as tie
 words-of-requires : tie.Need-words-of-requires
 words-of-requires c κs = search needs
 
+sub-count-facts : tie.Need-sub-count-facts
+sub-count-facts c = omega (arith, c .before .before .before .before .before .before .pre .0 .long)
+
 count-facts-requires : tie.Need-count-facts-requires
 count-facts-requires c κs =
     let start = c .before .before .before .before .before .before in
     let given = start .pre in
     let n = c .before .words-of .ensures in
-    let spread = row-words (given .0) (given .1) n in
-    (spread .some, rw n (given .3), omega (arith, table-most (le-trans (given .2) (omega arith)) (spread .most)))
+    let spread = row-words (given .1) (given .2) n in
+    let few : nameCount (now (start .args .names)) ≤ mostRows = omega (arith, given .0 .few) in
+    (spread .some, rw n (given .3), omega (arith, table-most few (spread .most)))
 
 take-readings-requires : tie.Need-take-readings-requires
 take-readings-requires c κs =
     let start = c .before .before .before .before .before .before .before .before in
     let given = start .pre in
     let n = c .before .before .before .words-of .ensures in
-    record { some = given .0; ticks = omega (arith, given .1); covered = row-words (given .0) (given .1) n .cover; signals = given .2; room = rw n (given .3) }
+    record { index = given .0; some = given .1; ticks = omega (arith, given .2); covered = row-words (given .1) (given .2) n .cover; room = rw n (given .3) }
 
 enum-told : tie.Need-enum-told
 enum-told c = search needs
@@ -47,6 +54,7 @@ take-opened-spec =
     tie.close
     (tie.spec
     words-of-requires
+    sub-count-facts
     count-facts-requires
     take-readings-requires
     enum-told

@@ -24,8 +24,11 @@ open-sheet-requires c κs = fresh
 enum-known-o : tie.Need-enum-known-o
 enum-known-o c = search needs
 
-array-share-prefix-places : tie.Need-array-share-prefix-places
-array-share-prefix-places c =
+add-names : tie.Need-add-names
+add-names c = let h = when-sheet (c .before .before .before .before .before .before .open-sheet .ensures) (c .before .o .given .1) in omega (arith, h .0 .few)
+
+array-share-prefix-names : tie.Need-array-share-prefix-names
+array-share-prefix-names c =
     let at-open-sheet = c .before .before .before .before .before .before in
     let h = when-sheet (at-open-sheet .open-sheet .ensures) (c .before .o .given .1) in omega (arith, h .0)
 
@@ -37,7 +40,9 @@ slice-aggregate-move-opened c =
 move-opened-requires : tie.Need-move-opened-requires
 move-opened-requires c κs =
     let at-open-sheet = c .before .before .before .before .before .before .before .before in
-    let h = when-sheet (at-open-sheet .open-sheet .ensures) (c .before .before .before .o .given .1) .1 in record { contents = h .contents; holds = h .holds; names-are = h .names-are; window-is = h .window-is }
+    let h = when-sheet (at-open-sheet .open-sheet .ensures) (c .before .before .before .o .given .1) in
+    let k = h .1 in
+    (record { contents = k .contents; holds = k .holds; names-are = k .names-are; window-is = k .window-is }, h .0 .index)
 
 enum-known-o-2 : tie.Need-enum-known-o-2
 enum-known-o-2 c = search needs
@@ -62,7 +67,8 @@ move-readings-spec =
     slice-aggregate-open-sheet-3
     open-sheet-requires
     enum-known-o
-    array-share-prefix-places
+    add-names
+    array-share-prefix-names
     slice-aggregate-move-opened
     move-opened-requires
     enum-known-o-2

@@ -17,6 +17,7 @@ use Rattle.read_parts.proofs.parts.+times_at.Lts-times_at as times-at-l
 use Rattle.read_arena.proofs.put_node.Reads as put-node-reads
 use Rattle.read_interval.proofs.interval_at.Reads as interval-at-reads
 use Rattle.read_bytes.proofs.bytes.byte_at.Reads as byte-at-reads
+use Rattle.read_parts.proofs.parts.time_at.Reads as time-at-reads
 use Rattle.read_parts.proofs.parts.+times_at.{statement}
 use Rattle.read_parts.proofs.parts.+times_at.Tie.{close}
 
@@ -31,7 +32,7 @@ module _ (t : ℕ) where
   times-at-below = and 2 times-at-kinds.ps (falls 2 times-at-kinds.ps _<_ μ-times-at t) times-at.Pre
 
   abbrev times-at-calls : times-at-lts.Claims
-  times-at-calls = (byte-at-reads.Asked, byte-at-reads.Learnt, interval-at-reads.Asked, interval-at-reads.Learnt, put-node-reads.Asked, put-node-reads.Learnt, times-at-below, times-at.Post)
+  times-at-calls = (byte-at-reads.Asked, byte-at-reads.Learnt, interval-at-reads.Asked, interval-at-reads.Learnt, put-node-reads.Asked, put-node-reads.Learnt, time-at-reads.Asked, time-at-reads.Learnt, times-at-below, times-at.Post)
 
   times-at-byte-at-requires : times-at-lts.Need-byte-at-requires times-at-calls times-at-at times-at.Post
   times-at-byte-at-requires c κs = search needs
@@ -76,9 +77,12 @@ module _ (t : ℕ) where
   times-at-add-count : times-at-lts.Need-add-count times-at-calls times-at-at times-at.Post
   times-at-add-count c = search needs
 
+  times-at-time-at-requires : times-at-lts.Need-time-at-requires times-at-calls times-at-at times-at.Post
+  times-at-time-at-requires c κs = search needs
+
   times-at-times-at-requires : times-at-lts.Need-times-at-requires times-at-calls times-at-at times-at.Post
   times-at-times-at-requires c κs =
-      let at-put-node = c .before .before .before in
+      let at-put-node = c .before .before .before .before .before in
       let at-i = at-put-node .before .before .before in
       let at-interval-at = at-i .before .before in
       let at-if1 = at-interval-at .before .before in
@@ -88,16 +92,13 @@ module _ (t : ℕ) where
       let w = timed-offsets _ _ (at-interval-at .interval-at .ensures) (at-i .i .given .1) in
       (omega (arith, g .1, w .1), record { ready = after-node (asked .ready) _ _ (omega (arith, w .1)) (w .2) (omega arith, w .3, w .4) (at-put-node .put-node .ensures); some = omega arith })
 
-  times-at-enum-known-i-2 : times-at-lts.Need-enum-known-i-2 times-at-calls times-at-at times-at.Post
-  times-at-enum-known-i-2 c = search needs
-
   times-at-same-length : times-at-lts.Need-same-length times-at-calls times-at-at times-at.Post
   times-at-same-length c = search needs
 
   times-at-returns : times-at-lts.Need-returns times-at-calls times-at-at times-at.Post
   times-at-returns c =
       let at-times-at = c .before .before in
-      let at-put-node = at-times-at .before .before .before .before in
+      let at-put-node = at-times-at .before .before .before .before .before .before in
       let at-i = at-put-node .before .before .before in
       let at-interval-at = at-i .before .before in
       let at-if1 = at-interval-at .before .before in
@@ -108,22 +109,42 @@ module _ (t : ℕ) where
       λ n x f l he hs. times-on _ n f _ (g .0) (g .1) l (at-byte-at .byte-at .ensures) (w .0) (omega (arith, w .1)) (w .3) (w .4) (asked .some) (asked .ready .arena) (room-for (asked .ready) _ 1 (omega (arith, g .1)) refl) he hs (at-put-node .put-node .ensures)
       (λ k hk hk′. at-times-at .times-at .ensures (n - 1) x k (omega (arith, w .1)) hk hk′)
 
+  times-at-enum-known-i-2 : times-at-lts.Need-enum-known-i-2 times-at-calls times-at-at times-at.Post
+  times-at-enum-known-i-2 c = search needs
+
+  times-at-same-length-2 : times-at-lts.Need-same-length-2 times-at-calls times-at-at times-at.Post
+  times-at-same-length-2 c = search needs
+
   times-at-returns-2 : times-at-lts.Need-returns-2 times-at-calls times-at-at times-at.Post
   times-at-returns-2 c =
+      let at-put-node = c .before .before .before .before in
+      let at-i = at-put-node .before .before .before in
+      let at-interval-at = at-i .before .before in
+      let at-if1 = at-interval-at .before .before in
+      let at-byte-at = at-if1 .before in
+      let asked = at-byte-at .before .before .before .pre .1 in
+      let g = timed-sign _ _ _ (at-byte-at .byte-at .ensures) (at-if1 .if1 .left) (omega arith) in
+      let w = timed-offsets _ _ (at-interval-at .interval-at .ensures) (at-i .i .given .1) in
+      let ready = after-node (asked .ready) _ _ (omega (arith, w .1)) (w .2) (omega arith, w .3, w .4) (at-put-node .put-node .ensures) in
+      λ n x f l he hs. times-on _ n f _ (g .0) (g .1) l (at-byte-at .byte-at .ensures) (w .0) (omega (arith, w .1)) (w .3) (w .4) (asked .some) (asked .ready .arena) (room-for (asked .ready) _ 1 (omega (arith, g .1)) refl) he hs (at-put-node .put-node .ensures)
+      (λ k hk hk′. by (times-none _ (n - 1) k _ (sym (c .before .time-at .ensures) ∙ c .if3 .left)) (stop (ready .within) (ready .arena) hk hk′))
+
+  times-at-returns-3 : times-at-lts.Need-returns-3 times-at-calls times-at-at times-at.Post
+  times-at-returns-3 c =
       let at-interval-at = c .before .before .before in
       let at-if1 = at-interval-at .before .before in
       let at-byte-at = at-if1 .before in
       let g = timed-sign _ _ _ (at-byte-at .byte-at .ensures) (at-if1 .if1 .left) (omega arith) in
       λ n x f l he hs. times-cut _ n f _ (g .0) (g .1) l (sym (at-interval-at .interval-at .ensures) ∙ c .before .i2 .given .1)
 
-  times-at-returns-3 : times-at-lts.Need-returns-3 times-at-calls times-at-at times-at.Post
-  times-at-returns-3 c =
+  times-at-returns-4 : times-at-lts.Need-returns-4 times-at-calls times-at-at times-at.Post
+  times-at-returns-4 c =
       let start = c .before .before .before .before in
       let asked = start .pre .1 in
       λ n x f l he hs. by (times-none _ n f _ (timed-unsigned _ _ _ (c .before .byte-at .ensures) (inl (c .if1 .taken)))) (stop (asked .ready .within) (asked .ready .arena) he hs)
 
-  times-at-returns-4 : times-at-lts.Need-returns-4 times-at-calls times-at-at times-at.Post
-  times-at-returns-4 c =
+  times-at-returns-5 : times-at-lts.Need-returns-5 times-at-calls times-at-at times-at.Post
+  times-at-returns-5 c =
       let at-byte-at = c .before .before in
       let asked = at-byte-at .before .before .before .pre .1 in
       λ n x f l he hs. by (times-none _ n f _ (timed-unsigned _ _ _ (at-byte-at .byte-at .ensures) (inr (c .if2 .left)))) (stop (asked .ready .within) (asked .ready .arena) he hs)
@@ -131,4 +152,4 @@ module _ (t : ℕ) where
 pub +times-at-spec : {M : Type 1} → statement M
 +times-at-spec =
     close μ-times-at
-    (λ t. times-at-lts.spec (times-at-calls t) (times-at-at t) times-at.Post (times-at-byte-at-requires t) (times-at-add-next t) (times-at-interval-at-requires t) (times-at-enum-known-i t) (times-at-sub-child t) (times-at-cast-t23 t) (times-at-cast-t24 t) (times-at-put-node-requires t) (times-at-add-count t) (times-at-times-at-requires t) (times-at-enum-known-i-2 t) (times-at-same-length t) (times-at-returns t) (times-at-returns-2 t) (times-at-returns-3 t) (times-at-returns-4 t))
+    (λ t. times-at-lts.spec (times-at-calls t) (times-at-at t) times-at.Post (times-at-byte-at-requires t) (times-at-add-next t) (times-at-interval-at-requires t) (times-at-enum-known-i t) (times-at-sub-child t) (times-at-cast-t23 t) (times-at-cast-t24 t) (times-at-put-node-requires t) (times-at-add-count t) (times-at-time-at-requires t) (times-at-times-at-requires t) (times-at-same-length t) (times-at-returns t) (times-at-enum-known-i-2 t) (times-at-same-length-2 t) (times-at-returns-2 t) (times-at-returns-3 t) (times-at-returns-4 t) (times-at-returns-5 t))

@@ -4,9 +4,10 @@ use borrow.Author.Needs.{needs}
 use native.Mathlib.Omega.{arith}
 use mathlib.Core.Path.{_≡_, refl, sym, ap, subst, _∙_}
 use Prim.Native.Nat.{_*_, _-_, _<_, _≤_}
+use denote.Ref.{now}
 use lib.ListN.{length, length-set}
-use Rattle.read_names.specs.Spellings.{namesAt}
-use Rattle.read_names.proofs.Names.{names-many}
+use Rattle.read_index.specs.Index.{namesIn}
+use Rattle.read_index.proofs.Places.{names-in-many}
 use Rattle.read_bytes.proofs.Answers.{answered, is-refusal}
 use Rattle.read_reading.specs.OneEntry.{entry, entrySays}
 use Rattle.read_readings.specs.SpanNumbers.{spansIn, EntriesNoted}
@@ -18,11 +19,11 @@ use Rattle.read_readings.proofs.whole.note_entries.Statement.{statement
 use Rattle.read_readings.proofs.whole.note_entries.Tie as tie
 
 abbrev Inv-loop : tie.InvT-loop
-Inv-loop s places window r noted₀ spans count₀ at₀ noted count at =
-    (length noted ≡ length noted₀) × (22 * count ≤ at) × Passed (entry spans (namesAt s places) window r) r (spansIn noted count) at
+Inv-loop s names window r noted₀ spans count₀ at₀ noted count at =
+    (length noted ≡ length noted₀) × (22 * count ≤ at) × Passed (entry spans (namesIn s names) window r) r (spansIn noted count) at
 
 abbrev μ-loop : tie.MeasureT-loop
-μ-loop s places window r noted₀ spans count₀ at₀ noted count at = length r - at
+μ-loop s names window r noted₀ spans count₀ at₀ noted count at = length r - at
 
 returns : tie.Need-returns Inv-loop μ-loop
 returns c = refused-at 10 0 (entries-long _ _ _ (c .if1 .taken))
@@ -40,7 +41,7 @@ loop-holds c = (refl, omega arith, passed-none _ _)
 entry-at-requires : tie.Need-entry-at-requires Inv-loop μ-loop
 entry-at-requires c κs =
     let start = c .before .before .before .before .before .before .before .before .before in
-    (start .pre .some, c .before .loop .inv .2 .inside)
+    (start .pre .index, start .pre .some, c .before .loop .inv .2 .inside)
 
 enum-known-a : tie.Need-enum-known-a Inv-loop μ-loop
 enum-known-a c = search needs
@@ -71,7 +72,8 @@ number-of-requires : tie.Need-number-of-requires Inv-loop μ-loop
 number-of-requires c κs =
     let a = answered entrySays (c .before .before .before .entry-at .ensures) (c .before .a .given .1) in
     let w = entry-within _ _ _ _ _ (omega arith) a in
-    (omega (arith, simp names-many at (w .signal)), omega (arith, w .order, w .ticks), omega (arith, w .ticks))
+    let many = names-in-many (now (c .before .before .before .before .before .before .before .before .before .before .before .before .before .args .s)) (now (c .before .before .before .before .before .before .before .before .before .before .before .before .before .args .names)) in
+    (omega (arith, many, w .signal, c .before .before .before .before .before .before .before .before .before .before .before .before .before .pre .index .few), omega (arith, w .order, w .ticks), omega (arith, w .ticks))
 
 mul-noted : tie.Need-mul-noted Inv-loop μ-loop
 mul-noted c = search needs

@@ -1,5 +1,6 @@
 -- `take_readings` meets its contract. Assumes nothing.
 use borrow.Author.Needs.{needs}
+use denote.Ref.{now}
 use mathlib.Core.Path.{refl}
 use Rattle.read_readings.specs.TakeReadings.ReadingsTaken.{taken, kept}
 use Rattle.read_readings.proofs.Outcomes.{not-noted, when-noted}
@@ -24,9 +25,10 @@ put-noted-requires : tie.Need-put-noted-requires
 put-noted-requires c κs =
     let at-c = c .before .before .before in
     let at-note-entries = at-c .before .before .before in
-    let asked = at-note-entries .before .before .before .before .before .before .pre in
+    let start = at-note-entries .before .before .before .before .before .before in
+    let asked = start .pre in
     let w = when-noted (at-note-entries .note-entries .ensures) (at-c .c .given .1) in
-    (w .few, entries-room _ _ _ _ _ _ (asked .some) (asked .covered) (asked .room) (w .all))
+    (w .few, entries-room _ (now (start .args .names)) _ _ _ _ (asked .some) (asked .covered) (asked .room) (w .all))
 
 enum-known-c-2 : tie.Need-enum-known-c-2
 enum-known-c-2 c = search needs
