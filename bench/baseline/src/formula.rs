@@ -1,4 +1,5 @@
 //! Rules: from the text to nodes, children before parents.
+use crate::names::Names;
 use crate::text::{refuse, word_end, Refusal};
 
 #[derive(Clone, Copy, PartialEq)]
@@ -23,7 +24,7 @@ pub struct Parser<'a> {
     /// The sheet up to the rule's LF.
     pub text: &'a [u8],
     pub at: usize,
-    pub names: &'a [&'a [u8]],
+    pub names: &'a Names<'a>,
     pub nodes: Vec<Node>,
     /// The defining rules of the hidden signals, in the order written.
     pub definings: Vec<usize>,
@@ -150,8 +151,8 @@ impl<'a> Parser<'a> {
             self.at = end;
             return self.keep(word == b"since", depth);
         }
-        match self.names.iter().position(|&name| name == word) {
-            Some(row) => {
+        match self.names.get(word) {
+            Some(&row) => {
                 self.at = end;
                 Ok(self.put(Node::Signal(row)))
             }

@@ -6,6 +6,7 @@ mod closing;
 mod formula;
 mod lowering;
 mod moves;
+mod names;
 mod operations;
 mod readings;
 mod sheet;

@@ -92,7 +92,7 @@ fn joined(spans: impl Iterator<Item = Span>) -> Vec<Span> {
 fn opened<'a>(text: &'a [u8], readings: &[u8]) -> Result<(Sheet<'a>, Vec<Span>), Refusal> {
     let sheet = sheet::read(text)?;
     lower(&sheet)?;
-    let entries = readings::read(readings, &sheet.names, sheet.window)?;
+    let entries = readings::read(readings, &sheet.numbers, sheet.window)?;
     Ok((sheet, entries))
 }
 

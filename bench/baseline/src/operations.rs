@@ -48,7 +48,7 @@ pub fn take(text: &[u8], readings: &[u8], table: &mut [u64]) -> Result<Taken, Re
     if table.chunks_exact(ticks.words).any(outside) {
         return refuse(16, 0);
     }
-    let spans = readings::read(readings, &sheet.names, sheet.window)?;
+    let spans = readings::read(readings, &sheet.numbers, sheet.window)?;
     let signals = sheet.names.len();
     let before = facts(table, ticks, signals);
     for span in spans {

@@ -1,4 +1,5 @@
 //! A readings text, of single readings or of spans.
+use crate::names::Names;
 use crate::text::{is_name, line, number_line, refuse, Refusal};
 
 /// A signal's value at every tick from the first to the last. Spans are in order of signal, value and ticks.
@@ -20,7 +21,7 @@ fn to_line(text: &[u8], at: usize, window: usize, first: usize) -> Result<(usize
 }
 
 /// The entries of a text, in its order: a single reading is a span of one tick.
-pub fn read(text: &[u8], names: &[&[u8]], window: usize) -> Result<Vec<Span>, Refusal> {
+pub fn read(text: &[u8], names: &Names, window: usize) -> Result<Vec<Span>, Refusal> {
     if text.len() > 32768 {
         return refuse(10, 0);
     }
@@ -39,8 +40,8 @@ pub fn read(text: &[u8], names: &[&[u8]], window: usize) -> Result<Vec<Span>, Re
         if !is_name(name) {
             return refuse(12, start);
         }
-        let signal = match names.iter().position(|&n| n == name) {
-            Some(signal) => signal,
+        let signal = match names.get(name) {
+            Some(&signal) => signal,
             None => return refuse(12, start),
         };
         let (value, next) = number_line(text, next, b"value=", (0, 1), 11, 14)?;

@@ -1,10 +1,12 @@
 //! A sheet's text from its first line to its last.
 use crate::formula::{Node, Parser};
+use crate::names::Names;
 use crate::text::{is_name, line, number_line, refuse, Refusal};
 
 pub struct Sheet<'a> {
     pub window: usize,
     pub names: Vec<&'a [u8]>,
+    pub numbers: Names<'a>,
     /// The nodes of all rules.
     pub nodes: Vec<Node>,
     /// Each rule's top node, and how many hidden signals the sheet has up to its end.
@@ -13,17 +15,18 @@ pub struct Sheet<'a> {
     pub definings: Vec<usize>,
 }
 
-fn names(text: &[u8], count: usize, mut at: usize) -> Result<(Vec<&[u8]>, usize), Refusal> {
+fn names(text: &[u8], count: usize, mut at: usize) -> Result<(Vec<&[u8]>, Names<'_>, usize), Refusal> {
     let mut names: Vec<&[u8]> = Vec::with_capacity(count);
-    for _ in 0..count {
+    let mut numbers = Names::with_capacity_and_hasher(count, Default::default());
+    for number in 0..count {
         let (name, start, next) = line(text, at, b"signal=", 2)?;
-        if !is_name(name) || names.contains(&name) {
+        if !is_name(name) || numbers.insert(name, number).is_some() {
             return refuse(4, start);
         }
         names.push(name);
         at = next;
     }
-    Ok((names, at))
+    Ok((names, numbers, at))
 }
 
 pub fn read(text: &[u8]) -> Result<Sheet<'_>, Refusal> {
@@ -32,7 +35,7 @@ pub fn read(text: &[u8]) -> Result<Sheet<'_>, Refusal> {
     }
     let (window, at) = number_line(text, 0, b"window=", (1, 4096), 2, 3)?;
     let (signals, at) = number_line(text, at, b"signals=", (1, 64), 2, 3)?;
-    let (names, at) = names(text, signals, at)?;
+    let (names, numbers, at) = names(text, signals, at)?;
     let (count, mut at) = number_line(text, at, b"rules=", (0, 64), 2, 3)?;
     let mut nodes = Vec::new();
     let mut definings = Vec::new();
@@ -45,7 +48,7 @@ pub fn read(text: &[u8]) -> Result<Sheet<'_>, Refusal> {
         let mut parser = Parser {
             text: &text[..next - 1],
             at: start,
-            names: &names,
+            names: &numbers,
             nodes,
             definings,
         };
@@ -61,6 +64,7 @@ pub fn read(text: &[u8]) -> Result<Sheet<'_>, Refusal> {
     Ok(Sheet {
         window,
         names,
+        numbers,
         nodes,
         rules,
         definings,
