@@ -60,8 +60,7 @@ pub fn open_sheet(s: &[u8], names: &mut [u16], rows: &mut [u64], tops: &mut [u16
     else {
         return refused_head(h);
     };
-    let end = LINKS + signals;
-    let r = lower_rules(s, &names[..end], rules, first, tops, rows);
+    let r = lower_rules(s, &names[..LINKS + signals], rules, first, tops, rows);
     match r {
         RuleLines::Read {
             hidden: _,

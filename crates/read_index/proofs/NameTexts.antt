@@ -16,7 +16,7 @@ use Rattle.read_bytes.proofs.Tests.{between-is}
 use Rattle.read_bytes.proofs.Runs.{run-byte}
 use Rattle.read_names.proofs.Spelling.{name-letter, word-more, word-none}
 use Rattle.read_names.proofs.Names.{word-same, name-is, named}
-use Rattle.read_index.specs.NameTexts.{startsSo, NameText}
+use Rattle.read_index.specs.NameTexts.{startsWithLetter, NameText}
 
 module _ (s : List ℕ) (p : ℕ) where
   -- The spelling is since, or until, exactly if it is the same text.
@@ -29,10 +29,10 @@ module _ (s : List ℕ) (p : ℕ) where
   until-same = word-same s p (bytes "until") refl
 
   -- It starts with a letter exactly if one stands there.
-  starts-letter : letter (peek s p) ≡ true → startsSo (spellingAt s p) ≡ true
+  starts-letter : letter (peek s p) ≡ true → startsWithLetter (spellingAt s p) ≡ true
   starts-letter e = rw (word-more s p (name-letter (peek s p) e)) e
 
-  letter-first : startsSo (spellingAt s p) ≡ true → letter (peek s p) ≡ true
+  letter-first : startsWithLetter (spellingAt s p) ≡ true → letter (peek s p) ≡ true
   letter-first h = go (nameByte (peek s p)) refl
     where
       go : (b : Bool) → nameByte (peek s p) ≡ b → letter (peek s p) ≡ true
@@ -62,7 +62,7 @@ module _ (s : List ℕ) (p : ℕ) where
       let n = name-is s p (peek s p) refl (spellingEnd s p) refl (l .0) (l .1) short (not-reserved t) in
       sym n ∙ rw (t .ended)
 
-some : (w : List ℕ) → startsSo w ≡ true → 0 < length w
+some : (w : List ℕ) → startsWithLetter w ≡ true → 0 < length w
 some [] e = absurd (false≢true e)
 some (b ∷ w) e = omega arith
 

@@ -9,12 +9,12 @@ use native.Mathlib.Decide.{decLt}
 use borrow.Author.Tests.{eqb-true, eqb-false, eq-eqb, ne-eqb}
 use lib.Dec.{eqb}
 use lib.ListN.{getD}
-use Rattle.read_index.specs.Index.{slots, mixed, slotOf, lastIn}
+use Rattle.read_index.specs.Index.{slots, mixed, slotOf, lastIn, mixedNumbers, golden}
 
-mixed-below : (h : ℕ) (w : List ℕ) → h < 4294967296 → mixed h w < 4294967296
+mixed-below : (h : ℕ) (w : List ℕ) → h < mixedNumbers → mixed h w < mixedNumbers
 unfolding mixed
 mixed-below h [] k = k
-mixed-below h (b ∷ w) k = mixed-below ((h + b) * 2654435769 % 4294967296) w (omega arith)
+mixed-below h (b ∷ w) k = mixed-below ((h + b) * golden % mixedNumbers) w (omega arith)
 
 pub slot-below : (w : List ℕ) → slotOf w < slots
 unfolding slotOf

@@ -10,20 +10,20 @@ use Rattle.read_bytes.specs.Bytes.{nameByte, runEnd}
 use Rattle.read_names.specs.Spellings.{spellingAt, spellingEnd}
 use Rattle.read_bytes.proofs.Runs.{run-more, end-more}
 use Rattle.read_index.specs.declared.Slot.{Slot}
-use Rattle.read_index.specs.Index.{mixed, slotOf}
+use Rattle.read_index.specs.Index.{mixed, slotOf, mixedNumbers, golden, perSlot}
 use Rattle.read_index.specs.Finds.{Slotted}
 
 -- The spelling at p is read up to i, and h is mixed from its bytes before i.
 pub record Walked (r : List ℕ) (p i h : ℕ) : Type 0 where
   pub ends : spellingEnd r p ≡ spellingEnd r i
   pub mixes : mixed 0 (spellingAt r p) ≡ mixed h (spellingAt r i)
-  pub small : h < 4294967296
+  pub small : h < mixedNumbers
 
 pub walk-start : (r : List ℕ) (p : ℕ) → Walked r p p 0
 walk-start r p = record { ends = refl; mixes = refl; small = omega arith }
 
 module _ {r : List ℕ} {p i h : ℕ} (w : Walked r p i h) where
-  pub walk-more : i < length r → nameByte (getD r i 0) ≡ true → Walked r p (i + 1) ((h + getD r i 0) * 2654435769 % 4294967296)
+  pub walk-more : i < length r → nameByte (getD r i 0) ≡ true → Walked r p (i + 1) ((h + getD r i 0) * golden % mixedNumbers)
   unfolding mixed
   walk-more l e =
       record {
@@ -32,10 +32,10 @@ module _ {r : List ℕ} {p i h : ℕ} (w : Walked r p i h) where
         small = omega arith;
       }
 
-  pub walk-end : (k : Slot) → k .end ≡ i → k .slot ≡ h / 67108864 → spellingAt r i ≡ [] → Slotted r p k
+  pub walk-end : (k : Slot) → k .end ≡ i → k .slot ≡ h / perSlot → spellingAt r i ≡ [] → Slotted r p k
   unfolding runEnd mixed slotOf
   walk-end k e f n =
       record {
         ends = omega (arith, w .ends, ap length n);
-        slot = f ∙ sym (ap (λ x. x / 67108864) (w .mixes ∙ ap (mixed h) n));
+        slot = f ∙ sym (ap (λ x. x / perSlot) (w .mixes ∙ ap (mixed h) n));
       }

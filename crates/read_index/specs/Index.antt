@@ -22,14 +22,24 @@ links = slots + mostSignals
 abbrev pub indexNumbers : ℕ
 indexNumbers = links + mostSignals
 
--- A number mixed from the bytes of a spelling, each with those before it: the golden ratio's part of 2 ^ 32 spreads it over 32 bits.
+-- How many numbers a spelling's bytes are mixed to, 2 ^ 32; the golden ratio's part of them, which spreads what it multiplies; how many share a slot.
+abbrev pub mixedNumbers : ℕ
+mixedNumbers = 4294967296
+
+abbrev pub golden : ℕ
+golden = 2654435769
+
+abbrev pub perSlot : ℕ
+perSlot = mixedNumbers / slots
+
+-- A number mixed from the bytes of a spelling, each with those before it.
 unfoldable pub mixed : ℕ → List ℕ → ℕ
 mixed h [] = h
-mixed h (b ∷ w) = mixed ((h + b) * 2654435769 % 4294967296) w
+mixed h (b ∷ w) = mixed ((h + b) * golden % mixedNumbers) w
 
--- The slot of a spelling: the upper six of these bits.
+-- The slot of a spelling.
 unfoldable pub slotOf : List ℕ → ℕ
-slotOf w = mixed 0 w / 67108864
+slotOf w = mixed 0 w / perSlot
 
 -- The places of the names.
 abbrev pub placesIn : List ℕ → List ℕ

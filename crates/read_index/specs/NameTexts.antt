@@ -11,13 +11,13 @@ use Rattle.read_names.specs.EndNumbers.{wellEnded}
 use Rattle.read_names.specs.Spellings.{sameText}
 
 -- Does it start with a letter?
-abbrev pub startsSo : List ℕ → Bool
-startsSo [] = false
-startsSo (b ∷ w) = letter b
+abbrev pub startsWithLetter : List ℕ → Bool
+startsWithLetter [] = false
+startsWithLetter (b ∷ w) = letter b
 
 -- "A name is a lower-case letter and then lower-case letters or digits, 1 to 16 in all; since and until are reserved"; digits at its end are an end number.
 pub record NameText (w : List ℕ) : Type 0 where
-  pub first : startsSo w ≡ true
+  pub first : startsWithLetter w ≡ true
   pub short : length w ≤ mostNameBytes
   pub not-since : sameText w (bytes "since") ≡ false
   pub not-until : sameText w (bytes "until") ≡ false

@@ -21,6 +21,15 @@ pub const LINKS: usize = SLOTS + SIGNALS;
 // indexNumbers
 pub const INDEX: usize = LINKS + SIGNALS;
 
+// golden
+const GOLDEN: usize = 2654435769;
+
+// mixedNumbers
+const MIXED: usize = 4294967296;
+
+// perSlot
+const PER_SLOT: usize = MIXED / SLOTS;
+
 // The place after a spelling, and its slot.
 pub struct Slot {
     pub end: usize,
@@ -34,7 +43,8 @@ pub struct Found {
     pub slot: usize,
 }
 
-// The spelling at `at`. A byte below `a` is no letter, so it is a digit or ends the spelling.
+// The spelling at `at`. A byte below `a` is no letter, so it is a digit or ends the spelling. The test
+// stands here as branches: as a function's answer it costs some five instructions a byte more.
 fn slot_at(r: &[u8], at: usize) -> Slot
     requires { ⌜ at ≤ length (now r) ⌝ }
     ensures { λ k. ⌜ Slotted (before r) at k ⌝ }
@@ -47,29 +57,29 @@ fn slot_at(r: &[u8], at: usize) -> Slot
             if b < b'0' {
                 return Slot {
                     end: i,
-                    slot: h / 67108864,
+                    slot: h / PER_SLOT,
                 };
             }
             if b'9' < b {
                 return Slot {
                     end: i,
-                    slot: h / 67108864,
+                    slot: h / PER_SLOT,
                 };
             }
         } else {
             if b'z' < b {
                 return Slot {
                     end: i,
-                    slot: h / 67108864,
+                    slot: h / PER_SLOT,
                 };
             }
         }
-        h = (h + b as usize) * 2654435769 % 4294967296;
+        h = (h + b as usize) * GOLDEN % MIXED;
         i += 1;
     }
     Slot {
         end: i,
-        slot: h / 67108864,
+        slot: h / PER_SLOT,
     }
 }
 

@@ -35,8 +35,8 @@ same-length c = search needs
 returns-2 : tie.Need-returns-2
 returns-2 c = let x = c .before .enum-told .given .1 in subst (SheetOpens _ _ _ _) (sym (c .refused-head .ensures _ _ (ap headSays x))) (refused-at (in-refused _ (refused-head _ (c .before .before .before .before .before .before .before .if1 .left) (when-no-head (c .before .before .before .before .before .head .ensures) x))))
 
-add-end : tie.Need-add-end
-add-end c = let h = when-headed (c .before .before .before .before .before .head .ensures) (c .before .h .given .1) in omega (arith, h .1 .signals-high)
+add-lower-rules : tie.Need-add-lower-rules
+add-lower-rules c = let h = when-headed (c .before .before .before .before .before .head .ensures) (c .before .h .given .1) in omega (arith, h .1 .signals-high)
 
 slice-reshare-prefix-lower-rules : tie.Need-slice-reshare-prefix-lower-rules
 slice-reshare-prefix-lower-rules c = let h = when-headed (c .before .before .before .before .before .head .ensures) (c .before .h .given .1) in omega (arith, h .2 .room, h .2 .few)
@@ -128,7 +128,7 @@ open-sheet-spec =
     refused-head-requires
     same-length
     returns-2
-    add-end
+    add-lower-rules
     slice-reshare-prefix-lower-rules
     slice-aggregate-lower-rules
     lower-rules-requires
