@@ -1,12 +1,12 @@
-/* Mikhakun: check, add, ask and the moves between readings and spans, for C. Link target/staticlib/libc_api.a, which `rt staticlib c_api` proves and
- * builds (x86-64 Linux).
+/* Mikhakun: check, add, ask, the moves between readings and spans, and the figures of several readings texts, for C. Link
+ * target/staticlib/libc_api.a, which `rt staticlib c_api` proves and builds (x86-64 Linux).
  *
  * Each call answers 0, or the number of a refusal. `place` is written at a refusal only, the other results at acceptance only.
- * A refusal changes no word of the table and no byte of a buffer. Nothing is kept between calls but the table that you lend.
+ * A refusal changes no word of a table, no byte of a buffer and no record. Nothing is kept between calls but the table that you lend.
  *
  * You owe what the proof assumes of a caller: behind each pointer lies memory of the length given, no two of one call overlap, nobody else
- * writes there during the call, and no pointer is null, also where its length is 0. The texts, the table's words, the buffers and the numbers may be
- * anything at all. A call needs 72 KB (73,728 bytes) of stack: the deepest sheets that are known take 67,528.
+ * writes there during the call, and no pointer is null, also where its length is 0. The texts, the table's words, the buffers, the records and the
+ * numbers may be anything at all. A call needs 72 KB (73,728 bytes) of stack: the deepest sheets that are known take 67,528.
  *
  * The table. With n the fewest words that have a bit for each tick of the window, (window + 63) / 64, a sheet of `rows` rows (see mikhakun_check)
  * has a table of 2 * rows * n words, and words of zeros are the empty one. Row x is that of signal x, numbered from 0 in sheet order; the rows of
@@ -42,7 +42,8 @@ extern "C" {
 #endif
 
 /* The numbers of refusal. A place is counted in bytes from 0: for 2 to 8 in the sheet, for 11 to 14 and 21 in the readings, and else it is 0. Of a line
- * it is the first byte, or the text's length where the line is missing; of a value, a name, an interval or a sign its first byte. No function here
+ * it is the first byte, or the text's length where the line is missing; of a value, a name, an interval or a sign its first byte. mikhakun_figures counts
+ * the place of 10 to 14 and 21 in the joined texts: for 10 it is the text's first byte, for 11 where a line is missing the text's end. No function here
  * answers 29: the program `settle` prints it, after 9, for a sheet whose table has over 8,192 words.
  *
  * A name is a lower-case letter and then lower-case letters or digits, 1 to 16 in all; since and until are reserved. The number at its end, if there
@@ -66,6 +67,8 @@ enum {
     MIKHAKUN_TABLE_LENGTH = 15,      /* the table's length is not 2 * rows * n */
     MIKHAKUN_TABLE_MARK = 16,        /* the table has a mark at a tick outside the window, in the last of a row's n true or n false words */
     MIKHAKUN_NO_SUCH_CELL = 17,      /* ask: the signal or the tick is outside its range */
+    MIKHAKUN_RECORD_COUNT = 18,      /* the list of records is not as long as the sheet has signals */
+    MIKHAKUN_LENGTHS = 19,           /* there are over 64 lengths, or their sum is not the length of the joined texts */
     MIKHAKUN_NO_ROOM = 20,           /* what is to be written is longer than the buffer, or over 32,768 bytes */
     MIKHAKUN_TO_BELOW_FROM = 21      /* a span's last tick is below its first: the value of `to=` */
 };
@@ -87,6 +90,15 @@ static inline uint64_t mikhakun_window(const uint8_t *sheet)
     uint64_t window = 0;
     for (sheet += sizeof "window=" - 1; *sheet != '\n'; sheet++) window = 10 * window + (uint64_t)(*sheet - '0');
     return window;
+}
+
+/* How many signals a sheet has, the number in its second line. You owe the same. */
+static inline uint64_t mikhakun_signals(const uint8_t *sheet)
+{
+    uint64_t signals = 0;
+    while (*sheet != '\n') sheet++;
+    for (sheet += sizeof "\nsignals=" - 1; *sheet != '\n'; sheet++) signals = 10 * signals + (uint64_t)(*sheet - '0');
+    return signals;
 }
 
 /* The length of a table, 2 * rows * n. */
@@ -114,6 +126,37 @@ uint64_t mikhakun_to_spans(const uint8_t *sheet, size_t sheet_len, const uint8_t
 /* Writes the readings, of either form, one by one, each once, by signal number, value (0 first), then tick. For the rest as mikhakun_to_spans. */
 uint64_t mikhakun_to_readings(const uint8_t *sheet, size_t sheet_len, const uint8_t *readings, size_t readings_len,
                               uint8_t *out, size_t room, uint64_t *length, uint64_t *place);
+
+/* What the runs of several readings texts say of a signal. A run that clashes counts its whole window in `clashed` and nothing in the other three counts; the
+ * four add up to window times runs. */
+typedef struct {
+    uint64_t signal;    /* its number, from 0 in sheet order */
+    uint64_t held;      /* at how many ticks it is true */
+    uint64_t failed;    /* at how many it is false */
+    uint64_t unsettled; /* at how many it is neither */
+    uint64_t clashed;   /* how many ticks the runs that clash have */
+    uint64_t first;     /* the earliest tick at which it is true or false in any run without a clash, or MIKHAKUN_NO_TICK */
+} mikhakun_record;
+
+/* In a record's `first`: it is settled at no tick of a run without a clash. */
+#define MIKHAKUN_NO_TICK UINT64_MAX
+
+/* Runs up to 64 readings texts, of either form each, one by one against the sheet, and writes a record for each signal. The texts stand in `texts` one behind
+ * the other with nothing between, and `lengths` has the length of each:
+ *
+ *     memcpy(texts, early, early_len);
+ *     memcpy(texts + early_len, late, late_len);
+ *     uint64_t lengths[] = {early_len, late_len};
+ *     number = mikhakun_figures(sheet, sheet_len, texts, early_len + late_len, lengths, 2, work, words, records, mikhakun_signals(sheet), &place);
+ *
+ * The records come in the order of a listing: by the bytes before the number at a name's end, no number before a number, then by the number. The work table is
+ * one of the sheet's, whatever marks it holds. It is cleared before each run, in which the text is added to it, and ends as the last run's closed table; with
+ * no text at all it ends cleared, and every count is 0.
+ *
+ * All texts are checked before the first run. Refusals 1 to 9, 15 for the work table, 18, 19, then of each text in turn 10 and, line by line, 11 to 14 and 21,
+ * in this order. Where one text ends and the next begins, 11 is of the first if its lines are not a multiple of three, or of four where they are spans. */
+uint64_t mikhakun_figures(const uint8_t *sheet, size_t sheet_len, const uint8_t *texts, size_t texts_len, const uint64_t *lengths, size_t runs,
+                          uint64_t *work, size_t words, mikhakun_record *records, size_t record_count, uint64_t *place);
 
 #ifdef __cplusplus
 }

@@ -1,5 +1,6 @@
 //! A refusal told with the line that it is in.
 
+use crate::moves::is_of_spans;
 use crate::name::{end_number_fault, is_name_byte, is_reserved, is_spelled};
 use crate::{Refusal, Text};
 use std::{fmt, str};
@@ -28,6 +29,8 @@ const SIDE: usize = 60;
 #[derive(Clone, Debug, PartialEq, Eq)]
 pub struct Explanation<'a> {
     refusal: Refusal,
+    /// Of several readings texts the one that is refused, counted from 0.
+    which: Option<usize>,
     spot: Option<Spot<'a>>,
 }
 
@@ -58,7 +61,7 @@ impl<'a> Spot<'a> {
             bytes: &bytes[start..end],
             at: place - start,
             past_the_text: start == bytes.len(),
-            of_spans: bytes.starts_with(b"from="),
+            of_spans: is_of_spans(bytes),
         }
     }
 
@@ -80,10 +83,15 @@ impl<'a> Spot<'a> {
 
 impl<'a> Explanation<'a> {
     pub(crate) fn new(refusal: Refusal, text: Option<(Text, &'a [u8])>) -> Self {
-        Explanation { refusal, spot: text.map(|(text, bytes)| Spot::new(text, bytes, refusal.place())) }
+        Explanation { refusal, which: None, spot: text.map(|(text, bytes)| Spot::new(text, bytes, refusal.place())) }
     }
 
-    /// The refusal that is explained.
+    /// The same of one of several readings texts, counted from 0.
+    pub(crate) fn of_text(self, which: usize) -> Self {
+        Explanation { which: Some(which), ..self }
+    }
+
+    /// The refusal that is explained. Of one of several readings texts it is the text's own, with the place counted there.
     pub fn refusal(&self) -> Refusal {
         self.refusal
     }
@@ -178,6 +186,9 @@ fn is_rule_of_wrong_length(spot: &Spot<'_>) -> bool {
 impl fmt::Display for Explanation<'_> {
     fn fmt(&self, f: &mut fmt::Formatter<'_>) -> fmt::Result {
         let (sentence, number) = (self.sentence(), self.refusal.number());
+        if let Some(which) = self.which {
+            write!(f, "text {}: ", which + 1)?;
+        }
         if let Some(spot) = &self.spot {
             write!(f, "{}, line {}, column {}: ", spot.text, spot.line, spot.at + 1)?;
         }

@@ -12,6 +12,21 @@ pub type Move = unsafe extern "C" fn(
     place: *mut u64,
 ) -> u64;
 
+/// In a record's `first`: no tick.
+pub const NO_TICK: u64 = u64::MAX;
+
+/// A record of figures.
+#[repr(C)]
+#[derive(Clone, Copy, Default)]
+pub struct Record {
+    pub signal: u64,
+    pub held: u64,
+    pub failed: u64,
+    pub unsettled: u64,
+    pub clashed: u64,
+    pub first: u64,
+}
+
 extern "C" {
     pub fn mikhakun_check(sheet: *const u8, sheet_len: usize, rows: *mut u64, place: *mut u64) -> u64;
 
@@ -57,6 +72,20 @@ extern "C" {
         out: *mut u8,
         room: usize,
         length: *mut u64,
+        place: *mut u64,
+    ) -> u64;
+
+    pub fn mikhakun_figures(
+        sheet: *const u8,
+        sheet_len: usize,
+        texts: *const u8,
+        texts_len: usize,
+        lengths: *const u64,
+        runs: usize,
+        work: *mut u64,
+        words: usize,
+        records: *mut Record,
+        record_count: usize,
         place: *mut u64,
     ) -> u64;
 }

@@ -2,8 +2,8 @@
 //!
 //! A sheet says what must be true of its signals, tick by tick. Given readings, [`add`] settles signals as true or false at ticks of the
 //! window; each value holds in every history that obeys the sheet and agrees with the readings. These are safe functions over the proved
-//! reader, a static library: [`check`], [`add`], [`ask`] and two moves each take the sheet's text, and keep nothing between calls but the [`Table`]
-//! that they are lent.
+//! reader, a static library: [`check`], [`add`], [`ask`], two moves and [`figures`] each take the sheet's text, and keep nothing between calls but the
+//! [`Table`] that they are lent.
 //!
 //! ```
 //! use mikhakun::{add, ask, check, Table, Value};
@@ -37,6 +37,16 @@
 //! # Ok::<(), mikhakun::Refusal>(())
 //! ```
 //!
+//! [`figures`] runs several readings texts against one sheet, each by itself, and counts at how many ticks each signal is true, false and unsettled:
+//!
+//! ```
+//! let sheet = b"window=10\nsignals=1\nsignal=clear2\nrules=0\n";
+//! let records = mikhakun::figures(sheet, &[b"from=3\nto=5\nsignal=clear2\nvalue=1\n", b"at=8\nsignal=clear2\nvalue=0\n"])?;
+//! assert_eq!((records[0].held, records[0].failed, records[0].unsettled), (3, 1, 16));
+//! assert_eq!(records[0].first, Some(3));
+//! # Ok::<(), mikhakun::Refusal>(())
+//! ```
+//!
 //! What is refused says why and where:
 //!
 //! ```
@@ -53,6 +63,8 @@
 
 mod explanation;
 mod ffi;
+mod figures;
+mod head;
 mod moves;
 mod name;
 mod refusal;
@@ -60,6 +72,7 @@ mod table;
 mod value;
 
 pub use explanation::Explanation;
+pub use figures::{figures, figures_into, Record};
 pub use moves::{to_readings, to_readings_into, to_spans, to_spans_into, LONGEST_TEXT};
 pub use refusal::{Refusal, Text};
 pub use table::Table;

@@ -69,6 +69,11 @@ pub fn to_readings_into(sheet: &[u8], readings: &[u8], buffer: &mut [u8]) -> Res
     move_into(ffi::mikhakun_to_readings, sheet, readings, buffer)
 }
 
+/// Is a readings text one of spans? Its first key tells; an empty text counts as one of single readings.
+pub(crate) fn is_of_spans(readings: &[u8]) -> bool {
+    readings.starts_with(b"from=")
+}
+
 /// What a move writes into a buffer that is long enough for every text.
 fn moved(to_form: ffi::Move, sheet: &[u8], readings: &[u8]) -> Result<Vec<u8>, Refusal> {
     let mut text = vec![0; LONGEST_TEXT];

@@ -1,5 +1,6 @@
 //! The table of marks that a caller keeps between calls.
 
+use crate::head::window_of;
 use crate::{check, Refusal};
 
 /// The marks of every row. With n the fewest words that have a bit for each tick of the window, row r has n words for the ticks at which it is
@@ -53,12 +54,6 @@ impl Table {
     pub fn into_words(self) -> Vec<u64> {
         self.words
     }
-}
-
-/// The window of an accepted sheet: the number in its first line.
-fn window_of(sheet: &[u8]) -> usize {
-    let digits = sheet[b"window=".len()..].iter().take_while(|&&byte| byte != b'\n');
-    digits.fold(0, |window, digit| 10 * window + usize::from(digit - b'0'))
 }
 
 /// Any words are a table; `add` and `ask` refuse it by 15 or 16 if it is not one of their sheet.

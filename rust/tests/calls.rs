@@ -1,6 +1,6 @@
 //! The calls that the gate runs and compares, made once more through the static library: `crates/run_operations/stdout` has each call with its answer.
 
-use mikhakun::{add, ask, check, to_readings, to_readings_into, to_spans, to_spans_into, Refusal, Table};
+use mikhakun::{add, ask, check, figures_into, to_readings, to_readings_into, to_spans, to_spans_into, Record, Refusal, Table};
 
 /// A call, or a text or table for the calls that follow: the words of its heading, the lines under it, and the answer's lines, those of a written text among them.
 #[derive(Default)]
@@ -48,6 +48,12 @@ impl Entry {
         self.heading[word].parse().unwrap()
     }
 
+    /// The numbers of a heading, up to the one before the colon.
+    fn numbers(&self) -> Vec<u64> {
+        let last = self.heading.iter().position(|word| word.ends_with(':')).unwrap();
+        self.heading[1..=last].iter().map(|word| word.trim_end_matches(':').parse().unwrap()).collect()
+    }
+
     /// The table of as many words as the heading says, all 0 but those of the lines.
     fn table(&self) -> Table {
         let mut words = vec![0; self.number(1)];
@@ -69,8 +75,32 @@ fn added(sheet: &[u8], readings: &[u8], table: &mut Table) -> Vec<String> {
         Ok(added) => format!("new facts {}, clash {}", added.new_facts, u8::from(added.clash)),
         Err(refusal) => refused(refusal),
     };
+    std::iter::once(told).chain(words_of(table)).collect()
+}
+
+/// Each word of a table that is not 0, a line each.
+fn words_of(table: &Table) -> Vec<String> {
     let words = table.words().iter().enumerate().filter(|(_, &word)| word != 0);
-    std::iter::once(told).chain(words.map(|(at, word)| format!("word {at} {word}"))).collect()
+    words.map(|(at, word)| format!("word {at} {word}")).collect()
+}
+
+/// The answer's lines to figures: each record, or the refusal, and the work table's words.
+fn figured(entry: &Entry, sheet: &[u8], work: &mut Table) -> Vec<String> {
+    let numbers = entry.numbers();
+    let mut records = vec![Record::default(); numbers[0] as usize];
+    let mut lines = match figures_into(sheet, &entry.text(), &numbers[1..], work, &mut records) {
+        Ok(()) => records.iter().map(told).collect(),
+        Err(refusal) => vec![refused(refusal)],
+    };
+    lines.extend(words_of(work));
+    lines
+}
+
+/// A record's line.
+fn told(record: &Record) -> String {
+    let Record { signal, held, failed, unsettled, clashed, first } = *record;
+    let first = first.map_or("none".to_string(), |tick| tick.to_string());
+    format!("signal {signal}, true {held}, false {failed}, unsettled {unsettled}, clashing {clashed}, first {first}")
 }
 
 /// The answer's lines to a move into a buffer full of dots: the text, or its last 100 bytes if it has over 32,000, and the byte after it.
@@ -126,6 +156,7 @@ fn every_call_has_the_answer_of_the_gate() {
                 added(&sheet, &entry.text(), &mut table)
             }
             "spans" | "singles" => moved(&entry, &sheet),
+            "figures" => figured(&entry, &sheet, &mut table),
             "ask" => vec![ask(&sheet, &table, entry.number(1), entry.number(2)).map_or_else(refused, |value| value.to_string())],
             other => panic!("a heading of no known kind: {other}"),
         };

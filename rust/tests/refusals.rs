@@ -1,6 +1,6 @@
 //! Each refusal number, with its place and what its explanation says.
 
-use mikhakun::{add, ask, check, to_readings, to_readings_into, to_spans, to_spans_into, Refusal, Table};
+use mikhakun::{add, ask, check, figures, figures_into, to_readings, to_readings_into, to_spans, to_spans_into, Refusal, Table};
 
 const SHEET: &[u8] = b"window=10\nsignals=2\nsignal=clear2\nsignal=go10\nrules=1\nrule=clear2@[-3,0]=>go10\n";
 
@@ -12,6 +12,8 @@ fn refused_sheet(sheet: &[u8]) -> Refusal {
     let mut table = Table::empty(0, 0);
     assert_eq!(add(sheet, b"", &mut table), Err(refusal));
     assert_eq!(ask(sheet, &table, 0, 0), Err(refusal));
+    assert_eq!(figures(sheet, &[b"x".as_slice(); 65]), Err(refusal));
+    assert_eq!(figures_into(sheet, b"x", &[], &mut table, &mut []), Err(refusal));
     refused_moves(sheet, &[b'x'; 32_769], refusal);
     refusal
 }
@@ -48,7 +50,7 @@ fn name_case(name: &str, sentence: &str) {
     sheet_case(4, &format!("window=1\nsignals=1\nsignal={name}\n"), 26, &explanation);
 }
 
-/// The readings are refused by this number at this place, in add and in the moves, the explanation is this, and the table keeps every word.
+/// The readings are refused by this number at this place, in add, in the moves and in figures, the explanation is this, and the table keeps every word.
 fn readings_case(number: u64, readings: &str, place: usize, explanation: &str) {
     let mut table = Table::for_sheet(SHEET).unwrap();
     add(SHEET, b"at=1\nsignal=go10\nvalue=0\n", &mut table).unwrap();
@@ -57,6 +59,7 @@ fn readings_case(number: u64, readings: &str, place: usize, explanation: &str) {
     assert_eq!((refusal.number(), refusal.place()), (number, place), "{readings}");
     assert_eq!(refusal.explain(SHEET, readings.as_bytes()).to_string(), explanation, "{readings}");
     assert_eq!(table, before, "{readings}");
+    assert_eq!(figures(SHEET, &[readings.as_bytes(), b"x"]), Err(refusal), "{readings}");
     refused_moves(SHEET, readings.as_bytes(), refusal);
 }
 

@@ -58,6 +58,7 @@ fn of_folder(folder: &Path) -> Case {
             parts: vec![],
         }],
         moves: vec![],
+        figures: vec![],
     }
 }
 

@@ -14,6 +14,7 @@ pub const UNWRITTEN: u64 = 0x5EC0_2D5E_C02D_5EC0;
 #[cfg(library)]
 mod linked {
     use super::{Outcome, UNWRITTEN};
+    use crate::figures::Record;
     use crate::text::readings::Form;
 
     extern "C" {
@@ -62,6 +63,19 @@ mod linked {
             out: *mut u8,
             room: usize,
             length: *mut u64,
+            place: *mut u64,
+        ) -> u64;
+        fn mikhakun_figures(
+            sheet: *const u8,
+            sheet_len: usize,
+            texts: *const u8,
+            texts_len: usize,
+            lengths: *const u64,
+            runs: usize,
+            work: *mut u64,
+            words: usize,
+            records: *mut Record,
+            record_count: usize,
             place: *mut u64,
         ) -> u64;
     }
@@ -136,11 +150,41 @@ mod linked {
             outputs: vec![length, place],
         }
     }
+
+    pub fn figures(
+        sheet: &[u8],
+        texts: &[u8],
+        lengths: &[u64],
+        work: &mut [u64],
+        records: &mut [Record],
+    ) -> Outcome {
+        let mut place = UNWRITTEN;
+        let answer = unsafe {
+            mikhakun_figures(
+                sheet.as_ptr(),
+                sheet.len(),
+                texts.as_ptr(),
+                texts.len(),
+                lengths.as_ptr(),
+                lengths.len(),
+                work.as_mut_ptr(),
+                work.len(),
+                records.as_mut_ptr(),
+                records.len(),
+                &mut place,
+            )
+        };
+        Outcome {
+            answer,
+            outputs: vec![place],
+        }
+    }
 }
 
 #[cfg(not(library))]
 mod linked {
     use super::Outcome;
+    use crate::figures::Record;
     use crate::text::readings::Form;
 
     pub const LINKED: bool = false;
@@ -160,6 +204,10 @@ mod linked {
     pub fn move_to(_: Form, _: &[u8], _: &[u8], _: &mut [u8]) -> Outcome {
         unreachable!("no library")
     }
+
+    pub fn figures(_: &[u8], _: &[u8], _: &[u64], _: &mut [u64], _: &mut [Record]) -> Outcome {
+        unreachable!("no library")
+    }
 }
 
-pub use linked::{add, ask, check, move_to, LINKED};
+pub use linked::{add, ask, check, figures, move_to, LINKED};

@@ -2,6 +2,7 @@
 
 use crate::operations::{add, read, Added};
 use crate::table;
+use crate::text::name::in_order;
 use crate::text::{refuse, Refusal};
 
 /// The most words of a table that is listed.
@@ -25,10 +26,8 @@ fn accepted(text: &[u8], readings: &[u8]) -> Result<String, Refusal> {
     let Added { new_facts, clash } = add(text, readings, &mut table)?;
     let marks = table::marks_of(&table, rows, sheet.window)?;
     let mut lines = format!("answer=0\nrows={rows}\nfacts={new_facts}\nclash={clash}\n");
-    let mut signals: Vec<_> = sheet.names.iter().zip(0..).collect();
-    signals.sort();
-    for (name, signal) in signals {
-        let values = marks.values(signal);
+    for signal in in_order(&sheet.names) {
+        let (name, values) = (&sheet.names[signal], marks.values(signal));
         let signs = values
             .iter()
             .map(|&value| ['?', '1', '0', 'x'][value as usize]);

@@ -3,6 +3,7 @@
 
 mod compare;
 mod export;
+mod figures;
 mod generate;
 mod infer;
 mod library;
@@ -12,6 +13,7 @@ mod lower;
 mod moves;
 mod operations;
 mod seen;
+mod seen_figures;
 mod seen_readings;
 mod table;
 mod tally;

@@ -1,10 +1,11 @@
 //! The three operations over a table of words: check, add and ask.
 
-use crate::infer::close;
+use crate::infer::{close, Marks};
 use crate::lower::{lower, Rows};
 use crate::table::{marks_of, write};
+use crate::text::readings::{self, Span};
 use crate::text::sheet::{self, Sheet};
-use crate::text::{readings, refuse, Refusal};
+use crate::text::{refuse, Refusal};
 
 /// What add answers when it accepts.
 #[derive(Clone, Copy, Debug, PartialEq, Eq)]
@@ -23,13 +24,8 @@ pub fn check(sheet: &[u8]) -> Result<u64, Refusal> {
 pub fn add(sheet: &[u8], readings: &[u8], table: &mut [u64]) -> Result<Added, Refusal> {
     let (sheet, rows) = read(sheet)?;
     let before = marks_of(table, rows.nodes.len(), sheet.window)?;
-    let mut start = before.clone();
-    for span in readings::read(readings, sheet.window, &sheet.names)? {
-        for tick in span.ticks() {
-            start.set(span.signal, tick, span.value);
-        }
-    }
-    let after = close(&rows, &start);
+    let spans = readings::read(readings, sheet.window, &sheet.names)?;
+    let after = closed(&rows, &before, &spans);
     write(&after, sheet.window, table);
     let signals = sheet.names.len();
     let new_facts = after.count(signals) - before.count(signals);
@@ -45,6 +41,17 @@ pub fn ask(sheet: &[u8], table: &[u64], signal: u64, tick: u64) -> Result<u64, R
         return refuse(17, 0);
     }
     Ok(marks.values(signal as usize)[tick as usize])
+}
+
+/// The closed marks that the rows, the marks before and the readings lead to.
+pub fn closed(rows: &Rows, before: &Marks, spans: &[Span]) -> Marks {
+    let mut start = before.clone();
+    for span in spans {
+        for tick in span.ticks() {
+            start.set(span.signal, tick, span.value);
+        }
+    }
+    close(rows, &start)
 }
 
 /// The sheet as read, and its rows.

@@ -1,9 +1,12 @@
 //! What the cases of a comparison meet, each thing in enough of them: numbers answered, kinds of windows, names refused for their end number,
-//! and what texts of readings meet.
+//! and what texts of readings and calls of figures meet.
 
+use crate::figures::Record;
+use crate::generate::figures::Figures;
 use crate::generate::moves::Move;
 use crate::generate::Call;
 use crate::library::Outcome;
+use crate::seen_figures;
 use crate::seen_readings;
 use crate::table::block_words;
 use crate::tally::Tally;
@@ -18,8 +21,8 @@ const ENOUGH_CASES: u64 = 20_000;
 const ENOUGH_SEEN: u64 = 50;
 
 /// The numbers that a call may answer: 0 and the refusals.
-const NUMBERS: [u64; 20] = [
-    0, 1, 2, 3, 4, 5, 6, 7, 8, 9, 10, 11, 12, 13, 14, 15, 16, 17, 20, 21,
+const NUMBERS: [u64; 22] = [
+    0, 1, 2, 3, 4, 5, 6, 7, 8, 9, 10, 11, 12, 13, 14, 15, 16, 17, 18, 19, 20, 21,
 ];
 /// Kinds of windows, by the words that cover them.
 const WINDOWS: [(&str, RangeInclusive<usize>); 4] = [
@@ -44,6 +47,7 @@ pub struct Seen {
     windows: Tally,
     misnumbered: Tally,
     readings: seen_readings::Seen,
+    figures: seen_figures::Seen,
 }
 
 /// What one case met, as places in the lists above.
@@ -53,6 +57,7 @@ pub struct Met {
     windows: BTreeSet<usize>,
     misnumbered: BTreeSet<usize>,
     readings: seen_readings::Met,
+    figures: seen_figures::Met,
 }
 
 impl Seen {
@@ -78,6 +83,7 @@ impl Seen {
                 misnumbered,
             ),
             readings: seen_readings::Seen::none(least),
+            figures: seen_figures::Seen::none(least),
         }
     }
 
@@ -90,6 +96,7 @@ impl Seen {
             places.into_iter().for_each(|place| tally.met(place));
         }
         self.readings.count(case.readings);
+        self.figures.count(case.figures);
     }
 
     /// Prints the counts; answers how many things were met too seldom.
@@ -98,6 +105,7 @@ impl Seen {
             + self.windows.print()
             + self.misnumbered.print()
             + self.readings.print()
+            + self.figures.print()
     }
 }
 
@@ -127,6 +135,12 @@ impl Met {
 
     pub fn moved_back(&mut self, to: Form) {
         self.readings.moved_back(to);
+    }
+
+    /// Takes in a call of figures, what it answered and the records after it.
+    pub fn figured(&mut self, sheet: &[u8], call: &Figures, outcome: &Outcome, records: &[Record]) {
+        self.number(outcome.answer);
+        self.figures.figured(sheet, call, outcome, records);
     }
 
     fn number(&mut self, number: u64) {

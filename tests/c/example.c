@@ -1,5 +1,6 @@
-/* Checks the shipped example, adds its readings, asks, moves them to spans and back, and is refused, through the static library; then the same over
- * windows of several words; then names that end in a number. Prints what differs from what is wanted, and 'N passed, M failed' at the end. */
+/* Checks the shipped example, adds its readings, asks, moves them to spans and back, has the figures of several texts, and is refused, through the static
+ * library; then the same over windows of several words; then names that end in a number. Prints what differs from what is wanted, and 'N passed, M failed'
+ * at the end. */
 #include "mikhakun.h"
 
 #include <stdio.h>
@@ -161,6 +162,131 @@ static void add_spans(const uint64_t *wanted) {
     same("table of spans", (uint64_t)memcmp(table, wanted, sizeof table), 0);
 }
 
+enum { SIGNALS = 3, WORDS = 30, MOST_RECORDS = SIGNALS + 1, MOST_TEXTS = 64 };
+
+/* Readings that clash with the sheet; and three texts, of which the second clashes and the third is the first once more, as spans. */
+static const char AGAINST[] = "at=0\nsignal=open10\nvalue=0\nat=1\nsignal=go10\nvalue=1\nat=3\nsignal=open10\nvalue=0\n";
+static const char *const SHIFTS[] = {READINGS, AGAINST, SPANS};
+
+/* Texts one behind the other, and their lengths. */
+typedef struct {
+    char joined[400];
+    uint64_t lengths[MOST_TEXTS + 1];
+    size_t runs;
+} Texts;
+
+static Texts join(const char *const *texts, size_t runs) {
+    Texts all = {.runs = runs};
+    for (size_t i = 0; i < runs; i++) {
+        strcat(all.joined, texts[i]);
+        all.lengths[i] = strlen(texts[i]);
+    }
+    return all;
+}
+
+/* What a call of figures is lent, and what it answers. */
+typedef struct {
+    uint64_t work[WORDS], number, place;
+    mikhakun_record records[MOST_RECORDS];
+} Figures;
+
+static const mikhakun_record NO_RECORD = {UNWRITTEN, UNWRITTEN, UNWRITTEN, UNWRITTEN, UNWRITTEN, UNWRITTEN};
+
+/* What is lent before the call: a table with marks everywhere, past the window too, and records of nothing. */
+static Figures before_figures(void) {
+    Figures lent = {.place = UNWRITTEN};
+    memset(lent.work, 0xFF, sizeof lent.work);
+    for (size_t i = 0; i < MOST_RECORDS; i++)
+        lent.records[i] = NO_RECORD;
+    return lent;
+}
+
+static Figures figures(const char *sheet, const Texts *texts, size_t words, size_t record_count) {
+    Figures found = before_figures();
+    found.number = mikhakun_figures(bytes(sheet), strlen(sheet), bytes(texts->joined), strlen(texts->joined), texts->lengths, texts->runs, found.work, words,
+                                    found.records, record_count, &found.place);
+    return found;
+}
+
+static void same_record(const char *what, mikhakun_record found, mikhakun_record wanted) {
+    same(what, found.signal, wanted.signal);
+    same(what, found.held, wanted.held);
+    same(what, found.failed, wanted.failed);
+    same(what, found.unsettled, wanted.unsettled);
+    same(what, found.clashed, wanted.clashed);
+    same(what, found.first, wanted.first);
+}
+
+/* The figures of the first so many texts: a record for each signal, and the place stays. The work table ends as these words, those of the last text added to an
+ * empty one. */
+static void has_figures(const char *what, size_t runs, const mikhakun_record *wanted, const uint64_t *last) {
+    Texts texts = join(SHIFTS, runs);
+    Figures found = figures(SHEET, &texts, WORDS, SIGNALS);
+    same(what, found.number, 0);
+    for (size_t i = 0; i < SIGNALS; i++)
+        same_record(what, found.records[i], wanted[i]);
+    same_record("what follows the records", found.records[SIGNALS], NO_RECORD);
+    same("work table after figures", (uint64_t)memcmp(found.work, last, sizeof found.work), 0);
+    same("place after figures", found.place, UNWRITTEN);
+}
+
+/* The figures of none, one, two and three texts. The second clashes: its ten ticks count in a column of their own, and its first settled tick, 0, nowhere. */
+static void figures_of_texts(const uint64_t *closed) {
+    static const mikhakun_record none[SIGNALS] = {{0, 0, 0, 0, 0, MIKHAKUN_NO_TICK}, {1, 0, 0, 0, 0, MIKHAKUN_NO_TICK}, {2, 0, 0, 0, 0, MIKHAKUN_NO_TICK}};
+    static const mikhakun_record one[SIGNALS] = {{0, 4, 0, 6, 0, 3}, {1, 1, 0, 9, 0, 6}, {2, 1, 0, 9, 0, 8}};
+    static const mikhakun_record two[SIGNALS] = {{0, 4, 0, 6, 10, 3}, {1, 1, 0, 9, 10, 6}, {2, 1, 0, 9, 10, 8}};
+    static const mikhakun_record three[SIGNALS] = {{0, 8, 0, 12, 10, 3}, {1, 2, 0, 18, 10, 6}, {2, 2, 0, 18, 10, 8}};
+    uint64_t clashing[WORDS] = {0}, cleared[WORDS] = {0}, fresh, clash, place;
+    same("add of what clashes", mikhakun_add(bytes(SHEET), strlen(SHEET), bytes(AGAINST), strlen(AGAINST), clashing, WORDS, &fresh, &clash, &place), 0);
+    same("the clash of a run", clash, 1);
+    same("signals of a sheet", mikhakun_signals(bytes(SHEET)), SIGNALS);
+    has_figures("figures of no text", 0, none, cleared);
+    has_figures("figures of a text", 1, one, closed);
+    has_figures("figures of two texts", 2, two, clashing);
+    has_figures("figures of three texts", 3, three, closed);
+}
+
+/* The records of this sheet come by name, the number at its end as a number. */
+static void figures_in_order(void) {
+    static const char sheet[] = "window=4\nsignals=3\nsignal=aisle10\nsignal=aisle2\nsignal=aisle\nrules=0\n", *const texts[] = {"at=1\nsignal=aisle2\nvalue=0\n"};
+    static const mikhakun_record wanted[SIGNALS] = {{2, 0, 0, 4, 0, MIKHAKUN_NO_TICK}, {1, 0, 1, 3, 0, 1}, {0, 0, 0, 4, 0, MIKHAKUN_NO_TICK}};
+    Texts all = join(texts, 1);
+    Figures found = figures(sheet, &all, 2 * SIGNALS, SIGNALS);
+    same("figures by name", found.number, 0);
+    for (size_t i = 0; i < SIGNALS; i++)
+        same_record("a record by name", found.records[i], wanted[i]);
+}
+
+/* Figures are refused by this number at this place: no word of the work table is written, and no record. */
+static void no_figures(const char *what, const char *sheet, const Texts *texts, size_t words, size_t record_count, uint64_t number, uint64_t at) {
+    Figures found = figures(sheet, texts, words, record_count), before = before_figures();
+    same(what, found.number, number);
+    same("place of refused figures", found.place, at);
+    same("work table of refused figures", (uint64_t)memcmp(found.work, before.work, sizeof found.work), 0);
+    same("records of refused figures", (uint64_t)memcmp(found.records, before.records, sizeof found.records), 0);
+}
+
+/* A text of the joined ones is refused where it stands; the lengths, the list of records and the work table come before that, the sheet before all. */
+static void refused_figures(void) {
+    static const char *const late[] = {SPANS, "", "at=3\nsignal=go10\nvalue=0\nat=10\n"}, *const torn[] = {READINGS, "at=3\nsignal=go10\n", SPANS};
+    Texts texts = join(late, 3), cut = join(torn, 3), wrapped = join(SHIFTS, 3), many = {.runs = MOST_TEXTS + 1}, most = {.runs = MOST_TEXTS};
+    no_figures("figures past the window", SHEET, &texts, WORDS, SIGNALS, MIKHAKUN_OUTSIDE_WINDOW, strlen(texts.joined) - strlen("10\n"));
+    no_figures("figures without a line", SHEET, &cut, WORDS, SIGNALS, MIKHAKUN_READINGS_LINE, strlen(READINGS) + strlen(torn[1]));
+    texts.lengths[1] = 1;
+    no_figures("figures and a byte too many", SHEET, &texts, WORDS, SIGNALS, MIKHAKUN_LENGTHS, 0);
+    no_figures("figures and a record too few", SHEET, &texts, WORDS, SIGNALS - 1, MIKHAKUN_RECORD_COUNT, 0);
+    no_figures("figures and a record too many", SHEET, &texts, WORDS, SIGNALS + 1, MIKHAKUN_RECORD_COUNT, 0);
+    no_figures("figures and a word too few", SHEET, &texts, WORDS - 1, SIGNALS - 1, MIKHAKUN_TABLE_LENGTH, 0);
+    no_figures("figures by a torn sheet", "window=10\n", &texts, WORDS - 1, SIGNALS - 1, MIKHAKUN_SHEET_LINE, strlen("window=10\n"));
+    wrapped.lengths[0] += (uint64_t)1 << 63;
+    wrapped.lengths[1] += (uint64_t)1 << 63;
+    no_figures("figures and lengths that wrap", SHEET, &wrapped, WORDS, SIGNALS, MIKHAKUN_LENGTHS, 0);
+    no_figures("figures of 65 texts", SHEET, &many, WORDS, SIGNALS, MIKHAKUN_LENGTHS, 0);
+    Figures empty = figures(SHEET, &most, WORDS, SIGNALS);
+    same("figures of 64 texts", empty.number, 0);
+    same_record("a record of 64 texts", empty.records[0], (mikhakun_record){0, 0, 0, 640, 0, MIKHAKUN_NO_TICK});
+}
+
 /* A sheet of such a window whose rule carries a mark of a to b a tick later, or one of b back, and its empty table. */
 typedef struct {
     char text[80];
@@ -269,6 +395,9 @@ int main(void) {
     add_spans(table);
     moved_there_and_back();
     refused_moves();
+    figures_of_texts(table);
+    figures_in_order();
+    refused_figures();
     clash_is_told(table);
     free(table);
     for (size_t i = 0; i < sizeof windows / sizeof *windows; i++)

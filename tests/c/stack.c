@@ -1,6 +1,6 @@
-/* How much stack a call takes: check, add, ask and the moves run on a painted stack, on sheets whose one rule is as deep as a rule can be, in many ways.
- * What is added and moved is two equal spans. The rules that took most are tried again over the widest window, whose table is 64 times as long, and there
- * one with the most rows, with the longest texts of both forms.
+/* How much stack a call takes: check, add, ask, the moves and figures run on a painted stack, on sheets whose one rule is as deep as a rule can be, in many
+ * ways. What is added and moved is two equal spans; figures run that text once, and several times. The rules that took most are tried again over the widest
+ * window, whose table is 64 times as long, and there one with the most rows, with the longest texts of both forms.
  * Prints the most that each took, and 'N passed, M failed' at the end: a call passes if it never took more than include/mikhakun.h asks for, the rule
  * of the most rows if it has them. */
 #define _POSIX_C_SOURCE 200809L
@@ -12,7 +12,7 @@
 #include <ucontext.h>
 
 enum { ASKED = 72 * 1024, STACK = 2 * ASKED, PAINT = 0xA5, LONGEST_RULE = 256, MOST_OPEN = 32, MOST_ROWS = 1024, NARROW = 64, WIDEST = 4096,
-       LONGEST_TEXT = 32768, LONGEST_ENTRY = 40 };
+       LONGEST_TEXT = 32768, LONGEST_ENTRY = 40, SEVERAL = 3 };
 
 /* What is put around a rule's core, over and over; what the core is; and what fills the rest of the rule behind it. */
 static const struct { const char *open, *close; } NESTS[] = {
@@ -31,6 +31,9 @@ static uint8_t stack[STACK], out[LONGEST_TEXT];
 static ucontext_t outside, inside;
 static char sheet[LONGEST_RULE + 64], readings[LONGEST_TEXT + 1];
 static size_t readings_len;
+static uint8_t texts[SEVERAL * LONGEST_TEXT];
+static uint64_t lengths[SEVERAL];
+static mikhakun_record record;
 static uint64_t table[2 * MOST_ROWS * (WIDEST / 64)], words, rows, place, fresh, clash, value, length, number;
 
 static void check(void) { number = mikhakun_check((uint8_t *)sheet, strlen(sheet), &rows, &place); }
@@ -39,9 +42,22 @@ static void ask(void) { number = mikhakun_ask((uint8_t *)sheet, strlen(sheet), t
 static void to_spans(void) { number = mikhakun_to_spans((uint8_t *)sheet, strlen(sheet), (uint8_t *)readings, readings_len, out, sizeof out, &length, &place); }
 static void to_readings(void) { number = mikhakun_to_readings((uint8_t *)sheet, strlen(sheet), (uint8_t *)readings, readings_len, out, sizeof out, &length, &place); }
 
+/* Runs the readings so often as a text of their own. The table that was added to is the work table. */
+static void figures(size_t runs)
+{
+    for (size_t run = 0; run < runs; run++) {
+        memcpy(texts + run * readings_len, readings, readings_len);
+        lengths[run] = readings_len;
+    }
+    number = mikhakun_figures((uint8_t *)sheet, strlen(sheet), texts, runs * readings_len, lengths, runs, table, words, &record, 1, &place);
+}
+static void figures_of_one(void) { figures(1); }
+static void figures_of_several(void) { figures(SEVERAL); }
+
 static struct { const char *name; void (*call)(void); size_t most; int window; char rule[LONGEST_RULE + 1]; } calls[] = {
     {.name = "check", .call = check}, {.name = "add", .call = add}, {.name = "ask", .call = ask},
     {.name = "to_spans", .call = to_spans}, {.name = "to_readings", .call = to_readings},
+    {.name = "figures of a text", .call = figures_of_one}, {.name = "figures of several texts", .call = figures_of_several},
 };
 
 /* How many bytes a call takes of the stack, which is painted before it: from the top down to the last byte whose paint is gone. Paints it again. */

@@ -1,6 +1,7 @@
 /* One input of the fuzzer: a sheet, readings, a lent table and a question. It makes the calls and sees that each keeps what include/mikhakun.h
  * promises: what it may answer, what it writes and what it leaves. The first breach is told in a line and ends the program. What the moves must write is
- * made from what the readings add to a table without rules.
+ * made from what the readings add to a table without rules. The figures are those of the readings, of no text, and of the readings cut in two and whole; what
+ * they must be is counted after adds of each text to an empty table.
  *
  * The input is the sheet's bytes, a zero byte, the readings' bytes, a zero byte, and then, each a byte: the signal asked for, the tick in its word, that
  * word, by how many words the table is too long, and three for each mark of the table that is lent: its word (two bytes) and its tick there. What is
@@ -19,16 +20,17 @@
 #include "../../include/mikhakun.h"
 
 enum { PAGE = 4096, LONGEST_INPUT = 1 << 17, OFTEN_LENT = 2 * 1024 * 8, MOST_WORDS = 2 * 1024 * 64 + 255, STACK = (72 + 2) * 1024,
-       LONGEST_TEXT = 32768, LONGEST_ENTRY = 64, MOST_ROOM = LONGEST_TEXT + LONGEST_ENTRY, MOST_SIGNALS = 64, MOST_SAID = 2 * MOST_SIGNALS * 64 };
+       LONGEST_TEXT = 32768, LONGEST_ENTRY = 64, MOST_ROOM = LONGEST_TEXT + LONGEST_ENTRY, MOST_SIGNALS = 64, MOST_SAID = 2 * MOST_SIGNALS * 64,
+       MOST_TEXTS = 64, OFTEN_RUN = 1024 };
 static const uint64_t UNWRITTEN = 0x5EC02D5EC02D5EC0;
 
 /* What the fuzzer is told beside the blocks of code that were reached: which answers were given, and how large the results were. */
-enum { CHECK = 0, ADD = 30, ASK = 60, TO_SPANS = 90, TO_READINGS = 120, ROWS = 150, FRESH = 180, VALUE = 210, WRITTEN = 240, KINDS = 300 };
+enum { CHECK = 0, ADD = 30, ASK = 60, TO_SPANS = 90, TO_READINGS = 120, FIGURES = 150, ROWS = 180, FRESH = 210, VALUE = 240, WRITTEN = 270, KINDS = 330 };
 static uint8_t told[KINDS] __attribute__((section("__libfuzzer_extra_counters")));
 
 /* How many inputs there were, and in how many of them the sheet was accepted, the add, an add to a table of several words a row and value, the readings
- * (whatever the table), and readings that were spans. */
-uint64_t inputs, sheets, adds, wide_adds, texts, span_texts;
+ * (whatever the table), readings that were spans, figures of several texts, and figures of which some runs clashed and others did not. */
+uint64_t inputs, sheets, adds, wide_adds, texts, span_texts, counted, part_clashed;
 
 static void must_hold(int holds, const char *what)
 {
@@ -57,12 +59,12 @@ static void *lend(Area area, const void *from, size_t bytes, int low)
     return at;
 }
 
-static Area sheet_area, readings_area, moved_area, out_area, table_area, stack_area;
+static Area sheet_area, readings_area, moved_area, out_area, table_area, texts_area, lengths_area, records_area, stack_area;
 
 /* The input, taken apart. */
 typedef struct { const uint8_t *start; size_t len; } Text;
 static Text sheet, readings, rest;
-static int low, any_length;
+static int low, any_length, cut_anywhere, many_texts;
 static size_t some_room;
 static const uint8_t *lent_sheet, *lent_readings;
 
@@ -95,19 +97,24 @@ static int bits(uint64_t number)
 static uint64_t before[MOST_WORDS], *table;
 static size_t words;
 
-/* An accepted sheet: how many signals it has, their names, its window, and how many words a row has there for each value. */
-static uint64_t signals, window, row_words;
+/* An accepted sheet: how many signals it has, their names, their numbers in the order of a listing, its window, and how many words a row has there for each
+ * value. */
+static uint64_t signals, window, row_words, order[MOST_SIGNALS];
 static Text names[MOST_SIGNALS];
+
+/* The readings texts of figures: one behind the other, and their lengths. */
+static struct { uint8_t bytes[2 * LONGEST_INPUT]; uint64_t lengths[MOST_TEXTS + 1]; size_t len, runs; } joined;
 
 static int table_kept(void) { return memcmp(before, table, 8 * words) == 0; }
 
-/* Where a refusal may be placed: in the sheet, in the readings, or at 0. A missing line is at the text's end. */
-static int place_allowed(uint64_t number, uint64_t place)
+/* Where a refusal may be placed: in the sheet, in the readings or the joined texts, or at 0. A missing line is at the text's end. */
+static int place_allowed(int call, uint64_t number, uint64_t place)
 {
+    size_t length = call == FIGURES ? joined.len : readings.len;
     if (number == 2) return place <= sheet.len;
     if (number >= 3 && number <= 8) return place < sheet.len;
-    if (number == 11) return place <= readings.len;
-    if ((number >= 12 && number <= 14) || number == 21) return place < readings.len;
+    if (number == 11) return place <= length;
+    if ((number >= 12 && number <= 14) || number == 21 || (number == 10 && call == FIGURES)) return place < length;
     return place == 0;
 }
 
@@ -118,6 +125,7 @@ static int number_allowed(int call, uint64_t number)
     if (number <= 9) return 1;
     if (call == ADD) return of_readings || of_table;
     if (call == ASK) return of_table || number == 17;
+    if (call == FIGURES) return of_readings || number == 15 || number == 18 || number == 19;
     return (call == TO_SPANS || call == TO_READINGS) && (of_readings || number == 20);
 }
 
@@ -130,7 +138,7 @@ static void must_be_whole(int call, Answer a)
     MUST(number_allowed(call, a.number));
     told[call + a.number] = 1;
     MUST((a.number == 0) == (a.value != UNWRITTEN));
-    MUST(a.number == 0 ? a.place == UNWRITTEN : place_allowed(a.number, a.place));
+    MUST(a.number == 0 ? a.place == UNWRITTEN : place_allowed(call, a.number, a.place));
     MUST(memcmp(lent_sheet, sheet.start, sheet.len) == 0);
     MUST(memcmp(lent_readings, readings.start, readings.len) == 0);
 }
@@ -164,10 +172,33 @@ static Answer ask(uint64_t signal, uint64_t tick)
     return a;
 }
 
+/* What the lent list of records holds before a call, and that list. */
+static mikhakun_record no_records[MOST_SIGNALS + 1], *records;
+
+/* The figures of the joined texts, in a list of so many records. */
+static Answer figures(size_t record_count)
+{
+    Answer a = { 0, UNWRITTEN, UNWRITTEN, 0 };
+    const uint8_t *lent_texts = lend(texts_area, joined.bytes, joined.len, low);
+    const uint64_t *lent_lengths = lend(lengths_area, joined.lengths, 8 * joined.runs, low);
+    size_t bytes = record_count * sizeof *records;
+    records = lend(records_area, no_records, bytes, low);
+    memcpy(before, table, 8 * words);
+    a.number = mikhakun_figures(lent_sheet, sheet.len, lent_texts, joined.len, lent_lengths, joined.runs, table, words, records, record_count, &a.place);
+    if (record_count != 0) a.value = records[record_count - 1].signal;
+    must_be_whole(FIGURES, a);
+    MUST(a.number == 0 || (table_kept() && memcmp(records, no_records, bytes) == 0));
+    MUST(memcmp(lent_texts, joined.bytes, joined.len) == 0);
+    MUST(memcmp(lent_lengths, joined.lengths, 8 * joined.runs) == 0);
+    return a;
+}
+
 /* The forms of readings, each with the move to it. */
 enum { SPANS, SINGLE, FORMS };
 typedef uint64_t Move(const uint8_t *, size_t, const uint8_t *, size_t, uint8_t *, size_t, uint64_t *, uint64_t *);
 static Move *const to_form[FORMS] = { mikhakun_to_spans, mikhakun_to_readings };
+
+static int form_of_readings(void) { return readings.len > 0 && readings.start[0] == 'f' ? SPANS : SINGLE; }
 
 /* What the lent buffer holds before a move: bytes that no text has. */
 static uint8_t unwritten[MOST_ROOM], *out;
@@ -285,15 +316,34 @@ static void read_numbers(void)
     MUST(signals >= 1 && signals <= MOST_SIGNALS);
     row_words = window / 64 + (window % 64 != 0);
     MUST(window >= 1 && window <= 4096);
-    MUST(mikhakun_window(lent_sheet) == window);
+    MUST(mikhakun_window(lent_sheet) == window && mikhakun_signals(lent_sheet) == signals);
+}
+
+/* How many bytes of a name stand before the digits at its end. */
+static size_t stem(Text name)
+{
+    size_t bytes = name.len;
+    while (bytes > 0 && name.start[bytes - 1] >= '0' && name.start[bytes - 1] <= '9') bytes--;
+    return bytes;
 }
 
 /* Whether the digits at the end of a name are none, 0 alone, or a number up to 9,999 without a leading zero. */
-static int end_number_allowed(const uint8_t *name, const uint8_t *end)
+static int end_number_allowed(Text name)
 {
-    const uint8_t *first = end;
-    while (first > name && first[-1] >= '0' && first[-1] <= '9') first--;
-    return end - first <= 1 || (end - first <= 4 && *first != '0');
+    size_t digits = name.len - stem(name);
+    return digits <= 1 || (digits <= 4 && name.start[stem(name)] != '0');
+}
+
+/* The order of two signals in a listing: by the bytes before the digits, then by these as a number, which is the smaller the fewer they are. */
+static int in_order(const void *one, const void *other)
+{
+    Text a = names[*(const uint64_t *)one], b = names[*(const uint64_t *)other];
+    size_t stem_a = stem(a), stem_b = stem(b);
+    int bytes = memcmp(a.start, b.start, stem_a < stem_b ? stem_a : stem_b);
+    if (bytes != 0) return bytes;
+    if (stem_a != stem_b) return stem_a < stem_b ? -1 : 1;
+    if (a.len != b.len) return a.len < b.len ? -1 : 1;
+    return memcmp(a.start, b.start, a.len);
 }
 
 /* Takes the names that an accepted sheet declares. Its lines end in LF, and its names in such digits. */
@@ -306,12 +356,16 @@ static void read_names(void)
         const uint8_t *lf = memchr(line, '\n', (size_t)(end - line)), *name = line + strlen(key);
         MUST(lf != NULL);
         if ((size_t)(lf - line) >= strlen(key) && memcmp(line, key, strlen(key)) == 0) {
-            MUST(count < signals && end_number_allowed(name, lf));
-            names[count++] = (Text){ name, (size_t)(lf - name) };
+            MUST(count < signals);
+            names[count] = (Text){ name, (size_t)(lf - name) };
+            MUST(end_number_allowed(names[count]));
+            order[count] = count;
+            count++;
         }
         line = lf + 1;
     }
     MUST(count == signals);
+    qsort(order, signals, sizeof *order, in_order);
 }
 
 /* Adds a text to the empty table of the sheet without its rules: that has then the marks that the text says, and no others. */
@@ -404,7 +458,7 @@ static Answer must_be_moved(void)
         must_not_move(a.number, a.place);
         return a;
     }
-    int form = readings.len > 0 && readings.start[0] == 'f' ? SPANS : SINGLE;
+    int form = form_of_readings();
     texts++;
     span_texts += form == SPANS;
     for (int to = 0; to < FORMS; to++) want(to);
@@ -415,12 +469,141 @@ static Answer must_be_moved(void)
     return a;
 }
 
+static void join_none(void) { joined.len = joined.runs = 0; }
+
+static void join(Text text)
+{
+    memcpy(joined.bytes + joined.len, text.start, text.len);
+    joined.len += text.len;
+    joined.lengths[joined.runs++] = text.len;
+}
+
+/* Where the readings are cut in two: after so many entries as the tick asked for says, or at such a byte. */
+static size_t cut(void)
+{
+    size_t at = 0, lines = tick_asked() % 64 * (form_of_readings() == SPANS ? 4 : 3);
+    if (cut_anywhere) return tick_asked() % (readings.len + 1);
+    for (; lines > 0 && at < readings.len; lines--) {
+        const uint8_t *lf = memchr(readings.start + at, '\n', readings.len - at);
+        at = lf == NULL ? readings.len : (size_t)(lf - readings.start) + 1;
+    }
+    return at;
+}
+
+/* Joins the readings up to the cut, nothing, the readings from there on, and all of them; for some inputs empty texts too, up to 64 in all or one too many. */
+static void join_several(void)
+{
+    size_t middle = cut();
+    join_none();
+    join((Text){ readings.start, middle });
+    join((Text){ readings.start, 0 });
+    join((Text){ readings.start + middle, readings.len - middle });
+    join(readings);
+    while (many_texts && joined.runs < MOST_TEXTS + 1 - (size_t)low) join((Text){ readings.start, 0 });
+}
+
+/* What figures must write, and the table that they must leave. */
+static mikhakun_record wanted_records[MOST_SIGNALS];
+static uint64_t last_table[MOST_WORDS];
+
+/* Counts in a record what the table of a run says. */
+static void count_run(mikhakun_record *record, uint64_t clash)
+{
+    const uint64_t *holds = last_table + 2 * record->signal * row_words, *fails = holds + row_words;
+    uint64_t held = marks(holds, row_words), failed = marks(fails, row_words), first = next_tick(holds, 0, 1), other = next_tick(fails, 0, 1);
+    if (clash) {
+        record->clashed += window;
+        return;
+    }
+    record->held += held;
+    record->failed += failed;
+    record->unsettled += window - held - failed;
+    if (other < first) first = other;
+    if (first < window && first < record->first) record->first = first;
+}
+
+/* Makes what figures must write and leave, or answers how they must be refused. */
+static Answer want_figures(void)
+{
+    Answer a = { 0, 0, 0, 0 };
+    size_t start = 0;
+    if (joined.runs > MOST_TEXTS) return (Answer){ 19, 0, 0, 0 };
+    for (size_t at = 0; at < signals; at++) wanted_records[at] = (mikhakun_record){ .signal = order[at], .first = MIKHAKUN_NO_TICK };
+    memset(last_table, 0, 8 * words);
+    for (size_t run = 0; run < joined.runs; start += joined.lengths[run++]) {
+        memset(last_table, 0, 8 * words);
+        a.number = mikhakun_add(lent_sheet, sheet.len, joined.bytes + start, joined.lengths[run], last_table, words, &a.value, &a.clash, &a.place);
+        if (a.number != 0) return (Answer){ a.number, start + a.place, 0, 0 };
+        for (size_t at = 0; at < signals; at++) count_run(&wanted_records[at], a.clash);
+    }
+    return a;
+}
+
+/* The figures of the joined texts are those wanted, and the four counts add up; or they are refused as wanted. Answers the number. */
+static uint64_t must_have_figures(void)
+{
+    Answer wanted = want_figures(), a = figures(signals);
+    MUST(a.number == wanted.number);
+    if (a.number != 0) {
+        MUST(a.place == wanted.place);
+        return a.number;
+    }
+    for (size_t at = 0; at < signals; at++)
+        MUST(records[at].held + records[at].failed + records[at].unsettled + records[at].clashed == window * joined.runs);
+    MUST(memcmp(records, wanted_records, signals * sizeof *records) == 0);
+    MUST(memcmp(table, last_table, 8 * words) == 0);
+    return 0;
+}
+
+/* Whatever the texts, a list of another length is refused, and lengths whose sum is only right if it wraps. */
+static void must_fit(void)
+{
+    const uint64_t half = (uint64_t)1 << 63;
+    joined.lengths[0] += half;
+    joined.lengths[1] += half;
+    MUST(figures(signals).number == 19);
+    MUST(figures(low ? signals - 1 : signals + 1).number == 18);
+    joined.lengths[0] -= half;
+    joined.lengths[1] -= half;
+}
+
+/* The figures of several texts, which count for what is told at the end. */
+static void several_must_be_counted(void)
+{
+    must_fit();
+    if (must_have_figures() != 0) return;
+    counted++;
+    part_clashed += records[0].clashed != 0 && records[0].clashed < window * joined.runs;
+}
+
+/* The figures of several texts, of the readings, where the table is what add leaves and ask tells, and of none. The marks of the lent table are ignored. Many
+ * texts are run over short tables only. */
+static void must_be_counted(size_t length)
+{
+    lend_table(length);
+    if (!many_texts || length <= OFTEN_RUN) several_must_be_counted();
+    lend_table(length);
+    join_none();
+    join(readings);
+    if (must_have_figures() == 0) must_be_told();
+    join_none();
+    MUST(must_have_figures() == 0);
+}
+
+/* A refused sheet, or a table of a wrong length: figures give that refusal, whatever the list. */
+static void must_not_be_counted(uint64_t number, uint64_t place)
+{
+    Answer a = figures(some_room);
+    MUST(a.number == number && a.place == place);
+}
+
 /* A table of another length than the sheet's is refused. */
 static void must_have_length(size_t lent, size_t length)
 {
     if (lent == length) return;
     lend_table(lent);
     must_be_refused(15, 0);
+    must_not_be_counted(15, 0);
 }
 
 static void accepted_sheet(uint64_t rows)
@@ -436,6 +619,7 @@ static void accepted_sheet(uint64_t rows)
     if (length > OFTEN_LENT && !any_length) return;
     must_have_length(length + too_long, length);
     must_have_length(2 * rows, length);
+    must_be_counted(length);
     lend_table(length);
     if (marked_outside()) {
         must_be_refused(16, 0);
@@ -455,11 +639,13 @@ static ucontext_t outside, inside;
 static void calls(void)
 {
     Answer checked = check();
+    join_several();
     if (checked.number == 0) {
         accepted_sheet(checked.value);
     } else {
         lend_table(number_at(3) % OFTEN_LENT);
         must_be_refused(checked.number, checked.place);
+        must_not_be_counted(checked.number, checked.place);
         must_not_move(checked.number, checked.place);
     }
 }
@@ -474,6 +660,11 @@ int LLVMFuzzerTestOneInput(const uint8_t *data, size_t size)
         out_area = area(MOST_ROOM);
         memset(unwritten, 0xA5, sizeof unwritten);
         table_area = area(8 * MOST_WORDS);
+        texts_area = area(2 * LONGEST_INPUT);
+        lengths_area = area(8 * (MOST_TEXTS + 1));
+        records_area = area(sizeof no_records);
+        for (size_t at = 0; at <= MOST_SIGNALS; at++)
+            no_records[at] = (mikhakun_record){ UNWRITTEN, UNWRITTEN, UNWRITTEN, UNWRITTEN, UNWRITTEN, UNWRITTEN };
         stack_area = area(STACK);
     }
     inputs++;
@@ -482,6 +673,8 @@ int LLVMFuzzerTestOneInput(const uint8_t *data, size_t size)
     readings = part(&rest);
     low = size % 2;
     any_length = size / 2 % 32 == 0;
+    cut_anywhere = size / 2 % 4 == 2;
+    many_texts = size / 2 % 16 == 1;
     some_room = size % LONGEST_ENTRY;
     lent_sheet = lend(sheet_area, sheet.start, sheet.len, low);
     lent_readings = lend(readings_area, readings.start, readings.len, low);

@@ -14,7 +14,7 @@
 
 int LLVMFuzzerTestOneInput(const uint8_t *data, size_t size);
 size_t LLVMFuzzerCustomMutator(uint8_t *data, size_t size, size_t most, unsigned seed);
-extern uint64_t inputs, sheets, adds, wide_adds, texts, span_texts;
+extern uint64_t inputs, sheets, adds, wide_adds, texts, span_texts, counted, part_clashed;
 
 enum { LONGEST = 80000, HANGS_AFTER = 5 };
 static uint8_t input[LONGEST];
@@ -102,4 +102,5 @@ int main(int count, char **words)
     }
     printf("inputs: %lu, with an accepted sheet: %lu, with an accepted add: %lu, of these over 64 ticks: %lu\n", inputs, sheets, adds, wide_adds);
     printf("with accepted readings, moved both ways: %lu, of these spans: %lu\n", texts, span_texts);
+    printf("with accepted figures of several texts: %lu, of these with some clashing: %lu\n", counted, part_clashed);
 }

@@ -4,11 +4,15 @@ use mathlib.Core.Path.{_≡_}
 use mathlib.Core.Bool.{Bool, true, false}
 use mathlib.Core.List.{List, [], _∷_}
 use Prim.Native.Nat.{ℕ}
+use lib.ListN.{length}
 use Rattle.spec_tilco.specs.Table.{Answer, Unsettled, True, False, Contradiction}
 use Rattle.open_sheet.specs.Results.{Result, accepted, refused}
 use Rattle.spec_operations.specs.Gain.{Gain, gain}
 use Rattle.spec_operations.specs.Operations.{checked, Adds, Asks}
 use Rattle.spec_moves.specs.Moves.{Moves}
+use Rattle.spec_figures.specs.declared.Record.{Record}
+use Rattle.spec_figures.specs.Figures.{Figures}
+use Rattle.op_figures.specs.Reports.{recordsAfter}
 
 -- The number answered, what stands at `place`, and what stands at the other places, in the order of the parameters.
 pub data Left : Type 0 where
@@ -50,3 +54,11 @@ AskLeaves s T signal tick place before l = (x : Result Answer) × Asks s T signa
 -- A call of a move, to spans or back to single readings: O is the buffer before, O′ after.
 abbrev pub MoveLeaves : Bool → List ℕ → List ℕ → List ℕ → List ℕ → ℕ → List ℕ → Left → Type 0
 MoveLeaves spans s r O O′ place before l = (x : Result ℕ) × Moves spans s r O O′ x × (l ≡ leaves oneValue place before x)
+
+-- What figures writes besides the records: nothing.
+abbrev pub noValues : List Record → List ℕ
+noValues rs = []
+
+-- A call of figures: X are the records before, X′ after.
+abbrev pub FigureLeaves : List ℕ → List ℕ → List ℕ → List ℕ → List ℕ → List Record → List Record → ℕ → Left → Type 0
+FigureLeaves s j ns T U X X′ place l = (x : Result (List Record)) × Figures s j ns T U (length X) x × (X′ ≡ recordsAfter X x) × (l ≡ leaves noValues place [] x)

@@ -6,16 +6,22 @@ use op_ask::Asking;
 use op_ask::ask;
 use op_check::Checking;
 use op_check::check;
+use op_figures::figures;
 use op_moves::moves::Moving;
 use op_moves::moves::to_readings;
 use op_moves::moves::to_spans;
+use read_readings::whole::Outcome;
+use spec_figures::Record;
 use table_marks::Value;
 ghost use mathlib.Core.Path.{_≡_};
 ghost use mathlib.Core.Bool.{true, false};
-ghost use mathlib.Core.List.{[], _∷_};
+ghost use mathlib.Core.List.{List, [], _∷_};
+ghost use Rattle.open_sheet.specs.Results.{Result};
+ghost use Rattle.spec_figures.specs.declared.Record.{Record};
+ghost use Rattle.figure_runs.specs.FigureWords.{outcomeOf};
 ghost use Rattle.table_marks.specs.Values.{valueSays};
 ghost use Rattle.op_moves.specs.MovingSays.{movingSays};
-ghost use Rattle.c_api.specs.Leaves.{left, leaves, oneValue, answerValues, CheckLeaves, AddLeaves, AskLeaves, MoveLeaves};
+ghost use Rattle.c_api.specs.Leaves.{left, leaves, oneValue, answerValues, CheckLeaves, AddLeaves, AskLeaves, MoveLeaves, noValues, FigureLeaves};
 
 // Checks the sheet: 0 and the row count, or a refusal's number and its place.
 #[no_mangle]
@@ -142,4 +148,33 @@ pub extern "C" fn mikhakun_to_readings(
 {
     let m = to_readings(sheet, readings, out);
     tell_move(m, length, place)
+}
+
+// Tells an outcome: 0, or a refusal's number and its place.
+fn tell_outcome(o: Outcome, place: &mut u64) -> u64
+    ensures { λ r. ⌜ ((x : Result (List Record)) → o ≡ outcomeOf x → left r (now (place .exit)) [] ≡ leaves noValues (now (place .entry)) [] x) ⌝ }
+{
+    match o {
+        Outcome::Accepted => 0,
+        Outcome::Refused(n, p) => {
+            *place = p as u64;
+            n as u64
+        }
+    }
+}
+
+// Runs the texts against the sheet, and fills a record for each signal: 0, or a refusal's number and its place.
+#[no_mangle]
+pub extern "C" fn mikhakun_figures(
+    sheet: &[u8],
+    texts: &[u8],
+    lengths: &[u64],
+    work: &mut [u64],
+    records: &mut [Record],
+    place: &mut u64,
+) -> u64
+    ensures { λ r. ⌜ FigureLeaves (now (sheet .entry)) (now (texts .entry)) (now (lengths .entry)) (now (work .entry)) (now (work .exit)) (now (records .entry)) (now (records .exit)) (now (place .entry)) (left r (now (place .exit)) []) ⌝ }
+{
+    let o = figures(sheet, texts, lengths, work, records);
+    tell_outcome(o, place)
 }

@@ -12,14 +12,12 @@ use Rattle.spec_limits.specs.Limits.{mostListed, mostSignals, mostTicks}
 use Rattle.read_names.specs.Spellings.{namesAt}
 use Rattle.read_names.proofs.Names.{names-many}
 use Rattle.spec_tilco.specs.Lists.{All}
-use Rattle.spec_tilco.proofs.Lists.{all-weaker}
 use Rattle.spec_tilco.specs.Inference.{Clash}
 use Rattle.spec_tilco.specs.Lowering.{rowCount}
 use Rattle.spec_tilco.specs.Table.{words, Stands, Standing, tableWords, facts, factsOf, Answer}
 use Rattle.spec_tilco.proofs.Order.{row-count}
 use Rattle.read_sheet.specs.Sheet.{Contents, meant}
 use Rattle.read_sheet.proofs.Wholes.{sheet-head}
-use Rattle.read_head.proofs.Heads.{head-past}
 use Rattle.read_head.proofs.DeclaredNames.{head-names}
 use Rattle.write_bytes.specs.Writes.{Wrote, Counted}
 use Rattle.op_add.specs.declared.Adding.{Adding}
@@ -31,7 +29,7 @@ use Rattle.open_sheet.specs.SheetIn.{sheetIn, namesIn}
 use Rattle.open_sheet.specs.OpenedSheet.{OpenedSheet}
 use Rattle.spec_operations.specs.Operations.{Adds}
 use Rattle.spec_operations.specs.Operations.Adds.{not-opened, not-read, added}
-use Rattle.open_table.proofs.Tables.{accepted-one, InSheet, in-sheet, RowWords, row-words, table-most}
+use Rattle.open_table.proofs.Tables.{accepted-one, InSheet, in-sheet, names-stand, RowWords, row-words, table-most}
 use Rattle.spec_operations.proofs.Opened.{fitting}
 use Rattle.list_signals.specs.Signals.{Listable, Answers}
 use Rattle.list_table.specs.Listing.{listingText, refusalText}
@@ -112,9 +110,7 @@ module _ {s places : List ℕ} {w count : ℕ} (b : Begun s places w count) wher
 
   -- The names stand in the text, and are at most 64.
   pub named : All (λ p. p ≤ length s) places
-  named =
-      let h = head-past s (sheet-head s (known .reads) .2) in
-      subst (All (λ p. p ≤ length s)) (sym (b .names-are)) (all-weaker (λ p. p ≤ _) (λ p. p ≤ length s) (λ p l. omega (arith, h .inside)) (k .places) (h .before))
+  named = subst (All (λ p. p ≤ length s)) (sym (b .names-are)) (names-stand s (b .holds))
 
   pub few : length places ≤ mostSignals
   few = omega (arith, ap length (b .names-are), known .sizes .signals-high)

@@ -73,7 +73,7 @@ module _ {s T places B tops : List ℕ} {w t count : ℕ} (h : OpenedTable s T p
     )
 
     module _ (U : List ℕ) (z : ClosesWithTops count B tops t w n T₁ U) where
-      made : Added (meant c) T (a .marks) U
+      pub made : Added (meant c) T (a .marks) U
       made =
           let y = to-contents h n e (λ p v m. ClosesWithTops count B tops t v m T₁ U) z (program (meant c)) (k .codes) (k .tops-are) in
           let x = to-contents h n e (λ p v m. Puts m (a .marks) T T₁) (a .puts) in

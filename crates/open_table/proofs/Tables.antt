@@ -14,14 +14,16 @@ use Rattle.spec_limits.specs.Limits.{mostTicks, mostHidden, mostRows}
 use Rattle.read_bytes.specs.Read.{Read}
 use Rattle.read_bytes.specs.Read.Read.{got, refused as unread}
 use Rattle.read_bytes.specs.Bytes.{pick}
-use Rattle.spec_tilco.specs.Lists.{total}
+use Rattle.spec_tilco.specs.Lists.{All, total}
+use Rattle.spec_tilco.proofs.Lists.{all-weaker}
 use Rattle.spec_tilco.specs.Formula.{hiddens}
 use Rattle.spec_tilco.specs.Lowering.{rowCount}
 use Rattle.spec_tilco.specs.Table.{words, Stands, tableWords, Inside}
 use Rattle.table_marks.specs.Sizes.{mostWords, mostTableWords}
 use Rattle.read_sheet.specs.Sheet.{Contents, sheetOf, meant}
 use Rattle.read_head.specs.SheetHead.{firstPlaces, NamesPut, Sizes}
-use Rattle.read_sheet.proofs.Wholes.{sheet-sizes}
+use Rattle.read_head.proofs.Heads.{head-past}
+use Rattle.read_sheet.proofs.Wholes.{sheet-head, sheet-sizes}
 use Rattle.open_sheet.specs.declared.Opening.{Opening}
 use Rattle.open_sheet.specs.declared.Opening.the-variants as opening
 use Rattle.open_sheet.specs.Results.{accepted, refused}
@@ -72,6 +74,12 @@ module _ (s : List ℕ) {k : Contents} where
   pub in-sheet : sheetIn s ≡ accepted k → InSheet s k
   unfolding sheetIn
   in-sheet e = of-read (sheetOf s) refl e
+
+-- Its names stand in the text.
+pub names-stand : (s : List ℕ) {k : Contents} → sheetIn s ≡ accepted k → All (λ p. p ≤ length s) (k .places)
+names-stand s {k} e =
+    let h = head-past s (sheet-head s (in-sheet s e .reads) .2) in
+    all-weaker (λ p. p ≤ _) (λ p. p ≤ length s) (λ p l. omega (arith, h .inside)) (k .places) (h .before)
 
 -- ---- the sheet's answer, case by case
 

@@ -1,8 +1,17 @@
-// Runs check, add, ask and the moves on a table of cases and prints each case with its answer. Assumes nothing of the cases, which are on standard input.
+// Runs check, add, ask, the moves and figures on a table of cases and prints each case with its answer. Assumes nothing of the cases, which are on standard input.
 // A heading says what is run, then what it shows: `=== sheet` with the sheet for what follows; `=== table N` with the table for what follows,
 // of N words, all 0 but those of its lines `I W`; `=== check`; `=== add` with the readings; `=== ask X T`; `=== spans N` and `=== singles N` with the
 // readings, moved into a buffer of N bytes that is full of dots. `--- then` has the buffer's first byte that was not written, if there is one.
+// `=== figures M N ..:` with the joined readings texts, of N bytes each, for M records; the table is the work table.
+mod figures;
+mod numbers;
+mod words;
+
+use figures::run_figures;
 use libc::STDIN_FILENO;
+use numbers::decimal_at;
+use numbers::next_word;
+use numbers::word_after;
 use op_add::Adding;
 use op_add::add;
 use op_ask::Asking;
@@ -12,9 +21,7 @@ use op_check::check;
 use op_moves::moves::Moving;
 use op_moves::moves::to_readings;
 use op_moves::moves::to_spans;
-use read_bytes::bytes::byte_at;
 use read_bytes::bytes::starts_at;
-use read_names::spelling_end;
 use run_cases::heading;
 use run_cases::next_line;
 use run_cases::print;
@@ -23,6 +30,7 @@ use run_cases::print_refusal;
 use run_cases::text_under;
 use spec_limits::LISTED_WORDS;
 use table_marks::Value;
+use words::print_words;
 ghost use mathlib.Core.Path.{_≡_};
 ghost use Prim.Native.Nat.{_<_, _≤_};
 ghost use lib.ListN.{length};
@@ -40,39 +48,6 @@ const WHOLE: usize = 32000;
 
 // So many bytes are printed of a longer one, its last.
 const END: usize = 100;
-
-// The number with one more decimal digit, as long as it stays below 2^64; a byte that is no digit changes nothing.
-fn with_digit(v: u64, b: u8) -> u64 {
-    match b {
-        b'0'..=b'9' => {
-            if v <= 1844674407370955161 {
-                std::num::wrapping_add_u64(10 * v, b as u64 - 48)
-            } else {
-                v
-            }
-        }
-        _ => v,
-    }
-}
-
-// The number that the word at `at` spells in decimal digits.
-fn decimal_at(cases: &[u8], at: usize) -> u64 {
-    let end = spelling_end(cases, at);
-    let mut v = 0;
-    let mut p = at;
-    while p < end {
-        let b = byte_at(cases, p);
-        v = with_digit(v, b);
-        p += 1;
-    }
-    v
-}
-
-// The place of the word after the one at `at`.
-fn next_word(cases: &[u8], at: usize) -> usize {
-    let e = spelling_end(cases, at);
-    if e < cases.len() { e + 1 } else { e }
-}
 
 // Sets a word of the table as the line at `at` says, where there is such a word.
 fn set_word(cases: &[u8], at: usize, words: &mut [u64]) {
@@ -105,19 +80,6 @@ fn length_at(cases: &[u8], at: usize) -> usize
     let second = next_word(cases, at);
     let n = decimal_at(cases, second) as usize;
     if n < LISTED_WORDS { n } else { LISTED_WORDS }
-}
-
-// Prints each word that is not 0.
-fn print_words(words: &[u64]) {
-    let mut i = 0;
-    while i < words.len() {
-        let w = words[i];
-        if w != 0 {
-            print_number(b"--- word ", i as u64, b" ");
-            print_number(b"", w, b"\n");
-        }
-        i += 1;
-    }
 }
 
 // Checks the sheet.
@@ -173,17 +135,6 @@ fn dots() -> [u8; ROOM]
     ensures { λ r. ⌜ 65536 ≡ length r ⌝ }
 {
     [b'.'; ROOM]
-}
-
-// The place of the word after the one at `at` and its `-`, or its `*` and a number, if it has one.
-fn word_after(cases: &[u8], at: usize) -> usize {
-    let option = spelling_end(cases, at);
-    let second = next_word(cases, at);
-    if byte_at(cases, option) == b' ' {
-        second
-    } else {
-        next_word(cases, second)
-    }
 }
 
 // The room that the heading at `at` names, at most that of the largest buffer.
@@ -270,6 +221,8 @@ fn run_operation(cases: &[u8], above: usize, at: usize, words: &mut [u64], used:
         run_moves(true, s, cases, at);
     } else if starts_at(cases, at, b"=== singles") {
         run_moves(false, s, cases, at);
+    } else if starts_at(cases, at, b"=== figures") {
+        run_figures(s, cases, at, &mut words[..used]);
     }
 }
 

@@ -52,6 +52,10 @@ mostRows = 1024
 abbrev pub mostListedWords : ℕ
 mostListedWords = 8192
 
+-- "Up to 64 readings texts run against one sheet" (E1).
+abbrev pub mostRuns : ℕ
+mostRuns = 64
+
 -- ---- our own
 
 -- A rule's formula has at most a node for each of its bytes, of four numbers each.

@@ -36,6 +36,9 @@ pub const ROWS: usize = 1024;
 // mostListedWords: of a table that is listed.
 pub const LISTED_WORDS: usize = 8192;
 
+// mostRuns: of readings texts that are run against one sheet.
+pub const RUNS: usize = 64;
+
 // arenaNumbers
 pub const ARENA: usize = 4 * RULE_BYTES;
 

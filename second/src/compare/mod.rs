@@ -1,5 +1,6 @@
-//! The comparison: every call of every case is made on both sides; answers, outputs, tables and written texts must be the same.
+//! The comparison: every call of every case is made on both sides; answers, outputs, tables, written texts and records must be the same.
 
+mod figures;
 mod moves;
 mod parts;
 
@@ -61,6 +62,9 @@ fn compare(case: &Case, seen: &mut Seen) -> Result<(), String> {
     }
     for call in &case.moves {
         moves::compare(&case.sheet, call, &mut met)?;
+    }
+    for call in &case.figures {
+        figures::compare(&case.sheet, call, &mut met)?;
     }
     seen.count(met);
     Ok(())

@@ -4,6 +4,7 @@ mod borders;
 mod damage;
 mod draft;
 mod faults;
+pub mod figures;
 mod formula;
 mod full;
 mod limit_formula;
@@ -21,6 +22,7 @@ mod windows;
 
 use crate::operations::read;
 use crate::text::name::{self, Name};
+use figures::Figures;
 use moves::Move;
 use random::Random;
 
@@ -43,6 +45,8 @@ pub struct Case {
     pub calls: Vec<Call>,
     /// Calls that take no table.
     pub moves: Vec<Move>,
+    /// Calls with a work table of their own.
+    pub figures: Vec<Figures>,
 }
 
 /// What the rest of a case needs to know of its sheet; of a refused sheet it is made up.
@@ -66,11 +70,14 @@ pub fn case(seed: u64, number: u64) -> Case {
     let calls = calls(&mut random, &shape);
     let moves = (0..random.below(3)).map(|_| moves::any(&mut random, &shape));
     let moves = moves.collect();
+    let figures = (0..random.below(3)).map(|_| figures::any(&mut random, &shape));
+    let figures = figures.collect();
     Case {
         sheet,
         table,
         calls,
         moves,
+        figures,
     }
 }
 
@@ -84,6 +91,7 @@ fn full_case(random: &mut Random) -> Case {
         table: vec![],
         calls: vec![],
         moves,
+        figures: vec![figures::any(random, &shape)],
     }
 }
 

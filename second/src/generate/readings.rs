@@ -19,6 +19,30 @@ pub fn faulty(random: &mut Random, window: usize, names: &[String]) -> Vec<u8> {
     Texts::any(random, window, names).text(random, &weights)
 }
 
+/// The same without a fault; now and then with as many entries as fit.
+pub fn whole(random: &mut Random, window: usize, names: &[String]) -> Vec<u8> {
+    let weights = [97, 0, 0, 0, 3, 0, 0];
+    Texts::any(random, window, names).text(random, &weights)
+}
+
+/// The same with a fault, most often; more of them spans, which can be wrong in more ways.
+pub fn wrong(random: &mut Random, window: usize, names: &[String]) -> Vec<u8> {
+    let weights = [0, 74, 8, 6, 0, 8, 4];
+    let form = random.pick(&[Form::Readings, Form::Spans, Form::Spans]);
+    let texts = Texts {
+        form,
+        window,
+        names,
+    };
+    texts.text(random, &weights)
+}
+
+/// The same at its longest, or too long.
+pub fn longest(random: &mut Random, window: usize, names: &[String]) -> Vec<u8> {
+    let weights = [0, 0, 0, 1, 0, 0, 0];
+    Texts::any(random, window, names).text(random, &weights)
+}
+
 /// Texts of a form for a window and names.
 struct Texts<'a> {
     form: Form,

@@ -18,7 +18,7 @@ pub fn table(random: &mut Random, shape: &Shape) -> Vec<u64> {
             some_marks(random, &mut table, rows, window);
             mark_outside(random, &mut table, rows, window);
         }
-        _ => wrong_length(random, &mut table, rows),
+        _ => resize(random, &mut table, rows),
     }
     table
 }
@@ -54,19 +54,23 @@ fn mark_outside(random: &mut Random, table: &mut [u64], rows: usize, window: usi
     table[place] |= 1 << random.pick(&[first, any_tick, WORD - 1]);
 }
 
-/// Another length, also the one of a window of one word, of a word less or of a word more; now and then with marks as well.
-fn wrong_length(random: &mut Random, table: &mut Vec<u64>, rows: usize) {
-    let words = table.len();
-    let near = [words - 2, words - 1, words + 1, words + 2];
-    let far = [0, 1, words / 2, 2 * words, 2048];
-    let of_other_windows = [2 * rows, words - 2 * rows, words + 2 * rows];
-    let length = match random.weighted(&[40, 30, 30]) {
-        0 => random.pick(&near),
-        1 => random.pick(&far),
-        _ => random.pick(&of_other_windows),
-    };
+/// A wrong length; now and then with marks as well.
+fn resize(random: &mut Random, table: &mut Vec<u64>, rows: usize) {
+    let length = wrong_length(random, table.len(), rows);
     table.resize(length, 0);
     if length > 0 && random.chance(30) {
         table[random.below(length)] = random.next();
+    }
+}
+
+/// Another length than this, also the one of a window of one word, of a word less or of a word more.
+pub fn wrong_length(random: &mut Random, words: usize, rows: usize) -> usize {
+    let near = [words - 2, words - 1, words + 1, words + 2];
+    let far = [0, 1, words / 2, 2 * words, 2048];
+    let of_other_windows = [2 * rows, words - 2 * rows, words + 2 * rows];
+    match random.weighted(&[40, 30, 30]) {
+        0 => random.pick(&near),
+        1 => random.pick(&far),
+        _ => random.pick(&of_other_windows),
     }
 }

@@ -1,8 +1,9 @@
-//! Unit tests: the proved cases, the refusal table, names, the lowering, the closing, tables of several words, spans, the moves and the
-//! generator; and how they write texts.
+//! Unit tests: the proved cases, the refusal table, names, the lowering, the closing, tables of several words, spans, the moves, figures
+//! and the generator; and how they write texts.
 
 mod borders;
 mod closing;
+mod figures;
 mod generator;
 mod listed;
 mod lowering;

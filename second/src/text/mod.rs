@@ -14,6 +14,14 @@ pub struct Refusal {
     pub place: u64,
 }
 
+impl Refusal {
+    /// The same in a longer text, where so many bytes come before.
+    pub fn after(self, bytes: usize) -> Self {
+        let place = self.place + bytes as u64;
+        Refusal { place, ..self }
+    }
+}
+
 /// Stops with the refusal of this number at this place.
 pub fn refuse<T>(number: u64, place: usize) -> Result<T, Refusal> {
     let place = place as u64;

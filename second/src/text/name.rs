@@ -74,6 +74,13 @@ pub fn find(bytes: &[u8], names: &[Name]) -> Option<usize> {
     names.iter().position(|declared| *declared == name)
 }
 
+/// The places of names in their order.
+pub fn in_order(names: &[Name]) -> Vec<usize> {
+    let mut places: Vec<usize> = (0..names.len()).collect();
+    places.sort_by_key(|&place| &names[place]);
+    places
+}
+
 /// The bytes that were read: no other writing gives the same number.
 impl fmt::Display for Name {
     fn fmt(&self, to: &mut fmt::Formatter) -> fmt::Result {

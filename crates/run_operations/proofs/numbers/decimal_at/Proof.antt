@@ -1,8 +1,8 @@
 -- `decimal_at` is safe and ends. The invariant: no digit is read twice. Assumes nothing.
 use borrow.Author.Needs.{needs}
 use Prim.Native.Nat.{_-_, _≤_}
-use Rattle.run_operations.proofs.decimal_at.Statement.{statement}
-use Rattle.run_operations.proofs.decimal_at.Tie as tie
+use Rattle.run_operations.proofs.numbers.decimal_at.Statement.{statement}
+use Rattle.run_operations.proofs.numbers.decimal_at.Tie as tie
 
 abbrev Inv-loop : tie.InvT-loop
 Inv-loop cases at end v₀ p₀ v p = at ≤ p

@@ -2,8 +2,8 @@
 use borrow.Author.Needs.{needs}
 use Prim.Native.Nat.{_-_, _≤_}
 use lib.ListN.{length}
-use Rattle.run_operations.proofs.print_words.Statement.{statement}
-use Rattle.run_operations.proofs.print_words.Tie as tie
+use Rattle.run_operations.proofs.words.print_words.Statement.{statement}
+use Rattle.run_operations.proofs.words.print_words.Tie as tie
 
 abbrev Inv-loop : tie.InvT-loop
 Inv-loop words i₀ t4 t5 t6 t7 i = i ≤ length words

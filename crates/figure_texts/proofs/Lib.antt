@@ -1,0 +1,5 @@
+-- The laws.
+pub mod Cutting
+pub mod Keeping
+pub mod OneText
+pub mod Sums
