@@ -2,7 +2,7 @@
 -- Assumes nothing.
 use mathlib.Core.Path.{_≡_, refl, sym, subst}
 use mathlib.Core.Bool.{Bool, true, false}
-use mathlib.Core.List.{List}
+use mathlib.Core.List.{List, []}
 use mathlib.Core.Logic.{_↔_}
 use Prim.Native.Nat.{ℕ}
 use Rattle.read_bytes.specs.Read.{Read}
@@ -20,8 +20,12 @@ use Rattle.spec_operations.specs.Operations.Adds.{not-opened, not-read, added}
 use Rattle.spec_operations.specs.Operations.Asks.{not-opened as not-asked, out-of-range, asked}
 use Rattle.spec_moves.specs.Moves.{Moves}
 use Rattle.spec_moves.specs.Moves.Moves.{not-opened as no-sheet, not-read as no-readings, no-room, moved}
-use Rattle.c_api.specs.Leaves.{Left, left, leaves, oneValue, gainValues, answerValues, CheckLeaves, AddLeaves, AskLeaves, MoveLeaves}
-use Rattle.c_api.proofs.Numbers.{Listed, Numbered, sheet-numbered, readings-numbered}
+use Rattle.spec_figures.specs.declared.Record.{Record}
+use Rattle.spec_figures.specs.Texts.{textsIn}
+use Rattle.spec_figures.specs.Figures.{Figures}
+use Rattle.spec_figures.specs.Figures.Figures.{not-opened as unopened, not-the-table, not-the-records, not-the-lengths, not-read as no-texts, figured}
+use Rattle.c_api.specs.Leaves.{Left, left, leaves, oneValue, gainValues, answerValues, noValues, CheckLeaves, AddLeaves, AskLeaves, MoveLeaves, FigureLeaves}
+use Rattle.c_api.proofs.Numbers.{Listed, Numbered, sheet-numbered, readings-numbered, texts-numbered}
 
 -- Accepted, or refused by a listed number.
 abbrev pub Told : {A : Type 0} → Result A → Type 0
@@ -80,6 +84,14 @@ module _ (s : List ℕ) where
   move-told (no-room w h u) = tt
   move-told (moved w h l u) = tt
 
+  pub figure-told : {j ns T U : List ℕ} {m : ℕ} {x : Result (List Record)} → Figures s j ns T U m x → Told x
+  figure-told (unopened e u) = subst Told e sheet-told
+  figure-told (not-the-table e l u) = tt
+  figure-told (not-the-records e l f u) = tt
+  figure-told (not-the-lengths e l f g u) = tt
+  figure-told {j} {ns} (no-texts {k} e l f g h u) = subst Numbered h (texts-numbered (namesIn s k) (k .window) 0 (textsIn ns j))
+  figure-told (figured e l f g h r) = tt
+
 -- ---- so 0 tells acceptance
 
 zero-tells : {A : Type 0} (values : A → List ℕ) (place : ℕ) (before : List ℕ) (x : Result A) → Told x → (answerOf (leaves values place before x) ≡ 0) ↔ Accepted x
@@ -98,3 +110,6 @@ module _ (s : List ℕ) (place : ℕ) (before : List ℕ) {l : Left} where
 
   pub move-zero : {spans : Bool} {r O O′ : List ℕ} (c : MoveLeaves spans s r O O′ place before l) → (answerOf l ≡ 0) ↔ Accepted (c .0)
   move-zero (x, a, e) = subst (λ (k : Left). (answerOf k ≡ 0) ↔ Accepted x) (sym e) (zero-tells oneValue place before x (move-told s a))
+
+  pub figure-zero : {j ns T U : List ℕ} {X X′ : List Record} (c : FigureLeaves s j ns T U X X′ place l) → (answerOf l ≡ 0) ↔ Accepted (c .0)
+  figure-zero (x, a, f, e) = subst (λ (k : Left). (answerOf k ≡ 0) ↔ Accepted x) (sym e) (zero-tells noValues place [] x (figure-told s a))

@@ -29,6 +29,7 @@ use Rattle.read_sheet.specs.Sheet.{ruleTo, ruleLine, rules, contents, sheetOf}
 use Rattle.read_reading.specs.Spans.{Span}
 use Rattle.read_reading.specs.OneEntry.{knownLine, tickLine, firstKey, toLine, lastTick, entry}
 use Rattle.read_readings.specs.Readings.{inSpans, entries, marked, readings}
+use Rattle.spec_figures.specs.Texts.{placedFrom, marksFrom}
 
 -- Is n a refusal's number?
 abbrev pub Listed : ℕ → Type 0
@@ -297,3 +298,16 @@ module _ (names : List (List ℕ)) (W : ℕ) (r : List ℕ) where
       go : (R : Read (List Span)) → Numbered R → Numbered (marked R)
       go (got es q) h = tt
       go (refused n p) h = h
+
+-- Texts one after the other: a place in the joined slice changes no number.
+placed-numbered : {A : Type 0} (p : ℕ) (R : Read A) → Numbered R → Numbered (placedFrom p R)
+placed-numbered p (got a q) h = tt
+placed-numbered p (refused n q) h = h
+
+pub texts-numbered : (names : List (List ℕ)) (W p : ℕ) (rs : List (List ℕ)) → Numbered (marksFrom names W p rs)
+unfolding marksFrom
+texts-numbered names W p [] = tt
+texts-numbered names W p (r ∷ rs) =
+    let rest = marksFrom names W (p + length r) rs in
+    then-numbered (placedFrom p (readings names W r)) (λ ms q. andThen rest (λ mss e. got (ms ∷ mss) e)) (placed-numbered p (readings names W r) (readings-numbered names W r))
+    (λ ms q. then-numbered rest (λ mss e. got (ms ∷ mss) e) (texts-numbered names W (p + length r) rs) (λ mss e. tt))

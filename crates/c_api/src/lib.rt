@@ -1,4 +1,4 @@
-// check, add, ask and the two moves for C and for languages that call C; include/mikhakun.h declares them. They assume nothing of the texts, the table, the buffers and the numbers.
+// check, add, ask, the two moves and figures for C and for languages that call C; include/mikhakun.h declares them. They assume nothing of the texts, the tables, the buffers and the numbers.
 // A caller lends memory of the length given behind each pointer, and no two of one call overlap.
 use op_add::Adding;
 use op_add::add;

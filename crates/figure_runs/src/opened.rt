@@ -5,12 +5,13 @@ use crate::runs::run_texts;
 use figure_run::records::start_records;
 use figure_texts::note_texts;
 use list_order::signals_in_order;
+use op_add::LONG;
+use op_add::SHORT;
+use op_add::SMALL;
 use read_index::LINKS;
 use read_readings::whole::Outcome;
-use spec_limits::ROWS;
 use spec_limits::RUNS;
 use spec_limits::SIGNALS;
-use table_marks::WORDS;
 ghost use Prim.Native.Nat.{_≤_};
 ghost use lib.ListN.{length};
 ghost use Rattle.spec_limits.specs.Limits.{mostSignals};
@@ -21,15 +22,6 @@ ghost use Rattle.figure_runs.specs.Runs.{OpenedFor, LongFor, Runnable, O
 
 // So many entries of the texts can be noted, 16 KiB of them: while those of any text find room after them, a text's entries are kept for its run.
 const NOTES: usize = 4096;
-
-// The words of a list of work with a bit for each row, at each word of the widest window.
-const LONG: usize = (ROWS + 63) / 64 * WORDS;
-
-// A table of at most so many words is small.
-const SMALL: usize = 2 * ROWS;
-
-// The words of a list of work for a small table, however many words a row has there.
-const SHORT: usize = WORDS;
 
 // Puts a record for each signal, in the order of the names. The list `order` is as long as they are many.
 fn start_by_name(s: &[u8], places: &[u16], order: &mut [u64], words: &mut [u64])

@@ -20,13 +20,13 @@ ghost use Rattle.open_table.specs.OpenedTable.{OpenedTable};
 ghost use Rattle.spec_operations.specs.Operations.{Adds};
 
 // The words of a list of work with a bit for each row, at each word of the widest window.
-const LONG: usize = (ROWS + 63) / 64 * WORDS;
+pub const LONG: usize = (ROWS + 63) / 64 * WORDS;
 
 // A table of at most so many words is small.
-const SMALL: usize = 2 * ROWS;
+pub const SMALL: usize = 2 * ROWS;
 
 // The words of a list of work for a small table, however many words a row has there.
-const SHORT: usize = WORDS;
+pub const SHORT: usize = WORDS;
 
 // How many facts are new, and whether there is a clash; or a refusal's number and place.
 pub enum Adding {

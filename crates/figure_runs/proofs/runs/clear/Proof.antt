@@ -19,12 +19,12 @@ abbrev μ-loop : tie.MeasureT-loop
 μ-loop table₀ i₀ table i = length table₀ - i
 
 -- One word more.
-one-more : (T : List ℕ) (i : ℕ) → i < length T → ((j : ℕ) → j < i → getD T j 0 ≡ 0) → (j : ℕ) → j < i + 1 → getD (set T i 0) j 0 ≡ 0
-one-more T i l f j h = go (ℕ-discrete j i)
+one-more : (T : List ℕ) (i w : ℕ) → w ≡ 0 → i < length T → ((j : ℕ) → j < i → getD T j 0 ≡ 0) → (j : ℕ) → j < i + 1 → getD (set T i w) j 0 ≡ 0
+one-more T i w z l f j h = go (ℕ-discrete j i)
   where
-    go : Dec (j ≡ i) → getD (set T i 0) j 0 ≡ 0
-    go (yes e) = ap (λ (k : ℕ). getD (set T i 0) k 0) e ∙ getD-set-same T i 0 0 l
-    go (no e) = getD-set-other T i j 0 0 e ∙ f j (omega (arith, e))
+    go : Dec (j ≡ i) → getD (set T i w) j 0 ≡ 0
+    go (yes e) = ap (λ (k : ℕ). getD (set T i w) k 0) e ∙ getD-set-same T i w 0 l ∙ z
+    go (no e) = getD-set-other T i j w 0 e ∙ f j (omega (arith, e))
 
 loop-holds : tie.Need-loop-holds Inv-loop μ-loop
 loop-holds c = (refl, λ j h. absurd (omega arith))
@@ -42,7 +42,7 @@ loop-less : tie.Need-loop-less Inv-loop μ-loop
 loop-less c = search needs
 
 loop-again : tie.Need-loop-again Inv-loop μ-loop
-loop-again c = (simp length-set (c .before .loop .inv .0), one-more (c .before .loop .table) (c .before .loop .i) (omega (arith, c .loop-test .taken)) (c .before .loop .inv .1))
+loop-again c = (simp length-set (c .before .loop .inv .0), one-more (c .before .loop .table) (c .before .loop .i) _ (omega arith) (omega (arith, c .loop-test .taken)) (c .before .loop .inv .1))
 
 same-length : tie.Need-same-length Inv-loop μ-loop
 same-length c = c .before .loop .inv .0
