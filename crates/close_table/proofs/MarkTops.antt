@@ -4,7 +4,7 @@ use mathlib.Core.Path.{_≡_, refl, sym, ap, _∙_, subst}
 use mathlib.Core.Bool.{Bool, true}
 use mathlib.Core.List.{List, List·Memᴰ}
 use mathlib.Core.Logic.{_⊎_, inl, inr, ⊎-elim, _↔_}
-use Prim.Native.Nat.{ℕ, _+_, _/_, _<_}
+use Prim.Native.Nat.{ℕ, _+_, _/_, _≤_, _<_}
 use native.Mathlib.Omega.{arith}
 use lib.ListN.{length, getD}
 use Rattle.spec_ticks.proofs.Bits.{lt-or-ge}
@@ -16,8 +16,10 @@ use Rattle.table_marks.proofs.Marks.{gains-none, gains-then}
 use Rattle.table_words.specs.WordTicks.{HasRow, Ticks, Here, Bits, Joins}
 use Rattle.close_table.specs.Closes.{LeastClosed, RowTrue, TopMarks, ClosesAll, ClosesWithTops}
 use Rattle.table_words.proofs.Gaining.{joins-as}
-use Rattle.close_rules.proofs.Decoding.{sized-as}
-use Rattle.close_list.specs.Workable.{Closable}
+use Rattle.close_rules.specs.Effects.{TableFits}
+use Rattle.close_rules.proofs.Decoding.{has-row, sized-as}
+use Rattle.close_list.specs.Workable.{Workable, Closable}
+use Rattle.close_list.proofs.Workable.{with-lists, closable}
 
 -- ---- one row
 module _ (n W r : ℕ) where
@@ -72,7 +74,12 @@ module _ (n W : ℕ) (B : List ℕ) where
         λ h. ⊎-elim (λ l. inl (h .0, h .1, l)) (λ l. inr (h .0, h .1, l)) (last x (h .2 .0) (h .2 .1) (h .2 .2)),
       )
 
-  -- The tops' marks are in the window, so the table can be closed still.
+  -- The tops can be marked: each is a row, so the table has it.
+  pub tops-there : (k : ℕ) {count : ℕ} {T : List ℕ} → TableFits n count W T → (k ≤ length B) × ((i : ℕ) → i < k → getD B i 0 < count)
+      → ((k ≤ length B) × (n ≡ words W)) × ((i : ℕ) → i < k → HasRow n T (getD B i 0))
+  tops-there k {count} {T} s rows = ((rows .0, s .words-are), λ i l. has-row n count T (getD B i 0) (s .long) (rows .1 i l))
+
+  -- Their marks are in the window, so the table can be closed still.
   pub tops-closable : (k : ℕ) {count : ℕ} {R D T T′ : List ℕ} → AddsMarks n (TopMarks W B k) T T′ → Closable count n W R D T → Closable count n W R D T′
   tops-closable k a c = record {
     coded = c .coded;
@@ -80,6 +87,9 @@ module _ (n W : ℕ) (B : List ℕ) where
     sized = sized-as (a .size) (c .sized);
     inside = λ r t v i. ⊎-elim (c .inside r t v) (λ h. h .0) (a .exactly (mark r t v) .0 i);
   }
+
+  pub tops-workable : (k : ℕ) {count : ℕ} {R H N D T T′ : List ℕ} → AddsMarks n (TopMarks W B k) T T′ → Workable count n W R H N D T → Workable count n W R H N D T′
+  tops-workable k a w = with-lists (w .linked) (tops-closable k a (closable w))
 
   -- The tops marked and then the table closed: it has exactly what the rules lead to from the tops and its marks.
   pub tops-then-close : (count : ℕ) (R : List ℕ) (k : ℕ) (T T′ T″ : List ℕ) → AddsMarks n (TopMarks W B k) T T′ → ClosesAll count R W n T′ T″

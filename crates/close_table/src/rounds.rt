@@ -117,7 +117,25 @@ fn work_off(
 }
 
 // Closes the table under the rules, although a clash appears: it has every consequence of its marks then, and no other mark.
-// The list is lent, empty at best: an item that it holds before costs a visit and changes nothing else.
+// The list is lent, empty at best: an item that it holds before costs a visit and changes nothing else. The lists of parents are made already.
+pub fn close_linked(
+    rows: &[u64],
+    count: usize,
+    n: usize,
+    window: usize,
+    heads: &[u16],
+    nexts: &[u16],
+    todo: &mut [u64],
+    marks: &mut [u64],
+)
+    requires { ⌜ Workable count n window (now rows) (now heads) (now nexts) (now todo) (now marks) ⌝ }
+    ensures { λ _. ⌜ ClosesAll count (now (rows .entry)) window n (now (marks .entry)) (now (marks .exit)) ⌝ }
+{
+    start(rows, count, n, heads, nexts, todo, marks);
+    work_off(rows, count, n, window, heads, nexts, todo, marks);
+}
+
+// The same, with lists of parents of its own.
 pub fn close(
     rows: &[u64],
     count: usize,
@@ -132,6 +150,5 @@ pub fn close(
     let mut heads = [0u16; ROWS];
     let mut nexts = [1u16; EDGES];
     link_rows(rows, count, &mut heads, &mut nexts);
-    start(rows, count, n, &heads, &nexts, todo, marks);
-    work_off(rows, count, n, window, &heads, &nexts, todo, marks);
+    close_linked(rows, count, n, window, &heads, &nexts, todo, marks);
 }

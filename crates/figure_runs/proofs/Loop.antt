@@ -1,27 +1,22 @@
 -- Runs one after the other: what the first i runs have left in the work table and the records, one run more, and all of them. Assumes what each law states.
 use mathlib.Core.Path.{_≡_, refl, sym, ap, _∙_, subst}
-use mathlib.Core.Bool.{Bool, true}
-use mathlib.Core.List.{List, [], _∷_, _++_, map}
-use mathlib.Core.Logic.{_↔_}
-use Prim.Native.Nat.{ℕ, zero, suc, _+_, _*_, _<_, _≤_}
+use mathlib.Core.List.{List, [], _∷_, _++_}
+use Prim.Native.Nat.{ℕ, suc, _+_, _<_}
 use native.Mathlib.Numerals.{add-one}
 use native.Mathlib.Omega.{arith}
 use lib.ListN.{length, getD, take, length-append}
 use lib.Seq.{take-suc, take-length}
-use Rattle.spec_limits.specs.Limits.{mostRuns, mostSignals, mostTicks}
-use Rattle.spec_tilco.specs.Inference.{Mark, Clash}
-use Rattle.spec_tilco.specs.Lists.{All}
-use Rattle.spec_tilco.specs.Table.{words, Stands, Standing, Inside, Answer}
+use Rattle.spec_tilco.specs.Inference.{Mark}
+use Rattle.spec_tilco.specs.Table.{words, Standing, Answer}
 use Rattle.read_sheet.specs.Sheet.{Contents, meant}
 use Rattle.open_sheet.specs.SheetIn.{blank}
 use Rattle.list_order.specs.Order.{inOrder}
 use Rattle.list_order.proofs.Sorting.{order-long, order-within}
 use Rattle.list_signals.specs.Signals.{Answers}
-use Rattle.spec_figures.specs.declared.Record.{Record}
 use Rattle.spec_figures.specs.Figures.{Each, lastOr, Closed, AnswersOf, Ran}
-use Rattle.figure_run.specs.RecordWords.{recordIn, recordsIn}
-use Rattle.figure_run.specs.RunCounts.{RunCounted, CanCount}
-use Rattle.figure_run.proofs.Told.{ToldOf, started-told, counted-told, can-count}
+use Rattle.figure_run.specs.RecordWords.{recordsIn}
+use Rattle.figure_run.specs.RunCounts.{RunCounted}
+use Rattle.figure_run.proofs.Told.{ToldOf, started-told, counted-told}
 use Rattle.figure_runs.specs.Runs.{FreshRecords}
 
 -- ---- lists

@@ -12,6 +12,7 @@ use Rattle.read_index.specs.Index.{placesIn}
 use Rattle.spec_tilco.specs.Inference.{Mark}
 use Rattle.spec_tilco.specs.Lowering.{rowCount}
 use Rattle.spec_tilco.specs.Table.{words, tableWords}
+use Rattle.close_parents.specs.Links.{Linked}
 use Rattle.read_sheet.specs.Sheet.{Contents, meant}
 use Rattle.read_readings.specs.declared.whole.Outcome.{Outcome}
 use Rattle.read_readings.specs.declared.whole.Outcome.the-variants.{Accepted, Refused}
@@ -53,12 +54,13 @@ module _ {names : List (List ℕ)} {W : ℕ} {ns j a cs : List ℕ} where
       let h : q ≡ p = cc in
       cc
 
--- So all of them can be run.
-pub all-runnable : {s names B tops j ns a cs D T ws part : List ℕ} {z : Sizes} → Runnable s names B tops z D T → LengthsFit ns (length j)
+-- So all of them can be run, with lists of parents that are made.
+pub all-runnable : {s names B tops j ns a cs H N D T ws part : List ℕ} {z : Sizes} → Runnable s names B tops z D T → Linked (z .count) B H N → LengthsFit ns (length j)
     → AllNoted (namesAt s (placesIn names)) (z .window) ns j a cs → length ns ≤ length cs → part ≡ placesIn names → FreshRecords (inOrder (namesAt s part)) ws → RecordRoom ws
-    → AllRunnable s names B tops z j ns a cs D T ws
-all-runnable {s} {ws = ws} r fit n counts e fresh room = record {
+    → AllRunnable s names B tops z j ns a cs H N D T ws
+all-runnable {s} {ws = ws} r l fit n counts e fresh room = record {
   one = r;
+  linked = l;
   fit = fit;
   notes = n .notes;
   counts = counts;

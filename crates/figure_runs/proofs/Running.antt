@@ -1,9 +1,9 @@
 -- One run: what putting and closing need of a cleared table, and that the closed table is the run's. Assumes what each section states.
-use mathlib.Core.Path.{_≡_, refl, sym, ap, _∙_, subst}
+use mathlib.Core.Path.{_≡_, sym, ap, _∙_, subst}
 use mathlib.Core.Bool.{Bool, true}
 use mathlib.Core.List.{List}
 use mathlib.Core.Logic.{_↔_}
-use Prim.Native.Nat.{ℕ, _+_, _*_, _≤_, _<_}
+use Prim.Native.Nat.{ℕ, _*_, _≤_, _<_}
 use native.Mathlib.Omega.{arith}
 use lib.ListN.{length, getD, length-replicate}
 use Rattle.read_bytes.specs.Read.Read.{got}
@@ -21,18 +21,19 @@ use Rattle.read_readings.specs.Readings.{readings}
 use Rattle.read_readings.specs.TakeReadings.{CanTake}
 use Rattle.read_readings.proofs.Outcomes.{Accepted-as}
 use Rattle.close_table.specs.Closes.{ClosesWithTops}
-use Rattle.close_list.specs.Workable.{Closable}
-use Rattle.open_sheet.specs.Results.{accepted}
-use Rattle.open_sheet.specs.SheetIn.{sheetIn, blank}
+use Rattle.close_parents.specs.Links.{Linked}
+use Rattle.close_list.specs.Workable.{Workable}
+use Rattle.close_list.proofs.Workable.{with-lists}
+use Rattle.open_sheet.specs.SheetIn.{blank}
 use Rattle.open_table.specs.Opens.Opens.{both}
 use Rattle.open_table.specs.OpenedTable.{OpenedTable}
 use Rattle.spec_operations.proofs.Determined.{one-sheet}
-use Rattle.spec_operations.proofs.Opened.{some-window, some-words, to-contents, table-length}
+use Rattle.spec_operations.proofs.Opened.{some-window, some-words, to-contents}
 use Rattle.op_add.specs.WorkLists.{ListFor}
 use Rattle.op_add.proofs.Outcomes.{names-fit, close-asks, made}
 use Rattle.spec_figures.specs.Figures.{Closed}
 use Rattle.figure_runs.specs.declared.runs.Sizes.{Sizes}
-use Rattle.figure_runs.specs.Runs.{Runnable, LongFor, OfSheet, Holds, RunsText}
+use Rattle.figure_runs.specs.Runs.{Runnable, LongFor, RunsText}
 
 module _ {s names B tops D T : List ℕ} {z : Sizes} (r : Runnable s names B tops z D T) where
   abbrev k : Contents
@@ -72,9 +73,12 @@ module _ {s names B tops D T : List ℕ} {z : Sizes} (r : Runnable s names B top
       abbrev taken : Accepted-as (readings (namesAt s (placesIn names)) (z .window) text) (z .n) T₁ T₂
       taken = record { marks = ms; place = q; all = text-reads text e; puts = p }
 
-      -- the table can be closed then,
-      pub can-close : Closable (z .count) (z .n) (z .window) B D T₂ × ((z .tops ≤ length tops) × ((i : ℕ) → i < z .tops → getD tops i 0 < z .count))
-      can-close = close-asks opened (z .n) (r .opened .words-are) text T₂ taken D (subst (λ (m : ℕ). ListFor m (length D)) (sym (ap length cleared ∙ length-replicate {A = ℕ} (length T) 0)) (r .list))
+      -- the table can be closed then, with lists of parents that are made,
+      pub can-close : {H N : List ℕ} → Linked (z .count) B H N
+          → Workable (z .count) (z .n) (z .window) B H N D T₂ × ((z .tops ≤ length tops) × ((i : ℕ) → i < z .tops → getD tops i 0 < z .count))
+      can-close l =
+          let asks = close-asks opened (z .n) (r .opened .words-are) text T₂ taken D (subst (λ (m : ℕ). ListFor m (length D)) (sym (ap length cleared ∙ length-replicate {A = ℕ} (length T) 0)) (r .list)) in
+          (with-lists l (asks .0), asks .1)
 
       module _ (U : List ℕ) (c : ClosesWithTops (z .count) B tops (z .tops) (z .window) (z .n) T₂ U) where
         closed : Closed k ms U

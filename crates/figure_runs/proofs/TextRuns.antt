@@ -10,12 +10,10 @@ use lib.ListN.{length, getD, take, drop, length-replicate}
 use Rattle.spec_limits.specs.Limits.{mostRuns, mostSignals}
 use Rattle.spec_ticks.specs.Ticks.{empty}
 use Rattle.spec_ticks.proofs.Tables.{empty-bare}
-use Rattle.read_bytes.specs.Read.Read.{got}
 use Rattle.read_names.specs.Spellings.{namesAt}
 use Rattle.read_names.proofs.Names.{names-many}
 use Rattle.read_index.specs.Index.{placesIn}
-use Rattle.spec_tilco.specs.Inference.{Mark, mark, Clash}
-use Rattle.spec_tilco.specs.Lists.{All}
+use Rattle.spec_tilco.specs.Inference.{Mark, Clash}
 use Rattle.spec_tilco.specs.Lowering.{rowCount}
 use Rattle.spec_tilco.specs.Table.{words, Standing, tableWords, Inside, Answer}
 use Rattle.spec_tilco.proofs.Lists.{all-weaker}
@@ -26,9 +24,8 @@ use Rattle.read_sheet.specs.Sheet.{Contents, meant}
 use Rattle.read_readings.specs.Readings.{readings}
 use Rattle.read_readings.proofs.Bounds.{readings-of-sheet}
 use Rattle.open_sheet.specs.Results.{accepted}
-use Rattle.open_sheet.specs.SheetIn.{sheetIn, namesIn, blank}
+use Rattle.open_sheet.specs.SheetIn.{sheetIn, namesIn}
 use Rattle.open_table.proofs.Tables.{InSheet, in-sheet, RowWords, row-words}
-use Rattle.spec_operations.proofs.Determined.{one-sheet}
 use Rattle.op_add.specs.WorkLists.{ListFor}
 use Rattle.list_order.specs.Order.{inOrder}
 use Rattle.list_order.proofs.Sorting.{order-long, order-within}
@@ -97,7 +94,7 @@ module _ (s : List ℕ) (k : Contents) (holds : sheetIn s ≡ accepted k) where
 abbrev pub Reached : List ℕ → List ℕ → List ℕ → ℕ → List ℕ → List ℕ → Type 0
 Reached s j ns i T ws = OfSheet s (λ k. (mss : List (List Mark)) → AllHold s j ns k mss → RunsTo k (namesIn s k) mss i T ws)
 
-module _ {s names B tops j ns nt cs D T ws : List ℕ} {z : Sizes} (a : AllRunnable s names B tops z j ns nt cs D T ws) where
+module _ {s names B tops j ns nt cs H N D T ws : List ℕ} {z : Sizes} (a : AllRunnable s names B tops z j ns nt cs H N D T ws) where
   abbrev k : Contents
   k = a .one .opened .sheet .contents
 

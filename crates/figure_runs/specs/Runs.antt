@@ -11,6 +11,7 @@ use Rattle.read_bytes.specs.Read.Read.{got, refused}
 use Rattle.spec_tilco.specs.Inference.{Mark, Clash}
 use Rattle.spec_tilco.specs.Lists.{All}
 use Rattle.spec_tilco.specs.Table.{words, Standing}
+use Rattle.close_parents.specs.Links.{Linked}
 use Rattle.read_sheet.specs.Sheet.{Contents, meant}
 use Rattle.read_names.specs.Spellings.{namesAt}
 use Rattle.read_index.specs.Index.{placesIn, IndexOf}
@@ -77,10 +78,11 @@ pub record NamesStand (s places : List ℕ) : Type 0 where
   pub inside : All (λ p. p ≤ length s) places
   pub few : length places ≤ mostSignals
 
--- All texts can be run, one after the other: their lengths fit the joined slice j, each of them is accepted, their notes are in a, as many of each as cs says, and
--- the words ws have a record for each signal, with no run counted.
-pub record AllRunnable (s names B tops : List ℕ) (z : Sizes) (j ns a cs D T ws : List ℕ) : Type 0 where
+-- All texts can be run, one after the other: their lengths fit the joined slice j, each of them is accepted, their notes are in a, as many of each as cs says,
+-- H and N have the lists of parents, and the words ws have a record for each signal, with no run counted.
+pub record AllRunnable (s names B tops : List ℕ) (z : Sizes) (j ns a cs H N D T ws : List ℕ) : Type 0 where
   pub one : Runnable s names B tops z D T
+  pub linked : Linked (z .count) B H N
   pub fit : LengthsFit ns (length j)
   pub notes : Kept (namesAt s (placesIn names)) (z .window) ns j a cs
   pub counts : length ns ≤ length cs

@@ -1,7 +1,9 @@
-// The figures of an opened sheet: every text is checked before the first run. Assumes that the lengths fit the texts, that the table has its length, and room for
-// the most records.
+// The figures of an opened sheet: every text is checked before the first run, and the lists of parents are made once for all runs.
+// Assumes that the lengths fit the texts, that the table has its length, and room for the most records.
 use crate::runs::Sizes;
 use crate::runs::run_texts;
+use close_parents::EDGES;
+use close_parents::link_rows;
 use figure_run::records::start_records;
 use figure_texts::note_texts;
 use list_order::signals_in_order;
@@ -10,6 +12,7 @@ use op_add::SHORT;
 use op_add::SMALL;
 use read_index::LINKS;
 use read_readings::whole::Outcome;
+use spec_limits::ROWS;
 use spec_limits::RUNS;
 use spec_limits::SIGNALS;
 ghost use Prim.Native.Nat.{_≤_};
@@ -42,7 +45,7 @@ fn start_in_order(s: &[u8], places: &[u16], words: &mut [u64])
     start_by_name(s, places, &mut order[..count], words);
 }
 
-// Checks each text, and then runs them.
+// Checks each text, then makes the lists of parents and runs the texts.
 fn check_and_run(
     s: &[u8],
     names: &[u16],
@@ -65,6 +68,9 @@ fn check_and_run(
     match r {
         Outcome::Accepted => {
             start_in_order(s, &names[LINKS..], words);
+            let mut heads = [0u16; ROWS];
+            let mut nexts = [1u16; EDGES];
+            link_rows(rows, z.count, &mut heads, &mut nexts);
             run_texts(
                 s,
                 names,
@@ -75,6 +81,8 @@ fn check_and_run(
                 lengths,
                 &noted,
                 &kept,
+                &heads,
+                &nexts,
                 todo,
                 table,
                 words,

@@ -1,6 +1,6 @@
 // One run after the other: the work table is cleared, a text's readings are put, the table is closed, and its figures are counted.
-// Assumes that the sheet is opened, that the table has its length, and that every text was accepted.
-use close_table::tops::close_with_tops;
+// Assumes that the sheet is opened, that its lists of parents are made, that the table has its length, and that every text was accepted.
+use close_table::tops::close_linked_with_tops;
 use figure_run::counts::count_run;
 use read_index::LINKS;
 use read_readings::noted::put_noted;
@@ -16,6 +16,7 @@ ghost use Rattle.read_bytes.specs.Read.Read.{got};
 ghost use Rattle.read_names.specs.Slices.{before, after};
 ghost use Rattle.read_index.specs.Index.{namesIn};
 ghost use Rattle.table_marks.specs.Puts.{Puts};
+ghost use Rattle.close_parents.specs.Links.{Linked};
 ghost use Rattle.read_readings.specs.Readings.{readings};
 ghost use Rattle.read_readings.specs.TakeReadings.{CanTake};
 ghost use Rattle.figure_texts.specs.Notes.{NotesAt};
@@ -69,17 +70,30 @@ fn run_text(
     z: Sizes,
     text: &[u8],
     notes: &[u32],
+    heads: &[u16],
+    nexts: &[u16],
     todo: &mut [u64],
     table: &mut [u64],
 ) -> bool
-    requires { ⌜ Runnable (now s) (now names) (now rows) (now tops) z (now todo) (now table) ⌝ }
+    requires { ⌜ Runnable (now s) (now names) (now rows) (now tops) z (now todo) (now table) × Linked (z .count) (now rows) (now heads) (now nexts) ⌝ }
     requires { ⌜ NotesAt (namesIn (now s) (now names)) (z .window) (now text) (now notes) 0 (length (now notes)) ⌝ }
     requires { ⌜ OfSheet (now s) (λ k. (ms : List Mark) × Holds (now s) (now text) k ms) ⌝ }
     ensures { λ clash. ⌜ RunsText (before s) (before text) (after table) clash ⌝ }
 {
     clear(table);
     put_text(s, names, z.window, z.n, text, notes, table);
-    close_with_tops(rows, z.count, tops, z.tops, z.n, z.window, todo, table);
+    close_linked_with_tops(
+        rows,
+        z.count,
+        tops,
+        z.tops,
+        z.n,
+        z.window,
+        heads,
+        nexts,
+        todo,
+        table,
+    );
     clash_in(table, z.count, z.n)
 }
 
@@ -94,11 +108,13 @@ pub fn run_texts(
     lengths: &[u64],
     noted: &[u32],
     kept: &[u64],
+    heads: &[u16],
+    nexts: &[u16],
     todo: &mut [u64],
     table: &mut [u64],
     words: &mut [u64],
 )
-    requires { ⌜ AllRunnable (now s) (now names) (now rows) (now tops) z (now texts) (now lengths) (now noted) (now kept) (now todo) (now table) (now words) ⌝ }
+    requires { ⌜ AllRunnable (now s) (now names) (now rows) (now tops) z (now texts) (now lengths) (now noted) (now kept) (now heads) (now nexts) (now todo) (now table) (now words) ⌝ }
     ensures { λ _. ⌜ OfSheet (before s) (λ k. (mss : List (List Mark)) → AllHold (before s) (before texts) (before lengths) k mss → RunsTexts (before s) mss (after table) (after words) k) ⌝ }
 {
     let signals = names.len() - LINKS;
@@ -120,6 +136,8 @@ pub fn run_texts(
             z,
             &texts[at..end],
             &noted[start..last],
+            heads,
+            nexts,
             todo,
             table,
         );

@@ -15,7 +15,7 @@ use run_cases::text_under;
 use spec_figures::NO_TICK;
 use spec_figures::Record;
 use spec_limits::SIGNALS;
-ghost use Prim.Native.Nat.{_<_, _≤_};
+ghost use Prim.Native.Nat.{_<_};
 ghost use lib.ListN.{length};
 ghost use Rattle.io.specs.Counts.{Counts};
 ghost use Rattle.figure_runs.specs.Runs.{RecordRoom};

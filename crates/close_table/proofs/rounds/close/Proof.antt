@@ -3,7 +3,7 @@ use borrow.Author.Needs.{needs}
 use native.Mathlib.Omega.{arith}
 use Rattle.spec_limits.specs.Limits.{mostRows}
 use Rattle.close_parents.proofs.Linking.{no-lists}
-use Rattle.close_list.proofs.Queueing.{roomy-as}
+use Rattle.close_list.proofs.Workable.{with-lists}
 use Rattle.close_table.proofs.rounds.close.Statement.{statement}
 use Rattle.close_table.proofs.rounds.close.Tie as tie
 
@@ -18,30 +18,14 @@ link-rows-requires c κs =
     let o = c .before .before .before .before .before .pre in
     ((o .coded, o .roomy .most), (omega (arith, o .roomy .most), omega (arith, o .roomy .most), λ x l. no-lists mostRows x))
 
-slice-aggregate-start : tie.Need-slice-aggregate-start
-slice-aggregate-start c = search needs
+slice-aggregate-close-linked : tie.Need-slice-aggregate-close-linked
+slice-aggregate-close-linked c = search needs
 
-slice-aggregate-start-2 : tie.Need-slice-aggregate-start-2
-slice-aggregate-start-2 c = search needs
+slice-aggregate-close-linked-2 : tie.Need-slice-aggregate-close-linked-2
+slice-aggregate-close-linked-2 c = search needs
 
-start-requires : tie.Need-start-requires
-start-requires c κs =
-    let link-rows = c .before .before .before .before .before .before .link-rows in
-    let o = c .before .before .before .before .before .before .before .before .before .before .before .before .pre in
-    (record { coded = o .coded; linked = link-rows .ensures; roomy = o .roomy }, o .sized .long)
-
-slice-aggregate-work-off : tie.Need-slice-aggregate-work-off
-slice-aggregate-work-off c = search needs
-
-slice-aggregate-work-off-2 : tie.Need-slice-aggregate-work-off-2
-slice-aggregate-work-off-2 c = search needs
-
-work-off-requires : tie.Need-work-off-requires
-work-off-requires c κs =
-    let link-rows = c .before .before .before .before .before .before .before .before .before .before .before .before .before .link-rows in
-    let start = c .before .before .before .before .before .before .start in
-    let o = c .before .before .before .before .before .before .before .before .before .before .before .before .before .before .before .before .before .before .before .pre in
-    (record { coded = o .coded; linked = link-rows .ensures; roomy = roomy-as (omega arith) (o .roomy); sized = o .sized; inside = o .inside }, start .ensures _)
+close-linked-requires : tie.Need-close-linked-requires
+close-linked-requires c κs = with-lists (c .before .before .before .before .before .before .link-rows .ensures) (c .before .before .before .before .before .before .before .before .before .before .before .before .pre)
 
 same-length : tie.Need-same-length
 same-length c = search needs
@@ -59,12 +43,9 @@ close-spec =
     slice-aggregate-link-rows
     slice-aggregate-link-rows-2
     link-rows-requires
-    slice-aggregate-start
-    slice-aggregate-start-2
-    start-requires
-    slice-aggregate-work-off
-    slice-aggregate-work-off-2
-    work-off-requires
+    slice-aggregate-close-linked
+    slice-aggregate-close-linked-2
+    close-linked-requires
     same-length
     same-length-2
     returns)

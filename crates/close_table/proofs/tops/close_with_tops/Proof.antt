@@ -1,17 +1,13 @@
 -- `close_with_tops` meets its contract. Assumes nothing.
 use borrow.Author.Needs.{needs}
-use Rattle.close_rules.proofs.Decoding.{has-row}
-use Rattle.close_table.proofs.MarkTops.{tops-closable, tops-then-close}
+use Rattle.close_table.proofs.MarkTops.{tops-there, tops-closable, tops-then-close}
 use Rattle.close_table.proofs.tops.close_with_tops.Statement.{statement}
 use Rattle.close_table.proofs.tops.close_with_tops.Tie as tie
 
 mark-tops-requires : tie.Need-mark-tops-requires
 mark-tops-requires c κs =
     let asked = c .before .before .before .before .before .pre in
-    let a = c .before .before .before .before .before .args in
-    let s = asked .0 .sized in
-    let tops = asked .1 in
-    ((tops .0, s .words-are), λ i l. has-row (a .n) (a .count) (a .marks .now) _ (s .long) (tops .1 i l))
+    tops-there _ _ (c .before .before .before .before .before .args .tops .now) _ (asked .0 .sized) (asked .1)
 
 close-requires : tie.Need-close-requires
 close-requires c κs =

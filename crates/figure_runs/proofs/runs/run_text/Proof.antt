@@ -8,23 +8,23 @@ clear-requires : tie.Need-clear-requires
 clear-requires c κs = search needs
 
 put-text-requires : tie.Need-put-text-requires
-put-text-requires c κs = (can-take (c .before .before .before .before .before .before .before .before .before .before .before .before .before .pre .0) _ (c .before .before .before .clear .ensures), c .before .before .before .before .before .before .before .before .before .before .before .before .before .pre .1 .0)
+put-text-requires c κs = (can-take (c .before .before .before .before .before .before .before .before .before .before .before .before .before .before .before .pre .0 .0) _ (c .before .before .before .clear .ensures), c .before .before .before .before .before .before .before .before .before .before .before .before .before .before .before .pre .1 .0)
 
-close-with-tops-requires : tie.Need-close-with-tops-requires
-close-with-tops-requires c κs =
-    let asked = c .before .before .before .before .before .before .before .before .before .before .before .before .before .before .before .before .before .before .pre .0 in
-    let held = c .before .before .before .before .before .before .before .before .before .before .before .before .before .before .before .before .before .before .pre .1 .1 (asked .opened .sheet .contents) (asked .opened .sheet .holds) in
+close-linked-with-tops-requires : tie.Need-close-linked-with-tops-requires
+close-linked-with-tops-requires c κs =
+    let asked = c .before .before .before .before .before .before .before .before .before .before .before .before .before .before .before .before .before .before .before .before .pre .0 .0 in
+    let held = c .before .before .before .before .before .before .before .before .before .before .before .before .before .before .before .before .before .before .before .before .pre .1 .1 (asked .opened .sheet .contents) (asked .opened .sheet .holds) in
     let reads = held .1 .1 in
     let put = c .before .before .before .before .put-text .ensures (held .0) (held .1 .0) (text-reads asked _ reads) in
-    can-close asked _ (c .before .before .before .before .before .before .before .before .clear .ensures) _ _ _ reads _ put
+    can-close asked _ (c .before .before .before .before .before .before .before .before .clear .ensures) _ _ _ reads _ put (c .before .before .before .before .before .before .before .before .before .before .before .before .before .before .before .before .before .before .before .before .pre .0 .1)
 
 clash-in-requires : tie.Need-clash-in-requires
 clash-in-requires c κs =
-    let asked = c .before .before .before .before .before .before .before .before .before .before .before .before .before .before .before .before .before .before .before .before .before .before .before .before .pre .0 in
-    let held = c .before .before .before .before .before .before .before .before .before .before .before .before .before .before .before .before .before .before .before .before .before .before .before .before .pre .1 .1 (asked .opened .sheet .contents) (asked .opened .sheet .holds) in
+    let asked = c .before .before .before .before .before .before .before .before .before .before .before .before .before .before .before .before .before .before .before .before .before .before .before .before .before .before .pre .0 .0 in
+    let held = c .before .before .before .before .before .before .before .before .before .before .before .before .before .before .before .before .before .before .before .before .before .before .before .before .before .before .pre .1 .1 (asked .opened .sheet .contents) (asked .opened .sheet .holds) in
     let reads = held .1 .1 in
     let put = c .before .before .before .before .before .before .before .before .before .before .put-text .ensures (held .0) (held .1 .0) (text-reads asked _ reads) in
-    closed-long asked _ (c .before .before .before .before .before .before .before .before .before .before .before .before .before .before .clear .ensures) _ _ _ reads _ put _ (c .before .before .before .before .before .close-with-tops .ensures)
+    closed-long asked _ (c .before .before .before .before .before .before .before .before .before .before .before .before .before .before .clear .ensures) _ _ _ reads _ put _ (c .before .before .before .before .before .close-linked-with-tops .ensures)
 
 same-length : tie.Need-same-length
 same-length c = search needs
@@ -34,11 +34,11 @@ same-length-2 c = search needs
 
 returns : tie.Need-returns
 returns c =
-    let asked = c .before .before .before .before .before .before .before .before .before .before .before .before .before .before .before .before .before .before .before .before .before .before .before .before .before .pre .0 in
-    let held = c .before .before .before .before .before .before .before .before .before .before .before .before .before .before .before .before .before .before .before .before .before .before .before .before .before .pre .1 .1 (asked .opened .sheet .contents) (asked .opened .sheet .holds) in
+    let asked = c .before .before .before .before .before .before .before .before .before .before .before .before .before .before .before .before .before .before .before .before .before .before .before .before .before .before .before .pre .0 .0 in
+    let held = c .before .before .before .before .before .before .before .before .before .before .before .before .before .before .before .before .before .before .before .before .before .before .before .before .before .before .before .pre .1 .1 (asked .opened .sheet .contents) (asked .opened .sheet .holds) in
     let reads = held .1 .1 in
     let put = c .before .before .before .before .before .before .before .before .before .before .before .put-text .ensures (held .0) (held .1 .0) (text-reads asked _ reads) in
-    runs-text asked _ (c .before .before .before .before .before .before .before .before .before .before .before .before .before .before .before .clear .ensures) _ _ _ reads _ put _ (c .before .before .before .before .before .before .close-with-tops .ensures) _ (c .clash-in .ensures)
+    runs-text asked _ (c .before .before .before .before .before .before .before .before .before .before .before .before .before .before .before .clear .ensures) _ _ _ reads _ put _ (c .before .before .before .before .before .before .close-linked-with-tops .ensures) _ (c .clash-in .ensures)
 
 pub run-text-spec : {M : Type 1} → statement M
 run-text-spec =
@@ -46,7 +46,7 @@ run-text-spec =
     (tie.spec
     clear-requires
     put-text-requires
-    close-with-tops-requires
+    close-linked-with-tops-requires
     clash-in-requires
     same-length
     same-length-2

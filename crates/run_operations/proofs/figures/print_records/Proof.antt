@@ -1,6 +1,5 @@
 -- `print_records` meets its contract. The invariant: no more records are printed than a sheet can have signals. Assumes nothing.
 use borrow.Author.Needs.{needs}
-use native.Mathlib.Omega.{arith}
 use Prim.Native.Nat.{_-_, _≤_}
 use Rattle.spec_limits.specs.Limits.{mostSignals}
 use Rattle.run_operations.proofs.figures.print_records.Statement.{statement}
