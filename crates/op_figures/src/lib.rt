@@ -1,9 +1,11 @@
 // figures: several readings texts run against one sheet, and a record for each signal. Assumes nothing.
 // A function that is lent a slice of records is proved by a walk of its own; so these are few and short, and figure_runs does the work in plain words.
+use figure_run::records::RECORD_WORDS;
 use figure_run::records::record_in;
 use figure_runs::whole::figures_in_words;
 use read_readings::whole::Outcome;
 use spec_figures::Record;
+use spec_limits::SIGNALS;
 ghost use mathlib.Core.Path.{_≡_};
 ghost use Prim.Native.Nat.{_*_, _^_, _<_, _≤_};
 ghost use lib.ListN.{length};
@@ -12,7 +14,7 @@ ghost use Rattle.figure_runs.specs.Runs.{RecordRoom};
 ghost use Rattle.op_figures.specs.Reports.{Reports};
 
 // The words of the most records.
-const RECORDS: usize = 384;
+const RECORDS: usize = RECORD_WORDS * SIGNALS;
 
 // Fills the records from their words.
 fn fill(records: &mut [Record], words: &[u64])
