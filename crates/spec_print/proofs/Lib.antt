@@ -1,0 +1,6 @@
+-- The laws, one idea a file.
+pub mod TokenTexts
+pub mod Counts
+pub mod IntervalTexts
+pub mod Fitting
+pub mod ReadBack

@@ -1,0 +1,1 @@
+// A rule's text as it is printed back: definitions and theorems, and no function.
