@@ -18,7 +18,7 @@ use Rattle.write_bytes.specs.Writes.{decimalText}
 use Rattle.write_bytes.proofs.Decimals.{decimal-one, decimal-more}
 use Rattle.spec_grammar.specs.Tokens.{Each, Numeral, End}
 use Rattle.spec_grammar.specs.Grammar.{Interval, Legal}
-use Rattle.spec_print.specs.RuleTexts.{endText, interval, textOf}
+use Rattle.spec_print.specs.RuleTexts.{endText, interval, tokensText}
 use Rattle.spec_print.specs.Parentheses.{opened}
 use Rattle.spec_print.proofs.Counts.{opened-append, long, opens, long-next, opens-next}
 
@@ -107,7 +107,7 @@ pub record PrintedInterval (first more : ℕ) : Type 0 where
   pub none-opened : opens (interval first more) ≡ 0
 
 pub interval-printed : (first more : ℕ) → 1 ≤ first → first + more ≤ mostOffset → PrintedInterval first more
-unfolding interval opened textOf
+unfolding interval opened tokensText
 interval-printed first more l h =
     let a = end-printed first l (omega arith) in
     let b = end-printed (first + more) (omega arith) h in
@@ -151,7 +151,7 @@ end-some (End.plus n) = numeral-some n
 end-some (End.minus n) = omega arith
 
 pub interval-some : {ws : List (List ℕ)} {o v w c : ℕ} → Interval ws o v w c → 5 ≤ long ws
-unfolding textOf
+unfolding tokensText
 interval-some (Interval.interval {o} {c} {x = x} {y = y} ho hx hy hc) =
     omega
     (arith, end-some hx, end-some hy, long-next (o ∷ []) (x ∷ bytes "," ∷ y ∷ (c ∷ []) ∷ []), long-next x (bytes "," ∷ y ∷ (c ∷ []) ∷ []), long-next (bytes ",") (y ∷ (c ∷ []) ∷ []), long-next y ((c ∷ []) ∷ []), long-next (c ∷ []) [])

@@ -17,15 +17,15 @@ use Rattle.read_parts.specs.FormulaText.{rule}
 use Rattle.spec_grammar.specs.Grammar.{formula, Is, Declared, Legal}
 use Rattle.spec_grammar.proofs.Sound.{rule-sound}
 use Rattle.spec_grammar.proofs.Complete.{rule-complete}
-use Rattle.spec_print.specs.RuleTexts.{tokensIn, textOf, printed, IsRule}
+use Rattle.spec_print.specs.RuleTexts.{tokensIn, tokensText, printed, IsRule}
 use Rattle.spec_print.specs.Parentheses.{opened, LeavesPairOut}
 use Rattle.spec_print.proofs.Counts.{opened-less}
 use Rattle.spec_print.proofs.TokenTexts.{TextFrom, tokens-of, text-of, whole-text}
 use Rattle.spec_print.proofs.Fitting.{fits, fitted, few-in, short-in}
 
 -- A text stands in itself, and LF follows it.
-whole : (ws : List (List ℕ)) → TextFrom (textOf ws) 0 ws (length (textOf ws))
-whole ws = record { stands = rw (append-nil (textOf ws)) at (starts-self (textOf ws) []); end = omega arith }
+whole : (ws : List (List ℕ)) → TextFrom (tokensText ws) 0 ws (length (tokensText ws))
+whole ws = record { stands = rw (append-nil (tokensText ws)) at (starts-self (tokensText ws) []); end = omega arith }
 
 end-not-named : (t : List ℕ) → nameByte (peek t (length t)) ≡ false
 unfolding nameByte
@@ -42,7 +42,7 @@ module _ {names : List (List ℕ)} where
   read-back {f} h =
       let ws = tokensIn names formula f in
       let x = is-printed h in
-      rule-complete names (textOf ws) 0 (record { tokens = ws; stand = tokens-of x (whole ws) (end-not-named (textOf ws)); is = x })
+      rule-complete names (tokensText ws) 0 (record { tokens = ws; stand = tokens-of x (whole ws) (end-not-named (tokensText ws)); is = x })
 
   -- "Writing it again changes no byte."
   pub print-again : {f g : Written} {q : ℕ} → IsRule names f → rule names (printed names f) 0 ≡ got g q → printed names g ≡ printed names f

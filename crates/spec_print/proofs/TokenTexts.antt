@@ -20,41 +20,41 @@ use Rattle.spec_grammar.proofs.Standing.{starts-head, starts-tail, starts-none,
 use Rattle.spec_grammar.proofs.Signs.{lone, lone-sign, op-sign, sign-token, sign-letter, sign-end, word-no-end, end-first, letter-no-end, leading-digit}
 use Rattle.spec_grammar.proofs.Offsets.{two-lone}
 use Rattle.spec_grammar.proofs.Complete.{tokens-ahead}
-use Rattle.spec_print.specs.RuleTexts.{textOf}
+use Rattle.spec_print.specs.RuleTexts.{tokensText}
 
 -- ---- tokens one after the other
 
-pub text-append : (us ws : List (List ℕ)) → textOf (us ++ ws) ≡ textOf us ++ textOf ws
-unfolding textOf
+pub text-append : (us ws : List (List ℕ)) → tokensText (us ++ ws) ≡ tokensText us ++ tokensText ws
+unfolding tokensText
 text-append [] ws = refl
 text-append (u ∷ us) ws = rw (text-append us ws, append-assoc)
 
 -- The text of tokens stands from p to q.
 pub record TextFrom (s : List ℕ) (p : ℕ) (ws : List (List ℕ)) (q : ℕ) : Type 0 where
-  pub stands : starts s p (textOf ws) ≡ true
-  pub end : q ≡ p + length (textOf ws)
+  pub stands : starts s p (tokensText ws) ≡ true
+  pub end : q ≡ p + length (tokensText ws)
 
 module _ {s : List ℕ} {p q : ℕ} where
   -- That of one token,
   from-one : {w : List ℕ} → TextFrom s p (w ∷ []) q → (starts s p w ≡ true) × (p + length w ≡ q)
-  unfolding textOf
+  unfolding tokensText
   from-one {w} t = (starts-both s p w [] (t .stands) .0, omega (arith, t .end, length-append w []))
 
   -- that of a token and those after it,
   from-next : {w : List ℕ} {ws : List (List ℕ)} → TextFrom s p (w ∷ ws) q → (starts s p w ≡ true) × TextFrom s (p + length w) ws q
-  unfolding textOf
+  unfolding tokensText
   from-next {w} {ws} t =
-      let b = starts-both s p w (textOf ws) (t .stands) in
-      (b .0, record { stands = b .1; end = omega (arith, t .end, length-append w (textOf ws)) })
+      let b = starts-both s p w (tokensText ws) (t .stands) in
+      (b .0, record { stands = b .1; end = omega (arith, t .end, length-append w (tokensText ws)) })
 
   -- and that of some and those after them.
   from-parts : (us ws : List (List ℕ)) → TextFrom s p (us ++ ws) q → (m : ℕ) × TextFrom s p us m × TextFrom s m ws q
   from-parts us ws t =
-      let b = starts-both s p (textOf us) (textOf ws) (rw (text-append us ws) at (t .stands)) in
+      let b = starts-both s p (tokensText us) (tokensText ws) (rw (text-append us ws) at (t .stands)) in
       (
-        p + length (textOf us),
+        p + length (tokensText us),
         record { stands = b .0; end = refl },
-        record { stands = b .1; end = omega (arith, t .end, ap length (text-append us ws), length-append (textOf us) (textOf ws)) },
+        record { stands = b .1; end = omega (arith, t .end, ap length (text-append us ws), length-append (tokensText us) (tokensText ws)) },
       )
 
 -- ---- where a token ends
@@ -197,15 +197,15 @@ module _ {s : List ℕ} where
   -- ---- the text of tokens
 
   -- The text that tokens stand in, up to its end, is theirs.
-  pub text-of : {p q : ℕ} (ws : List (List ℕ)) → Tokens s q p ws → q ≤ length s → Standing s p (textOf ws) × (q ≡ p + length (textOf ws))
-  unfolding textOf
+  pub text-of : {p q : ℕ} (ws : List (List ℕ)) → Tokens s q p ws → q ≤ length s → Standing s p (tokensText ws) × (q ≡ p + length (tokensText ws))
+  unfolding tokensText
   text-of {p} {q} [] t l = let e = none-is t in (record { bytes = starts-none s p; inside = omega arith }, omega arith)
   text-of {p} {q} (w ∷ ws) t l =
       let n = next-is t in
       let r = text-of ws (n .1) l in
       let a = tokens-ahead ws (n .1) in
-      (stands-then w (textOf ws) (record { bytes = n .0 .stands; inside = omega arith }) (r .0), omega (arith, r .1, length-append w (textOf ws)))
+      (stands-then w (tokensText ws) (record { bytes = n .0 .stands; inside = omega arith }) (r .0), omega (arith, r .1, length-append w (tokensText ws)))
 
 -- The tokens of a whole text are those of which it is made.
-pub whole-text : {s : List ℕ} {ws : List (List ℕ)} → Tokens s (length s) 0 ws → s ≡ textOf ws
-whole-text {s} {ws} t = let r = text-of ws t (omega arith) in stands-whole s (textOf ws) (r .0) (omega (arith, r .1))
+pub whole-text : {s : List ℕ} {ws : List (List ℕ)} → Tokens s (length s) 0 ws → s ≡ tokensText ws
+whole-text {s} {ws} t = let r = text-of ws t (omega arith) in stands-whole s (tokensText ws) (r .0) (omega (arith, r .1))

@@ -26,18 +26,18 @@ unfoldable pub withRoom : ℕ → List ℕ → Result (List ℕ)
 withRoom room t = pick (leb (length t) mostRuleBytes && leb (length t) room) (λ _. accepted t) (refused 20 0)
 
 -- "17 when the rule number is outside its range."
-abbrev pub ruleText : List (List ℕ) → ℕ → Option Written → Result (List ℕ)
-ruleText names room none = refused 17 0
-ruleText names room (some f) = withRoom room (printed names f)
+abbrev pub printedRule : List (List ℕ) → ℕ → Option Written → Result (List ℕ)
+printedRule names room none = refused 17 0
+printedRule names room (some f) = withRoom room (printed names f)
 
 -- "After the sheet's own."
-abbrev pub sheetText : List ℕ → ℕ → ℕ → Result Contents → Result (List ℕ)
-sheetText s r room (accepted k) = ruleText (namesIn s k) room (ruleAt (k .rules) r)
-sheetText s r room (refused n p) = refused n p
+abbrev pub printedOf : List ℕ → ℕ → ℕ → Result Contents → Result (List ℕ)
+printedOf s r room (accepted k) = printedRule (namesIn s k) room (ruleAt (k .rules) r)
+printedOf s r room (refused n p) = refused n p
 
 -- The text of rule r as it is printed back into a buffer with so much room, or a refusal.
 unfoldable pub printing : List ℕ → ℕ → ℕ → Result (List ℕ)
-printing s r room = sheetText s r room (sheetIn s)
+printing s r room = printedOf s r room (sheetIn s)
 
 -- The answer of it: the text's length.
 abbrev pub lengthOf : Result (List ℕ) → Result ℕ

@@ -63,13 +63,13 @@ abbrev pub tokensIn : List (List ℕ) → Part → Written → List (List ℕ)
 tokensIn names k f = enclosed (needed k f) (tokens names f)
 
 -- The text of tokens: one after the other, with nothing between.
-unfoldable pub textOf : List (List ℕ) → List ℕ
-textOf [] = []
-textOf (w ∷ ws) = w ++ textOf ws
+unfoldable pub tokensText : List (List ℕ) → List ℕ
+tokensText [] = []
+tokensText (w ∷ ws) = w ++ tokensText ws
 
 -- The text of a rule as it is printed back.
 unfoldable pub printed : List (List ℕ) → Written → List ℕ
-printed names f = textOf (tokensIn names formula f)
+printed names f = tokensText (tokensIn names formula f)
 
 -- f is a rule: some text is read as it.
 pub record IsRule (names : List (List ℕ)) (f : Written) : Type 0 where

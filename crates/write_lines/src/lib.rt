@@ -20,7 +20,7 @@ pub fn write_number_line(key: &[u8], n: usize, out: &mut [u8], used: usize) -> u
 }
 
 // The spelling at a place of the text.
-fn write_word(s: &[u8], at: usize, out: &mut [u8], used: usize) -> usize
+pub fn write_word(s: &[u8], at: usize, out: &mut [u8], used: usize) -> usize
     requires { ⌜ Counted used (spellingAt (now s) at) ⌝ }
     ensures { λ r. ⌜ Wrote (spellingAt (now (s .entry)) at) used (now (out .entry)) (now (out .exit)) r ⌝ }
 {
