@@ -7,8 +7,7 @@ use mathlib.Core.Logic.{inl, inr, ⊎-elim}
 use Prim.Native.Nat.{ℕ, _+_, _*_, _/_, _<_, _≤_}
 use native.Mathlib.Decide.{decLt}
 use native.Mathlib.Omega.{arith}
-use lib.ListN.{length, drop}
-use lib.Seq.{sets-eq}
+use lib.ListN.{length}
 use Rattle.spec_tilco.specs.Inference.{Mark}
 use Rattle.spec_tilco.specs.Lists.{All}
 use Rattle.spec_tilco.specs.Table.{ReadMarks}
@@ -19,7 +18,6 @@ use Rattle.sort_numbers.proofs.Ascending.{ascending-first, ascending-rest}
 use Rattle.read_reading.specs.Spans.{Span, marksOfAll}
 use Rattle.read_reading.proofs.SpanMarks.{in-one, one-in}
 use Rattle.read_readings.specs.SpanNumbers.{rowSpans, spanOf}
-use Rattle.write_bytes.specs.Writes.{Wrote}
 use Rattle.spec_moves.specs.InOrder.{Shaped, SameMarks, MovedTo}
 use Rattle.join_spans.specs.Joining.{Ascends, Ascending, moveTo}
 use Rattle.join_spans.proofs.RunSpans.{rank-of}
@@ -84,9 +82,3 @@ module _ {a b : List ℕ} (o : Sorts a b) where
   moves-marks spans c =
       let z = moved-to spans (map spanOf b) (spans-ascend b (o .order)) (can-write c .shaped) in
       record { in-order = z .in-order; same = λ m. (λ i. same-marks m .0 (z .same m .0 i), λ i. z .same m .1 (same-marks m .1 i)) }
-
--- ---- the buffer
-
--- A text written from the first place on, where there is room for it: the rest of the buffer stays.
-pub in-front : {t O U : List ℕ} {u : ℕ} → Wrote t 0 O U u → length t ≤ length O → U ≡ t ++ drop (length t) O
-in-front {t} {O} w h = let z : 0 + length t ≡ length t = omega arith in w .holds ∙ sets-eq t O 0 (omega arith) ∙ rw z

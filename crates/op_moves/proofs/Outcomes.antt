@@ -13,6 +13,7 @@ use Rattle.spec_tilco.specs.Lists.{All}
 use Rattle.sort_numbers.specs.Sorts.{Sorts}
 use Rattle.read_bytes.specs.Read.Read.{got, refused as unread}
 use Rattle.write_bytes.specs.Writes.{Wrote, Counted}
+use Rattle.write_bytes.proofs.Writing.{in-front}
 use Rattle.read_names.specs.Spellings.{namesAt}
 use Rattle.read_names.proofs.Names.{names-many}
 use Rattle.read_head.proofs.DeclaredNames.{head-names}
@@ -35,7 +36,7 @@ use Rattle.op_moves.specs.Measures.{Measures}
 use Rattle.op_moves.specs.MovedText.{movedText, CanWrite, WritesMoved}
 use Rattle.op_moves.specs.MovedText.WritesMoved.{no-room as too-large, written}
 use Rattle.op_moves.specs.MovingSays.{Opened}
-use Rattle.op_moves.proofs.Noted.{moves-marks, in-front}
+use Rattle.op_moves.proofs.Noted.{moves-marks}
 
 -- ---- the text
 

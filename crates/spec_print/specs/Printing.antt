@@ -49,7 +49,11 @@ abbrev pub leftOf : Result (List ℕ) → List ℕ → List ℕ
 leftOf (accepted t) O = t ++ drop (length t) O
 leftOf (refused n p) O = O
 
--- What printing rule r promises.
-pub record Prints (s : List ℕ) (r : ℕ) (O O′ : List ℕ) (a : Result ℕ) : Type 0 where
-  pub answer : a ≡ lengthOf (printing s r (length O))
-  pub leaves : O′ ≡ leftOf (printing s r (length O)) O
+-- What is promised where R is to be printed: its answer, and the buffer after it.
+pub record Gives (R : Result (List ℕ)) (O O′ : List ℕ) (a : Result ℕ) : Type 0 where
+  pub answer : a ≡ lengthOf R
+  pub leaves : O′ ≡ leftOf R O
+
+-- What printing rule r of a sheet promises.
+abbrev pub Prints : List ℕ → ℕ → List ℕ → List ℕ → Result ℕ → Type 0
+Prints s r O O′ a = Gives (printing s r (length O)) O O′ a

@@ -5,8 +5,8 @@ use mathlib.Core.List.{List, [], _∷_, _++_}
 use Prim.Native.Nat.{ℕ, suc, _+_, _≤_}
 use native.Mathlib.Nat.{add-zero, add-suc, suc-add}
 use native.Mathlib.Omega.{arith}
-use lib.ListN.{length, set, length-append}
-use lib.Seq.{sets, length-sets, set-out}
+use lib.ListN.{length, set, drop, length-append}
+use lib.Seq.{sets, length-sets, sets-eq, set-out}
 use Rattle.write_bytes.specs.Writes.{Wrote, Counted}
 
 -- Two runs of stores are one.
@@ -40,6 +40,10 @@ and-then {ws} {vs} {b} {m} h k = record {
   next = omega (arith, length-append ws vs);
   holds = k .holds ∙ rw (h .holds, h .next) (sets-append m b ws vs);
 }
+
+-- A text written from the first place on, where there is room for it: the rest of the buffer stays.
+pub in-front : {t O U : List ℕ} {u : ℕ} → Wrote t 0 O U u → length t ≤ length O → U ≡ t ++ drop (length t) O
+in-front {t} {O} w h = let z : 0 + length t ≡ length t = omega arith in w .holds ∙ sets-eq t O 0 (omega arith) ∙ rw z
 
 -- What can be counted can be in another form, its first part can be, and what follows that.
 pub counted-like : {ws vs : List ℕ} {b : ℕ} → Counted b ws → ws ≡ vs → Counted b vs

@@ -1,0 +1,4 @@
+-- The laws, one idea a file.
+pub mod Rooms
+pub mod RulesFound
+pub mod Outcomes

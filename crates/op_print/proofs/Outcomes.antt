@@ -1,0 +1,211 @@
+-- A rule that is read from its line can be printed; and each answer of printing the rule with a number.
+-- Assumes nothing. `s` is the sheet's text.
+use mathlib.Core.Path.{_≡_, refl, sym, ap, subst, _∙_}
+use mathlib.Core.Bool.{Bool, true, false}
+use mathlib.Core.List.{List}
+use Prim.Native.Nat.{ℕ, _+_, _-_, _*_, _<_, _≤_}
+use native.Mathlib.Decide.{decLe}
+use native.Mathlib.Omega.{arith}
+use borrow.Author.Tests.{leb-true}
+use lib.Dec.{leb, eqb}
+use lib.ListN.{length, take, drop, length-drop}
+use lib.Seq.{length-take-le}
+use Rattle.spec_limits.specs.Limits.{mostBytes, mostRules, mostRuleBytes, mostSignals}
+use Rattle.read_bytes.specs.Read.{Read, andThen}
+use Rattle.read_bytes.specs.Read.Read.{got, refused as unread}
+use Rattle.read_bytes.specs.Bytes.{bytes, pick, between}
+use Rattle.read_bytes.proofs.Answers.{not-both, same-value, through, came}
+use Rattle.read_bytes.proofs.Tests.{between-is}
+use Rattle.read_names.specs.Spellings.{namesAt}
+use Rattle.read_names.proofs.Names.{names-many}
+use Rattle.read_index.specs.Index.{links, indexNumbers, nameCount, placesIn, namesIn, firstNames}
+use Rattle.read_lines.specs.Lines.{line}
+use Rattle.read_lines.proofs.KeyedLines.{placed}
+use Rattle.read_lines.proofs.Stays.{stays-got}
+use Rattle.spec_tilco.specs.Formula.{Written, Named}
+use Rattle.read_arena.specs.NodeRules.{writtenAt, Arena}
+use Rattle.read_parts.specs.FormulaText.{rule}
+use Rattle.read_head.specs.declared.Heading.{Heading}
+use Rattle.read_head.specs.declared.Heading.the-variants as heading
+use Rattle.read_head.specs.SheetHead.{Head, head, firstPlaces, Headed}
+use Rattle.read_sheet.specs.Sheet.{Contents, contents, ruleTo, ruleLine, rules, atEnd, sheetOf}
+use Rattle.read_sheet.specs.RuleAnswers.{RuleHeld}
+use Rattle.read_sheet.proofs.Formulas.{rule-reads}
+use Rattle.read_sheet.proofs.Wholes.{sheet-long, refused-head}
+use Rattle.read_sheet.proofs.Answers.{when-headed, when-no-head}
+use Rattle.read_sheet.proofs.Ruled.{rules-many}
+use Rattle.read_head.proofs.Heads.{head-past}
+use Rattle.read_head.proofs.Signals.{up-to}
+use Rattle.open_sheet.specs.Results.{Result, accepted, refused}
+use Rattle.open_sheet.specs.SheetIn.{sheetIn}
+use Rattle.open_sheet.proofs.Sheets.{in-refused}
+use Rattle.open_table.proofs.Tables.{in-sheet, accepted-refused}
+use Rattle.spec_operations.specs.Operations.{counted, checked}
+use Rattle.op_check.specs.declared.Checking.{Checking}
+use Rattle.op_check.specs.declared.Checking.the-variants as checking
+use Rattle.op_check.specs.CheckingSays.{checkingSays}
+use Rattle.spec_print.specs.RuleTexts.{printed, IsRule}
+use Rattle.spec_print.specs.Printing.{withRoom, printedRule, printedOf, printing, ruleAt, Gives, Prints}
+use Rattle.spec_print.proofs.ReadBack.{at-most-twice}
+use Rattle.write_formula.specs.PartTexts.{NamedNode}
+use Rattle.op_print.specs.RuleLines.{lineOf, printedLine, LineAt, Accepted}
+use Rattle.op_print.proofs.Rooms.{gives-refused}
+use Rattle.op_print.proofs.RulesFound.{rule-past-all, Found, found}
+
+-- ---- a rule that is read from its line
+
+-- Its names are declared, and its text is at most twice as long as a rule.
+pub record Printable (names : List (List ℕ)) (f : Written) : Type 0 where
+  pub is-rule : IsRule names f
+  pub named : Named (length names) f
+  pub short : length (printed names f) ≤ 2 * mostRuleBytes
+
+module _ (names : List (List ℕ)) (s : List ℕ) where
+  rule-printable : (v e : ℕ) {f : Written} {q : ℕ} → v ≤ e → e < length s → ruleTo names s v e ≡ got f q → Printable names f
+  unfolding ruleTo
+  rule-printable v e {f} {q} o i x = go (between 1 mostRuleBytes (e - v)) refl x
+    where
+      go : (b : Bool) → between 1 mostRuleBytes (e - v) ≡ b → pick b (λ _. andThen (rule names (take e s) v) (λ w y. got w (e + 1))) (unread 5 v) ≡ got f q → Printable names f
+      go true h y =
+          let d = came (rule names (take e s) v) _ y in
+          let r : rule names (take e s) v ≡ got f (d .place) = d .first ∙ ap (λ (w : Written). got w (d .place)) (same-value (d .then)) in
+          let l : length (take e s) ≡ e = length-take-le e s (omega arith) in
+          let m = between-is 1 mostRuleBytes (e - v) h in
+          record {
+            is-rule = record { text = take e s; place = v; end = d .place; reads = r };
+            named = stays-got _ (length (take e s)) (rule-reads names (take e s) v (omega arith)) r .0 .0;
+            short = omega (arith, at-most-twice names (take e s) v r, m .1);
+          }
+      go false h y = absurd (not-both (sym y))
+
+  pub line-printable : (p : ℕ) {f : Written} {q : ℕ} → ruleLine names s p ≡ got f q → Printable names f
+  unfolding ruleLine
+  line-printable p x =
+      let d = came (line s p (bytes "rule=") 2) _ x in
+      let y = placed s p (bytes "rule=") 2 (d .first) in
+      rule-printable (d .value) (d .place) (y .order) (y .inside) (d .then)
+
+-- The rule stands at the last node of the arena.
+module _ (s T : List ℕ) (p : ℕ) {a : List ℕ} {h q u h′ : ℕ} (x : RuleHeld a h (ruleLine (namesIn s T) s p) q u h′) where
+  pub node-named : NamedNode T a (u - 1)
+  node-named =
+      let m = line-printable (namesIn s T) s p (x .reads) .named in
+      let c : length (namesIn s T) ≡ nameCount T = names-many s (placesIn T) ∙ length-drop links T in
+      let z : u ≡ u - 1 + 1 = omega (arith, x .some) in
+      record {
+        stands = subst (λ n. Arena n a) z (x .arena);
+        named = subst (λ n. Named n (writtenAt a (u - 1))) c (subst (Named (length (namesIn s T))) (sym (x .held .text)) m);
+      }
+
+  pub node-short : length (printed (namesIn s T) (writtenAt a (u - 1))) ≤ 2 * mostRuleBytes
+  node-short = rw (x .held .text) (line-printable (namesIn s T) s p (x .reads) .short)
+
+  pub gives-rule : {O U : List ℕ} {r : Result ℕ} → Gives (withRoom (length O) (printed (namesIn s T) (writtenAt a (u - 1)))) O U r → Gives (printedLine (namesIn s T) (length O) (ruleLine (namesIn s T) s p)) O U r
+  gives-rule {O} {U} {r} g =
+      subst (λ R. Gives (printedLine (namesIn s T) (length O) R) O U r) (sym (x .reads))
+      (subst (λ f. Gives (withRoom (length O) (printed (namesIn s T) f)) O U r) (x .held .text) g)
+
+-- ---- the rule with a number
+
+-- An accepted sheet's rules are read after its head.
+after-head : (s : List ℕ) {k : Contents} {q : ℕ} {h : Head} {p : ℕ} → sheetOf s ≡ got k q → head s ≡ got h p
+    → (h .places ≡ k .places) × (x : ℕ) × (rules (namesAt s (h .places)) s (h .count) p ≡ got (k .rules) x)
+unfolding sheetOf
+after-head s {k} {q} {h} {p} e f = go (leb (length s) mostBytes) (rw f at e)
+  where
+    go : (b : Bool) → pick b (λ _. andThen (rules (namesAt s (h .places)) s (h .count) p) (λ ws x. atEnd s (contents (h .window) (h .places) ws) x)) (unread 1 0) ≡ got k q
+        → (h .places ≡ k .places) × (x : ℕ) × (rules (namesAt s (h .places)) s (h .count) p ≡ got (k .rules) x)
+    go true y =
+        let d = came (rules (namesAt s (h .places)) s (h .count) p) _ y in
+        let g = through (eqb (d .place) (length s)) (contents (h .window) (h .places) (d .value)) (d .place) 2 (d .place) (d .then) .1 in
+        (ap (λ (c : Contents). c .places) g, d .place, d .first ∙ ap (λ (c : Contents). got (c .rules) (d .place)) g)
+    go false y = absurd (not-both (sym y))
+
+module _ (s : List ℕ) {k : Contents} (e : sheetIn s ≡ accepted k) where
+  -- Its head is accepted,
+  pub head-accepted : {n p : ℕ} → length s ≤ mostBytes → head s ≡ unread n p → ⊥
+  head-accepted l f = accepted-refused (sym e ∙ in-refused s (refused-head s l f))
+
+  module _ {h : Head} {p : ℕ} (f : head s ≡ got h p) where
+    abbrev names : List (List ℕ)
+    names = namesAt s (h .places)
+
+    read-after : (h .places ≡ k .places) × (x : ℕ) × (rules names s (h .count) p ≡ got (k .rules) x)
+    read-after = after-head s (in-sheet s e .reads) f
+
+    printing-is : (r room : ℕ) → printing s r room ≡ printedRule names room (ruleAt (k .rules) r)
+    unfolding printing
+    printing-is r room = rw e (ap (λ ps. printedRule (namesAt s ps) room (ruleAt (k .rules) r)) (sym (read-after .0)))
+
+    -- there is no rule with a number past the last,
+    pub no-rule : {r : ℕ} → h .count ≤ r → (room : ℕ) → printing s r room ≡ refused 17 0
+    no-rule {r} l room =
+        let m = rules-many names s (h .count) p (head-past s f .inside) (read-after .2) in
+        printing-is r room ∙ ap (printedRule names room) (rule-past-all (k .rules) r (omega arith))
+
+    -- and any other is read from its line.
+    pub rule-found : {r : ℕ} → r < h .count → Found names s p r (ruleAt (k .rules) r)
+    rule-found {r} l = found names s (h .count) p (head-past s f .inside) (read-after .2) r l
+
+    pub rule-printed : {r : ℕ} → r < h .count → (room : ℕ) → printing s r room ≡ printedLine names room (ruleLine names s (lineOf s r p))
+    rule-printed {r} l room =
+        let x = rule-found l in
+        printing-is r room ∙ ap (printedRule names room) (x .is-rule) ∙ ap (printedLine names room) (sym (x .reads))
+
+-- A refused sheet.
+pub sheet-refused : (s : List ℕ) {n p : ℕ} → sheetIn s ≡ refused n p → (r room : ℕ) → printing s r room ≡ refused n p
+unfolding printing
+sheet-refused s e r room = ap (printedOf s r room) e
+
+-- ---- what each step of the operation owes
+
+-- What check answers of a sheet.
+of-count : (R : Result Contents) {n : ℕ} → counted R ≡ accepted n → (k : Contents) × (R ≡ accepted k)
+of-count (accepted k) e = (k, refl)
+of-count (refused n p) e = absurd (accepted-refused (sym e))
+
+of-refusal : (R : Result Contents) {n p : ℕ} → counted R ≡ refused n p → R ≡ refused n p
+of-refusal (accepted k) e = absurd (accepted-refused e)
+of-refusal (refused n p) e = cc
+
+module _ (s : List ℕ) {c : Checking} (says : checkingSays c ≡ checked s) where
+  pub is-accepted : {n : ℕ} → c ≡ checking.Rows n → Accepted s
+  is-accepted e = let x = of-count (sheetIn s) (sym says ∙ ap checkingSays e) in record { contents = x .0; sheet = x .1 }
+
+  pub is-refused : {n p : ℕ} → c ≡ checking.Refused n p → sheetIn s ≡ refused n p
+  is-refused e = of-refusal (sheetIn s) (sym says ∙ ap checkingSays e)
+
+-- An accepted sheet is not too long.
+pub short-enough : {s : List ℕ} → Accepted s → length s ≤ mostBytes
+short-enough {s} a = go (decLe (length s) mostBytes)
+  where
+    go : Dec (length s ≤ mostBytes) → length s ≤ mostBytes
+    go (yes l) = l
+    go (no l) = absurd (accepted-refused (sym (a .sheet) ∙ in-refused s (sheet-long s (omega arith))))
+
+-- The head was read, with n names in the index T, m rules, and the first one's line at p.
+module _ {s T : List ℕ} (x : Accepted s) {r : Heading} {w n m p : ℕ} (y : Headed s T r) (e : r ≡ heading.Lines w n m p) where
+  pub few-rules : (p ≤ length s) × (m ≤ mostRules)
+  few-rules = let h = when-headed y e in (head-past s (h .0) .inside, h .1 .rules-high)
+
+  pub few-names : (length T ≡ indexNumbers) × (n ≤ mostSignals)
+  few-names = let h = when-headed y e in (h .2 .room, h .2 .few)
+
+  pub past-last : {i : ℕ} → m ≤ i → (O : List ℕ) → Prints s i O O (refused 17 0)
+  past-last l O = gives-refused (no-rule s (x .sheet) (when-headed y e .0) l (length O)) O
+
+  module _ {i at : ℕ} (l : i < m) (is-line : at ≡ lineOf s i p) where
+    pub line-ready : LineAt s (firstNames n T) at
+    line-ready =
+        let h = when-headed y e in
+        let f = rule-found s (x .sheet) (h .0) l in
+        rw is-line (record { within = f .inside; before = up-to (f .ahead) (firstPlaces n T) (head-past s (h .0) .before); index = h .2 .index })
+
+    pub gives-line : {O U : List ℕ} {a : Result ℕ} → Gives (printedLine (namesIn s (firstNames n T)) (length O) (ruleLine (namesIn s (firstNames n T)) s at)) O U a → Prints s i O U a
+    gives-line {O} {U} {a} g =
+        subst (λ R. Gives R O U a)
+        (ap (λ z. printedLine (namesIn s (firstNames n T)) (length O) (ruleLine (namesIn s (firstNames n T)) s z)) is-line ∙ sym (rule-printed s (x .sheet) (when-headed y e .0) l (length O))) g
+
+-- The head of an accepted sheet is not refused.
+pub no-head : {s T : List ℕ} {r : Heading} {k q : ℕ} → Accepted s → Headed s T r → r ≡ heading.Refused k q → ⊥
+no-head {s} x y e = head-accepted s (x .sheet) (short-enough x) (when-no-head y e)

@@ -1,0 +1,116 @@
+// print_rule: a rule's text as it was understood, or a refusal. Assumes nothing.
+use op_check::Checking;
+use op_check::check;
+use read_head::Heading;
+use read_head::head;
+use read_index::INDEX;
+use read_index::LINKS;
+use read_lines::line_end;
+use read_parts::parts::Parsed;
+use read_sheet::rules::rule_line;
+use spec_limits::ARENA;
+use spec_limits::RULE_BYTES;
+use write_bytes::push_text;
+use write_formula::write_formula;
+ghost use mathlib.Core.Path.{_≡_};
+ghost use Prim.Native.Nat.{_*_, _≤_};
+ghost use lib.ListN.{length};
+ghost use Rattle.spec_limits.specs.Limits.{mostBytes, mostRules, mostRuleBytes};
+ghost use Rattle.read_names.specs.Slices.{before, after};
+ghost use Rattle.read_index.specs.Index.{namesIn};
+ghost use Rattle.read_arena.specs.NodeRules.{writtenAt};
+ghost use Rattle.read_sheet.specs.Sheet.{ruleLine};
+ghost use Rattle.spec_print.specs.RuleTexts.{printed};
+ghost use Rattle.spec_print.specs.Printing.{withRoom, Gives, Prints};
+ghost use Rattle.write_formula.specs.PartTexts.{NamedNode};
+ghost use Rattle.op_print.specs.PrintingSays.{printingSays};
+ghost use Rattle.op_print.specs.RuleLines.{lineOf, printedLine, LineAt, Accepted};
+
+// How long the printed text is, or a refusal's number and place.
+pub enum Printing {
+    Written(usize),
+    Refused(usize, usize),
+}
+
+// How many bytes `rule=` has.
+const KEY: usize = 5;
+
+// The place of the line of a rule, where that of the first one is `first`.
+fn line_of(s: &[u8], rule: usize, first: usize) -> usize
+    requires { ⌜ (first ≤ length (now s)) × (length (now s) ≤ mostBytes) × (rule ≤ mostRules) ⌝ }
+    ensures { λ r. ⌜ r ≡ lineOf (before s) rule first ⌝ }
+{
+    let mut left = rule;
+    let mut at = first;
+    while 0 < left {
+        at = line_end(s, at + KEY) + 1;
+        left -= 1;
+    }
+    at
+}
+
+// Prints the rule at a node of the arena. It is written into a buffer of its own first, so that a refusal leaves `out` as it is.
+fn print_node(s: &[u8], names: &[u16], arena: &[u16], node: usize, out: &mut [u8]) -> Printing
+    requires { ⌜ NamedNode (now names) (now arena) node ⌝ }
+    requires { ⌜ length (printed (namesIn (now s) (now names)) (writtenAt (now arena) node)) ≤ 2 * mostRuleBytes ⌝ }
+    ensures { λ r. ⌜ Gives (withRoom (length (before out)) (printed (namesIn (before s) (before names)) (writtenAt (before arena) node))) (before out) (after out) (printingSays r) ⌝ }
+{
+    let mut text = [0u8; RULE_BYTES];
+    let length = write_formula(s, names, arena, node, &mut text, 0);
+    if RULE_BYTES < length {
+        return Printing::Refused(20, 0);
+    }
+    if out.len() < length {
+        return Printing::Refused(20, 0);
+    }
+    push_text(&text[..length], out, 0);
+    Printing::Written(length)
+}
+
+// Reads the rule whose line is at `at`, and prints it.
+fn print_line(s: &[u8], names: &[u16], at: usize, out: &mut [u8]) -> Printing
+    requires { ⌜ LineAt (now s) (now names) at ⌝ }
+    ensures { λ r. ⌜ Gives (printedLine (namesIn (before s) (before names)) (length (before out)) (ruleLine (namesIn (before s) (before names)) (before s) at)) (before out) (after out) (printingSays r) ⌝ }
+{
+    let mut arena = [0u16; ARENA];
+    let r = rule_line(s, names, &mut arena, at, 0);
+    match r {
+        Parsed::Got(_, nodes, _) => print_node(s, names, &arena, nodes - 1, out),
+        Parsed::Refused(n, p) => Printing::Refused(n, p),
+    }
+}
+
+// Finds the rule in an accepted sheet, and prints it.
+fn print_checked(s: &[u8], rule: usize, out: &mut [u8]) -> Printing
+    requires { ⌜ Accepted (now s) ⌝ }
+    ensures { λ r. ⌜ Prints (before s) rule (before out) (after out) (printingSays r) ⌝ }
+{
+    let mut names = [0u16; INDEX];
+    let h = head(s, &mut names);
+    match h {
+        Heading::Lines {
+            window: _,
+            signals,
+            rules,
+            first,
+        } => {
+            if rules <= rule {
+                return Printing::Refused(17, 0);
+            }
+            let at = line_of(s, rule, first);
+            print_line(s, &names[..LINKS + signals], at, out)
+        }
+        Heading::Refused(n, p) => Printing::Refused(n, p),
+    }
+}
+
+// Prints a rule back.
+pub fn print_rule(s: &[u8], rule: usize, out: &mut [u8]) -> Printing
+    ensures { λ r. ⌜ Prints (before s) rule (before out) (after out) (printingSays r) ⌝ }
+{
+    let c = check(s);
+    match c {
+        Checking::Rows(_) => print_checked(s, rule, out),
+        Checking::Refused(n, p) => Printing::Refused(n, p),
+    }
+}
