@@ -1,15 +1,15 @@
 // The moves between readings and spans, into a lent buffer, and the text that stands there then. Assumes nothing.
 use crate::answers::Answer;
-use op_moves::moves::Moving;
 use op_moves::moves::to_readings;
 use op_moves::moves::to_spans;
 use run_cases::print;
+use spec_operations::Writing;
 
 // A move's answer as a run's.
-fn moved(m: Moving) -> Answer {
+fn moved(m: Writing) -> Answer {
     match m {
-        Moving::Written(n) => Answer::Written(n),
-        Moving::Refused(n, p) => Answer::Refused(n, p),
+        Writing::Written(n) => Answer::Written(n),
+        Writing::Refused(n, p) => Answer::Refused(n, p),
     }
 }
 

@@ -1,13 +1,18 @@
 -- A call answers 0 exactly if it is accepted: every refusal has a number from 1 to 21.
 -- Assumes nothing.
 use mathlib.Core.Path.{_≡_, refl, sym, subst}
-use mathlib.Core.Bool.{Bool, true, false}
+use mathlib.Core.Bool.{Bool, true, false, _&&_}
 use mathlib.Core.List.{List, []}
 use mathlib.Core.Logic.{_↔_}
+use mathlib.Core.Option.{Option, none, some}
 use Prim.Native.Nat.{ℕ}
+use lib.Dec.{leb}
+use lib.ListN.{length}
+use Rattle.spec_limits.specs.Limits.{mostRuleBytes}
 use Rattle.read_bytes.specs.Read.{Read}
 use Rattle.read_bytes.specs.Read.Read.{got, refused as unread}
 use Rattle.read_bytes.specs.Bytes.{pick}
+use Rattle.spec_tilco.specs.Formula.{Written}
 use Rattle.spec_tilco.specs.Table.{Answer}
 use Rattle.read_sheet.specs.Sheet.{Contents, sheetOf, meant}
 use Rattle.open_sheet.specs.Results.{Result, accepted, refused}
@@ -20,11 +25,13 @@ use Rattle.spec_operations.specs.Operations.Adds.{not-opened, not-read, added}
 use Rattle.spec_operations.specs.Operations.Asks.{not-opened as not-asked, out-of-range, asked}
 use Rattle.spec_moves.specs.Moves.{Moves}
 use Rattle.spec_moves.specs.Moves.Moves.{not-opened as no-sheet, not-read as no-readings, no-room, moved}
+use Rattle.spec_print.specs.RuleTexts.{printed}
+use Rattle.spec_print.specs.Printing.{withRoom, printedRule, printedOf, ruleAt, printing, lengthOf, Prints}
 use Rattle.spec_figures.specs.declared.Record.{Record}
 use Rattle.spec_figures.specs.Texts.{textsIn}
 use Rattle.spec_figures.specs.Figures.{Figures}
 use Rattle.spec_figures.specs.Figures.Figures.{not-opened as unopened, not-the-table, not-the-records, not-the-lengths, not-read as no-texts, figured}
-use Rattle.c_api.specs.Leaves.{Left, left, leaves, oneValue, gainValues, answerValues, noValues, CheckLeaves, AddLeaves, AskLeaves, MoveLeaves, FigureLeaves}
+use Rattle.c_api.specs.Leaves.{Left, left, leaves, oneValue, gainValues, answerValues, noValues, CheckLeaves, AddLeaves, AskLeaves, MoveLeaves, PrintLeaves, FigureLeaves}
 use Rattle.c_api.proofs.Numbers.{Listed, Numbered, sheet-numbered, readings-numbered, texts-numbered}
 
 -- Accepted, or refused by a listed number.
@@ -53,6 +60,10 @@ sized-told (unread n p) h = h
 counted-told : (R : Result Contents) → Told R → Told (counted R)
 counted-told (accepted k) h = tt
 counted-told (refused n p) h = h
+
+length-told : (R : Result (List ℕ)) → Told R → Told (lengthOf R)
+length-told (accepted t) h = tt
+length-told (refused n p) h = h
 
 module _ (s : List ℕ) where
   sheet-told : Told (sheetIn s)
@@ -84,6 +95,26 @@ module _ (s : List ℕ) where
   move-told (no-room w h u) = tt
   move-told (moved w h l u) = tt
 
+  room-told : (room : ℕ) (t : List ℕ) → Told (withRoom room t)
+  unfolding withRoom
+  room-told room t = go (leb (length t) mostRuleBytes && leb (length t) room)
+    where
+      go : (b : Bool) → Told (pick b (λ _. accepted t) (refused 20 0))
+      go true = tt
+      go false = tt
+
+  rule-told : (names : List (List ℕ)) (room : ℕ) (o : Option Written) → Told (printedRule names room o)
+  rule-told names room none = tt
+  rule-told names room (some f) = room-told room (printed names f)
+
+  printed-told : (rule room : ℕ) (R : Result Contents) → Told R → Told (lengthOf (printedOf s rule room R))
+  printed-told rule room (accepted k) h = length-told (printedRule (namesIn s k) room (ruleAt (k .rules) rule)) (rule-told (namesIn s k) room (ruleAt (k .rules) rule))
+  printed-told rule room (refused n p) h = h
+
+  pub print-told : (rule : ℕ) {O O′ : List ℕ} {x : Result ℕ} → Prints s rule O O′ x → Told x
+  unfolding printing
+  print-told rule {O} a = subst Told (sym (a .answer)) (printed-told rule (length O) (sheetIn s) sheet-told)
+
   pub figure-told : {j ns T U : List ℕ} {m : ℕ} {x : Result (List Record)} → Figures s j ns T U m x → Told x
   figure-told (unopened e u) = subst Told e sheet-told
   figure-told (not-the-table e l u) = tt
@@ -110,6 +141,9 @@ module _ (s : List ℕ) (place : ℕ) (before : List ℕ) {l : Left} where
 
   pub move-zero : {spans : Bool} {r O O′ : List ℕ} (c : MoveLeaves spans s r O O′ place before l) → (answerOf l ≡ 0) ↔ Accepted (c .0)
   move-zero (x, a, e) = subst (λ (k : Left). (answerOf k ≡ 0) ↔ Accepted x) (sym e) (zero-tells oneValue place before x (move-told s a))
+
+  pub print-zero : (rule : ℕ) {O O′ : List ℕ} (c : PrintLeaves s rule O O′ place before l) → (answerOf l ≡ 0) ↔ Accepted (c .0)
+  print-zero rule (x, a, e) = subst (λ (k : Left). (answerOf k ≡ 0) ↔ Accepted x) (sym e) (zero-tells oneValue place before x (print-told s rule a))
 
   pub figure-zero : {j ns T U : List ℕ} {X X′ : List Record} (c : FigureLeaves s j ns T U X X′ place l) → (answerOf l ≡ 0) ↔ Accepted (c .0)
   figure-zero (x, a, f, e) = subst (λ (k : Left). (answerOf k ≡ 0) ↔ Accepted x) (sym e) (zero-tells noValues place [] x (figure-told s a))

@@ -1,4 +1,4 @@
--- Any two outcomes allowed for one call coincide: what check, add, ask, the moves and figures leave, add's table, a move's buffer, and the work table and the records of figures.
+-- Any two outcomes allowed for one call coincide: what check, add, ask, the moves, printing a rule and figures leave, add's table, the buffer of a text, and the work table and the records of figures.
 -- Assumes nothing.
 use mathlib.Core.Path.{_≡_, sym, ap, _∙_}
 use mathlib.Core.Bool.{Bool}
@@ -6,10 +6,11 @@ use mathlib.Core.List.{List, []}
 use Prim.Native.Nat.{ℕ}
 use Rattle.spec_operations.proofs.Determined.{adds-one, asks-one}
 use Rattle.spec_moves.proofs.Determined.{moves-one}
+use Rattle.spec_print.proofs.Determined.{prints-one}
 use Rattle.spec_figures.specs.declared.Record.{Record}
 use Rattle.spec_figures.proofs.Determined.{figures-one}
 use Rattle.op_figures.specs.Reports.{recordsAfter}
-use Rattle.c_api.specs.Leaves.{Left, leaves, oneValue, gainValues, answerValues, noValues, CheckLeaves, AddLeaves, AskLeaves, MoveLeaves, FigureLeaves}
+use Rattle.c_api.specs.Leaves.{Left, leaves, oneValue, gainValues, answerValues, noValues, CheckLeaves, AddLeaves, AskLeaves, MoveLeaves, PrintLeaves, FigureLeaves}
 
 module _ (s : List ℕ) (place : ℕ) (before : List ℕ) {l l′ : Left} where
   pub check-leaves-one : CheckLeaves s place before l → CheckLeaves s place before l′ → l ≡ l′
@@ -23,6 +24,9 @@ module _ (s : List ℕ) (place : ℕ) (before : List ℕ) {l l′ : Left} where
 
   pub move-leaves-one : {spans : Bool} {r O O′ O″ : List ℕ} → MoveLeaves spans s r O O′ place before l → MoveLeaves spans s r O O″ place before l′ → (O′ ≡ O″) × (l ≡ l′)
   move-leaves-one (x, a, e) (y, b, f) = let o = moves-one a b in (o .0, e ∙ ap (leaves oneValue place before) (o .1) ∙ sym f)
+
+  pub print-leaves-one : (rule : ℕ) {O O′ O″ : List ℕ} → PrintLeaves s rule O O′ place before l → PrintLeaves s rule O O″ place before l′ → (O′ ≡ O″) × (l ≡ l′)
+  print-leaves-one rule (x, a, e) (y, b, f) = let o = prints-one s rule a b in (o .0, e ∙ ap (leaves oneValue place before) (o .1) ∙ sym f)
 
   pub figure-leaves-one : {j ns T U U′ : List ℕ} {X X′ X″ : List Record} → FigureLeaves s j ns T U X X′ place l → FigureLeaves s j ns T U′ X X″ place l′ → (U ≡ U′) × (X′ ≡ X″) × (l ≡ l′)
   figure-leaves-one {X = X} (x, a, g, e) (y, b, h, f) =

@@ -10,6 +10,7 @@ use Rattle.open_sheet.specs.Results.{Result, accepted, refused}
 use Rattle.spec_operations.specs.Gain.{Gain, gain}
 use Rattle.spec_operations.specs.Operations.{checked, Adds, Asks}
 use Rattle.spec_moves.specs.Moves.{Moves}
+use Rattle.spec_print.specs.Printing.{Prints}
 use Rattle.spec_figures.specs.declared.Record.{Record}
 use Rattle.spec_figures.specs.Figures.{Figures}
 use Rattle.op_figures.specs.Reports.{recordsAfter}
@@ -23,7 +24,7 @@ abbrev pub leaves : {A : Type 0} → (A → List ℕ) → ℕ → List ℕ → R
 leaves values place before (accepted x) = left 0 place (values x)
 leaves values place before (refused n p) = left n p before
 
--- What check writes, the row count, and what a move writes, the text's length.
+-- What check writes, the row count, and what a move or printing a rule writes, the text's length.
 abbrev pub oneValue : ℕ → List ℕ
 oneValue n = n ∷ []
 
@@ -54,6 +55,10 @@ AskLeaves s T signal tick place before l = (x : Result Answer) × Asks s T signa
 -- A call of a move, to spans or back to single readings: O is the buffer before, O′ after.
 abbrev pub MoveLeaves : Bool → List ℕ → List ℕ → List ℕ → List ℕ → ℕ → List ℕ → Left → Type 0
 MoveLeaves spans s r O O′ place before l = (x : Result ℕ) × Moves spans s r O O′ x × (l ≡ leaves oneValue place before x)
+
+-- A call that prints a rule back: O is the buffer before, O′ after.
+abbrev pub PrintLeaves : List ℕ → ℕ → List ℕ → List ℕ → ℕ → List ℕ → Left → Type 0
+PrintLeaves s rule O O′ place before l = (x : Result ℕ) × Prints s rule O O′ x × (l ≡ leaves oneValue place before x)
 
 -- What figures writes besides the records: nothing.
 abbrev pub noValues : List Record → List ℕ

@@ -1,4 +1,4 @@
-// check, add, ask, the two moves and figures for C and for languages that call C; include/mikhakun.h declares them. They assume nothing of the texts, the tables, the buffers and the numbers.
+// check, add, ask, the two moves, printing a rule and figures for C and for languages that call C; include/mikhakun.h declares them. They assume nothing of the texts, the tables, the buffers and the numbers.
 // A caller lends memory of the length given behind each pointer, and no two of one call overlap.
 use op_add::Adding;
 use op_add::add;
@@ -7,11 +7,12 @@ use op_ask::ask;
 use op_check::Checking;
 use op_check::check;
 use op_figures::figures;
-use op_moves::moves::Moving;
 use op_moves::moves::to_readings;
 use op_moves::moves::to_spans;
+use op_print::print_rule;
 use read_readings::whole::Outcome;
 use spec_figures::Record;
+use spec_operations::Writing;
 use table_marks::Value;
 ghost use mathlib.Core.Path.{_≡_};
 ghost use mathlib.Core.Bool.{true, false};
@@ -20,8 +21,8 @@ ghost use Rattle.open_sheet.specs.Results.{Result};
 ghost use Rattle.spec_figures.specs.declared.Record.{Record};
 ghost use Rattle.figure_runs.specs.FigureWords.{outcomeOf};
 ghost use Rattle.table_marks.specs.Values.{valueSays};
-ghost use Rattle.op_moves.specs.MovingSays.{movingSays};
-ghost use Rattle.c_api.specs.Leaves.{left, leaves, oneValue, answerValues, CheckLeaves, AddLeaves, AskLeaves, MoveLeaves, noValues, FigureLeaves};
+ghost use Rattle.spec_operations.specs.WritingSays.{writingSays};
+ghost use Rattle.c_api.specs.Leaves.{left, leaves, oneValue, answerValues, CheckLeaves, AddLeaves, AskLeaves, MoveLeaves, PrintLeaves, noValues, FigureLeaves};
 
 // Checks the sheet: 0 and the row count, or a refusal's number and its place.
 #[no_mangle]
@@ -104,16 +105,16 @@ pub extern "C" fn mikhakun_ask(
     }
 }
 
-// Tells a move's answer: 0 and the length of its text, or a refusal's number and its place.
-fn tell_move(m: Moving, length: &mut u64, place: &mut u64) -> u64
-    ensures { λ r. ⌜ left r (now (place .exit)) (now (length .exit) ∷ []) ≡ leaves oneValue (now (place .entry)) (now (length .entry) ∷ []) (movingSays m) ⌝ }
+// Tells the answer of an operation that writes a text: 0 and the text's length, or a refusal's number and its place.
+fn tell_writing(w: Writing, length: &mut u64, place: &mut u64) -> u64
+    ensures { λ r. ⌜ left r (now (place .exit)) (now (length .exit) ∷ []) ≡ leaves oneValue (now (place .entry)) (now (length .entry) ∷ []) (writingSays w) ⌝ }
 {
-    match m {
-        Moving::Written(n) => {
+    match w {
+        Writing::Written(n) => {
             *length = n as u64;
             0
         }
-        Moving::Refused(n, p) => {
+        Writing::Refused(n, p) => {
             *place = p as u64;
             n as u64
         }
@@ -131,8 +132,8 @@ pub extern "C" fn mikhakun_to_spans(
 ) -> u64
     ensures { λ r. ⌜ MoveLeaves true (now (sheet .entry)) (now (readings .entry)) (now (out .entry)) (now (out .exit)) (now (place .entry)) (now (length .entry) ∷ []) (left r (now (place .exit)) (now (length .exit) ∷ [])) ⌝ }
 {
-    let m = to_spans(sheet, readings, out);
-    tell_move(m, length, place)
+    let w = to_spans(sheet, readings, out);
+    tell_writing(w, length, place)
 }
 
 // Writes the readings one by one, each once, in the same order.
@@ -146,8 +147,23 @@ pub extern "C" fn mikhakun_to_readings(
 ) -> u64
     ensures { λ r. ⌜ MoveLeaves false (now (sheet .entry)) (now (readings .entry)) (now (out .entry)) (now (out .exit)) (now (place .entry)) (now (length .entry) ∷ []) (left r (now (place .exit)) (now (length .exit) ∷ [])) ⌝ }
 {
-    let m = to_readings(sheet, readings, out);
-    tell_move(m, length, place)
+    let w = to_readings(sheet, readings, out);
+    tell_writing(w, length, place)
+}
+
+// Prints a rule back.
+#[no_mangle]
+pub extern "C" fn mikhakun_print_rule(
+    sheet: &[u8],
+    rule: u64,
+    out: &mut [u8],
+    length: &mut u64,
+    place: &mut u64,
+) -> u64
+    ensures { λ r. ⌜ PrintLeaves (now (sheet .entry)) rule (now (out .entry)) (now (out .exit)) (now (place .entry)) (now (length .entry) ∷ []) (left r (now (place .exit)) (now (length .exit) ∷ [])) ⌝ }
+{
+    let w = print_rule(sheet, rule as usize, out);
+    tell_writing(w, length, place)
 }
 
 // Tells an outcome: 0, or a refusal's number and its place.

@@ -35,7 +35,7 @@ use Rattle.spec_moves.specs.Moves.Moves.{not-read, no-room, moved}
 use Rattle.op_moves.specs.Measures.{Measures}
 use Rattle.op_moves.specs.MovedText.{movedText, CanWrite, WritesMoved}
 use Rattle.op_moves.specs.MovedText.WritesMoved.{no-room as too-large, written}
-use Rattle.op_moves.specs.MovingSays.{Opened}
+use Rattle.op_moves.specs.OpenedFor.{Opened}
 use Rattle.op_moves.proofs.Noted.{moves-marks}
 
 -- ---- the text

@@ -1,4 +1,4 @@
 -- The definitions that the contracts cite, lowest layer first.
 pub mod Measures
 pub mod MovedText
-pub mod MovingSays
+pub mod OpenedFor

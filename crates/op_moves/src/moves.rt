@@ -13,35 +13,31 @@ use spec_limits::BYTES;
 use spec_limits::READINGS;
 use spec_limits::ROWS;
 use spec_limits::TOPS;
+use spec_operations::Writing;
 ghost use mathlib.Core.Bool.{true, false};
 ghost use Rattle.read_names.specs.Spellings.{namesAt};
 ghost use Rattle.read_names.specs.Slices.{before, after, namesOf};
 ghost use Rattle.spec_moves.specs.Moves.{Moves};
 ghost use Rattle.op_moves.specs.MovedText.{CanWrite, WritesMoved};
 ghost use Rattle.read_index.specs.Index.{placesIn, IndexOf};
-ghost use Rattle.op_moves.specs.MovingSays.{movingSays, Opened};
-
-// How long the written text is, or a refusal's number and place.
-pub enum Moving {
-    Written(usize),
-    Refused(usize, usize),
-}
+ghost use Rattle.op_moves.specs.OpenedFor.{Opened};
+ghost use Rattle.spec_operations.specs.WritingSays.{writingSays};
 
 // Writes the text of the move, if it is short enough and there is room for it. It is measured first, so that a refusal writes nothing.
-fn write_noted(spans: bool, s: &[u8], places: &[u16], noted: &mut [u32], out: &mut [u8]) -> Moving
+fn write_noted(spans: bool, s: &[u8], places: &[u16], noted: &mut [u32], out: &mut [u8]) -> Writing
     requires { ⌜ CanWrite (namesAt (now s) (now places)) (now noted) ⌝ }
-    ensures { λ r. ⌜ WritesMoved spans (namesOf s places) (before noted) (before out) (after out) (movingSays r) ⌝ }
+    ensures { λ r. ⌜ WritesMoved spans (namesOf s places) (before noted) (before out) (after out) (writingSays r) ⌝ }
 {
     sort_below(noted, 2 * ROW_SPANS * places.len());
     let length = moved_length(spans, s, places, noted);
     if BYTES < length {
-        return Moving::Refused(20, 0);
+        return Writing::Refused(20, 0);
     }
     if out.len() < length {
-        return Moving::Refused(20, 0);
+        return Writing::Refused(20, 0);
     }
     write_moved(spans, s, places, noted, out);
-    Moving::Written(length)
+    Writing::Written(length)
 }
 
 // Reads the readings of an opened sheet, and writes the text of the move.
@@ -52,21 +48,21 @@ fn move_opened(
     window: usize,
     readings: &[u8],
     out: &mut [u8],
-) -> Moving
+) -> Writing
     requires { ⌜ Opened (now s) (placesIn (now names)) window × IndexOf (now s) (now names) ⌝ }
-    ensures { λ r. ⌜ Moves spans (before s) (before readings) (before out) (after out) (movingSays r) ⌝ }
+    ensures { λ r. ⌜ Moves spans (before s) (before readings) (before out) (after out) (writingSays r) ⌝ }
 {
     let mut noted = [1u32; READINGS];
     let c = note_entries(s, names, window, readings, &mut noted);
     match c {
         Step::Got(count, _) => write_noted(spans, s, &names[LINKS..], &mut noted[..count], out),
-        Step::Refused(n, p) => Moving::Refused(n, p),
+        Step::Refused(n, p) => Writing::Refused(n, p),
     }
 }
 
 // Opens the sheet, and moves the readings.
-fn move_readings(spans: bool, s: &[u8], readings: &[u8], out: &mut [u8]) -> Moving
-    ensures { λ r. ⌜ Moves spans (before s) (before readings) (before out) (after out) (movingSays r) ⌝ }
+fn move_readings(spans: bool, s: &[u8], readings: &[u8], out: &mut [u8]) -> Writing
+    ensures { λ r. ⌜ Moves spans (before s) (before readings) (before out) (after out) (writingSays r) ⌝ }
 {
     let mut names = [0u16; INDEX];
     let mut rows = [8u64; ROWS];
@@ -79,20 +75,20 @@ fn move_readings(spans: bool, s: &[u8], readings: &[u8], out: &mut [u8]) -> Movi
             tops: _,
             count: _,
         } => move_opened(spans, s, &names[..LINKS + signals], window, readings, out),
-        Opening::Refused(n, p) => Moving::Refused(n, p),
+        Opening::Refused(n, p) => Writing::Refused(n, p),
     }
 }
 
 // Writes the readings as spans.
-pub fn to_spans(s: &[u8], readings: &[u8], out: &mut [u8]) -> Moving
-    ensures { λ r. ⌜ Moves true (before s) (before readings) (before out) (after out) (movingSays r) ⌝ }
+pub fn to_spans(s: &[u8], readings: &[u8], out: &mut [u8]) -> Writing
+    ensures { λ r. ⌜ Moves true (before s) (before readings) (before out) (after out) (writingSays r) ⌝ }
 {
     move_readings(true, s, readings, out)
 }
 
 // Writes the readings one by one.
-pub fn to_readings(s: &[u8], readings: &[u8], out: &mut [u8]) -> Moving
-    ensures { λ r. ⌜ Moves false (before s) (before readings) (before out) (after out) (movingSays r) ⌝ }
+pub fn to_readings(s: &[u8], readings: &[u8], out: &mut [u8]) -> Writing
+    ensures { λ r. ⌜ Moves false (before s) (before readings) (before out) (after out) (writingSays r) ⌝ }
 {
     move_readings(false, s, readings, out)
 }

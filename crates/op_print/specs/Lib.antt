@@ -1,3 +1,2 @@
--- The definitions that the contracts cite, lowest layer first.
-pub mod PrintingSays
+-- The definitions that the contracts cite.
 pub mod RuleLines

@@ -10,6 +10,7 @@ use read_parts::parts::Parsed;
 use read_sheet::rules::rule_line;
 use spec_limits::ARENA;
 use spec_limits::RULE_BYTES;
+use spec_operations::Writing;
 use write_bytes::push_text;
 use write_formula::write_formula;
 ghost use mathlib.Core.Path.{_≡_};
@@ -23,14 +24,8 @@ ghost use Rattle.read_sheet.specs.Sheet.{ruleLine};
 ghost use Rattle.spec_print.specs.RuleTexts.{printed};
 ghost use Rattle.spec_print.specs.Printing.{withRoom, Gives, Prints};
 ghost use Rattle.write_formula.specs.PartTexts.{NamedNode};
-ghost use Rattle.op_print.specs.PrintingSays.{printingSays};
+ghost use Rattle.spec_operations.specs.WritingSays.{writingSays};
 ghost use Rattle.op_print.specs.RuleLines.{lineOf, printedLine, LineAt, Accepted};
-
-// How long the printed text is, or a refusal's number and place.
-pub enum Printing {
-    Written(usize),
-    Refused(usize, usize),
-}
 
 // How many bytes `rule=` has.
 const KEY: usize = 5;
@@ -50,40 +45,40 @@ fn line_of(s: &[u8], rule: usize, first: usize) -> usize
 }
 
 // Prints the rule at a node of the arena. It is written into a buffer of its own first, so that a refusal leaves `out` as it is.
-fn print_node(s: &[u8], names: &[u16], arena: &[u16], node: usize, out: &mut [u8]) -> Printing
+fn print_node(s: &[u8], names: &[u16], arena: &[u16], node: usize, out: &mut [u8]) -> Writing
     requires { ⌜ NamedNode (now names) (now arena) node ⌝ }
     requires { ⌜ length (printed (namesIn (now s) (now names)) (writtenAt (now arena) node)) ≤ 2 * mostRuleBytes ⌝ }
-    ensures { λ r. ⌜ Gives (withRoom (length (before out)) (printed (namesIn (before s) (before names)) (writtenAt (before arena) node))) (before out) (after out) (printingSays r) ⌝ }
+    ensures { λ r. ⌜ Gives (withRoom (length (before out)) (printed (namesIn (before s) (before names)) (writtenAt (before arena) node))) (before out) (after out) (writingSays r) ⌝ }
 {
     let mut text = [0u8; RULE_BYTES];
     let length = write_formula(s, names, arena, node, &mut text, 0);
     if RULE_BYTES < length {
-        return Printing::Refused(20, 0);
+        return Writing::Refused(20, 0);
     }
     if out.len() < length {
-        return Printing::Refused(20, 0);
+        return Writing::Refused(20, 0);
     }
     push_text(&text[..length], out, 0);
-    Printing::Written(length)
+    Writing::Written(length)
 }
 
 // Reads the rule whose line is at `at`, and prints it.
-fn print_line(s: &[u8], names: &[u16], at: usize, out: &mut [u8]) -> Printing
+fn print_line(s: &[u8], names: &[u16], at: usize, out: &mut [u8]) -> Writing
     requires { ⌜ LineAt (now s) (now names) at ⌝ }
-    ensures { λ r. ⌜ Gives (printedLine (namesIn (before s) (before names)) (length (before out)) (ruleLine (namesIn (before s) (before names)) (before s) at)) (before out) (after out) (printingSays r) ⌝ }
+    ensures { λ r. ⌜ Gives (printedLine (namesIn (before s) (before names)) (length (before out)) (ruleLine (namesIn (before s) (before names)) (before s) at)) (before out) (after out) (writingSays r) ⌝ }
 {
     let mut arena = [0u16; ARENA];
     let r = rule_line(s, names, &mut arena, at, 0);
     match r {
         Parsed::Got(_, nodes, _) => print_node(s, names, &arena, nodes - 1, out),
-        Parsed::Refused(n, p) => Printing::Refused(n, p),
+        Parsed::Refused(n, p) => Writing::Refused(n, p),
     }
 }
 
 // Finds the rule in an accepted sheet, and prints it.
-fn print_checked(s: &[u8], rule: usize, out: &mut [u8]) -> Printing
+fn print_checked(s: &[u8], rule: usize, out: &mut [u8]) -> Writing
     requires { ⌜ Accepted (now s) ⌝ }
-    ensures { λ r. ⌜ Prints (before s) rule (before out) (after out) (printingSays r) ⌝ }
+    ensures { λ r. ⌜ Prints (before s) rule (before out) (after out) (writingSays r) ⌝ }
 {
     let mut names = [0u16; INDEX];
     let h = head(s, &mut names);
@@ -95,22 +90,22 @@ fn print_checked(s: &[u8], rule: usize, out: &mut [u8]) -> Printing
             first,
         } => {
             if rules <= rule {
-                return Printing::Refused(17, 0);
+                return Writing::Refused(17, 0);
             }
             let at = line_of(s, rule, first);
             print_line(s, &names[..LINKS + signals], at, out)
         }
-        Heading::Refused(n, p) => Printing::Refused(n, p),
+        Heading::Refused(n, p) => Writing::Refused(n, p),
     }
 }
 
 // Prints a rule back.
-pub fn print_rule(s: &[u8], rule: usize, out: &mut [u8]) -> Printing
-    ensures { λ r. ⌜ Prints (before s) rule (before out) (after out) (printingSays r) ⌝ }
+pub fn print_rule(s: &[u8], rule: usize, out: &mut [u8]) -> Writing
+    ensures { λ r. ⌜ Prints (before s) rule (before out) (after out) (writingSays r) ⌝ }
 {
     let c = check(s);
     match c {
         Checking::Rows(_) => print_checked(s, rule, out),
-        Checking::Refused(n, p) => Printing::Refused(n, p),
+        Checking::Refused(n, p) => Writing::Refused(n, p),
     }
 }

@@ -18,7 +18,6 @@ use op_ask::Asking;
 use op_ask::ask;
 use op_check::Checking;
 use op_check::check;
-use op_moves::moves::Moving;
 use op_moves::moves::to_readings;
 use op_moves::moves::to_spans;
 use read_bytes::bytes::starts_at;
@@ -29,6 +28,7 @@ use run_cases::print_number;
 use run_cases::print_refusal;
 use run_cases::text_under;
 use spec_limits::LISTED_WORDS;
+use spec_operations::Writing;
 use table_marks::Value;
 use words::print_words;
 ghost use mathlib.Core.Path.{_≡_};
@@ -168,14 +168,14 @@ fn print_then(out: &[u8], n: usize) {
 }
 
 // Prints what a move answers, and what is in the buffer after it.
-fn print_moved(answer: Moving, out: &[u8]) {
+fn print_moved(answer: Writing, out: &[u8]) {
     match answer {
-        Moving::Written(n) => {
+        Writing::Written(n) => {
             print_number(b"--- length ", n as u64, b"\n");
             print_text(out, n);
             print_then(out, n);
         }
-        Moving::Refused(number, place) => {
+        Writing::Refused(number, place) => {
             print_refusal(number, place);
             print_then(out, 0);
         }

@@ -4,3 +4,4 @@ pub mod Counts
 pub mod IntervalTexts
 pub mod Fitting
 pub mod ReadBack
+pub mod Determined
