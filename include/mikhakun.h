@@ -1,4 +1,4 @@
-/* Mikhakun: check, add, ask, the moves between readings and spans, and the figures of several readings texts, for C. Link
+/* Mikhakun: check, add, ask, the moves between readings and spans, the figures of several readings texts, and a rule printed back, for C. Link
  * target/staticlib/libc_api.a, which `rt staticlib c_api` proves and builds (x86-64 Linux).
  *
  * Each call answers 0, or the number of a refusal. `place` is written at a refusal only, the other results at acceptance only.
@@ -66,10 +66,10 @@ enum {
     MIKHAKUN_NOT_0_OR_1 = 14,        /* a reading's value is a number other than 0 or 1: the value */
     MIKHAKUN_TABLE_LENGTH = 15,      /* the table's length is not 2 * rows * n */
     MIKHAKUN_TABLE_MARK = 16,        /* the table has a mark at a tick outside the window, in the last of a row's n true or n false words */
-    MIKHAKUN_NO_SUCH_CELL = 17,      /* ask: the signal or the tick is outside its range */
+    MIKHAKUN_NO_SUCH_CELL = 17,      /* ask: the signal or the tick is outside its range; print_rule: the sheet has no rule of this number */
     MIKHAKUN_RECORD_COUNT = 18,      /* the list of records is not as long as the sheet has signals */
     MIKHAKUN_LENGTHS = 19,           /* there are over 64 lengths, or their sum is not the length of the joined texts */
-    MIKHAKUN_NO_ROOM = 20,           /* what is to be written is longer than the buffer, or over 32,768 bytes */
+    MIKHAKUN_NO_ROOM = 20,           /* what is to be written is longer than the buffer, or over 32,768 bytes, or a rule over 256 */
     MIKHAKUN_TO_BELOW_FROM = 21      /* a span's last tick is below its first: the value of `to=` */
 };
 
@@ -157,6 +157,18 @@ typedef struct {
  * in this order. Where one text ends and the next begins, 11 is of the first if its lines are not a multiple of three, or of four where they are spans. */
 uint64_t mikhakun_figures(const uint8_t *sheet, size_t sheet_len, const uint8_t *texts, size_t texts_len, const uint64_t *lengths, size_t runs,
                           uint64_t *work, size_t words, mikhakun_record *records, size_t record_count, uint64_t *place);
+
+/* The most bytes that a rule has, and the most that mikhakun_print_rule writes. */
+#define MIKHAKUN_RULE_BYTES 256
+
+/* Writes the formula of a rule, numbered from 0 in sheet order, from what was read: parentheses only where the grammar needs them, intervals in square
+ * brackets, since and until as written, names as spelled. So ((a))@(0,3) becomes a@[1,2], and (a&b)&c becomes a&b&c, while a&(b&c) stays. The text starts at
+ * out's first byte, and its length is written; the rest of out stays. Read in the rule's place it gives the same formula, and printed again the same bytes.
+ *
+ * Refusals 1 to 9, 17, 20, in this order. 20 is for a text that is longer than out, and for one over MIKHAKUN_RULE_BYTES, which no rule can have: more room
+ * than that is never needed. A long rule can have such a text, for square brackets may take a byte more than round ones: (9,11) becomes [10,10], (-11,-9)
+ * becomes [-10,-10] and (-3,0) becomes [-2,-1]. */
+uint64_t mikhakun_print_rule(const uint8_t *sheet, size_t sheet_len, uint64_t rule, uint8_t *out, size_t room, uint64_t *length, uint64_t *place);
 
 #ifdef __cplusplus
 }

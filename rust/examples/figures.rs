@@ -2,10 +2,13 @@
 //!
 //! What can't be read or is refused is told in words on standard error, and the status is 2.
 
+mod common;
+
+use common::{print_or_tell, read};
 use mikhakun::{figures, Record, Refusal};
+use std::env;
 use std::path::Path;
 use std::process::ExitCode;
-use std::{env, fs};
 
 /// A line of the table, the heading among them.
 type Line = [String; 6];
@@ -14,18 +17,10 @@ const HEADING: [&str; 6] = ["signal", "true", "false", "unsettled", "clashing", 
 
 fn main() -> ExitCode {
     let words: Vec<String> = env::args().skip(1).collect();
-    let printed = match words.split_first() {
+    print_or_tell(match words.split_first() {
         Some((folder, names)) => printed(Path::new(folder), names),
         None => Err("usage: figures FOLDER TEXT..".to_string()),
-    };
-    match printed {
-        Ok(table) => print!("{table}"),
-        Err(why) => {
-            eprintln!("{why}");
-            return ExitCode::from(2);
-        }
-    }
-    ExitCode::SUCCESS
+    })
 }
 
 /// The table of the named texts, or why there is none.
@@ -35,11 +30,6 @@ fn printed(folder: &Path, names: &[String]) -> Result<String, String> {
     let texts: Vec<&[u8]> = texts.iter().map(Vec::as_slice).collect();
     let records = figures(&sheet, &texts).map_err(|refusal| told(refusal, &sheet, names, &texts))?;
     Ok(table(&signals_of(&sheet), &records))
-}
-
-fn read(folder: &Path, name: &str) -> Result<Vec<u8>, String> {
-    let file = folder.join(name);
-    fs::read(&file).map_err(|error| format!("{}: {error}", file.display()))
 }
 
 /// A refusal in words, with the name of the text that it is in.

@@ -2,7 +2,7 @@
 
 use crate::moves::is_of_spans;
 use crate::name::{end_number_fault, is_name_byte, is_reserved, is_spelled};
-use crate::{Refusal, Text};
+use crate::{Refusal, Text, LONGEST_RULE};
 use std::{fmt, str};
 
 /// The most bytes of a line that are shown on each side of the place.
@@ -180,7 +180,7 @@ fn is_of_the_other_form(spot: &Spot<'_>) -> bool {
 
 /// Is the spot the first byte of a rule that has no byte, or over 256?
 fn is_rule_of_wrong_length(spot: &Spot<'_>) -> bool {
-    spot.at == b"rule=".len() && !(1..=256).contains(&(spot.bytes.len() - spot.at))
+    spot.at == b"rule=".len() && !(1..=LONGEST_RULE).contains(&(spot.bytes.len() - spot.at))
 }
 
 impl fmt::Display for Explanation<'_> {

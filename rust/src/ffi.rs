@@ -88,4 +88,14 @@ extern "C" {
         record_count: usize,
         place: *mut u64,
     ) -> u64;
+
+    pub fn mikhakun_print_rule(
+        sheet: *const u8,
+        sheet_len: usize,
+        rule: u64,
+        out: *mut u8,
+        room: usize,
+        length: *mut u64,
+        place: *mut u64,
+    ) -> u64;
 }

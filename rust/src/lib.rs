@@ -2,8 +2,8 @@
 //!
 //! A sheet says what must be true of its signals, tick by tick. Given readings, [`add`] settles signals as true or false at ticks of the
 //! window; each value holds in every history that obeys the sheet and agrees with the readings. These are safe functions over the proved
-//! reader, a static library: [`check`], [`add`], [`ask`], two moves and [`figures`] each take the sheet's text, and keep nothing between calls but the
-//! [`Table`] that they are lent.
+//! reader, a static library: [`check`], [`add`], [`ask`], two moves, [`figures`] and [`print_rule`] each take the sheet's text, and keep nothing between
+//! calls but the [`Table`] that they are lent.
 //!
 //! ```
 //! use mikhakun::{add, ask, check, Table, Value};
@@ -47,6 +47,14 @@
 //! # Ok::<(), mikhakun::Refusal>(())
 //! ```
 //!
+//! [`print_rule`] prints a rule back as it was read, with parentheses only where the grammar needs them and intervals in square brackets:
+//!
+//! ```
+//! let sheet = b"window=10\nsignals=2\nsignal=clear2\nsignal=go10\nrules=1\nrule=((clear2))@(-4,0)=>(go10)\n";
+//! assert_eq!(mikhakun::print_rule(sheet, 0)?, b"clear2@[-3,-1]=>go10");
+//! # Ok::<(), mikhakun::Refusal>(())
+//! ```
+//!
 //! What is refused says why and where:
 //!
 //! ```
@@ -67,6 +75,7 @@ mod figures;
 mod head;
 mod moves;
 mod name;
+mod print;
 mod refusal;
 mod table;
 mod value;
@@ -74,6 +83,7 @@ mod value;
 pub use explanation::Explanation;
 pub use figures::{figures, figures_into, Record};
 pub use moves::{to_readings, to_readings_into, to_spans, to_spans_into, LONGEST_TEXT};
+pub use print::{print_rule, print_rule_into, LONGEST_RULE};
 pub use refusal::{Refusal, Text};
 pub use table::Table;
 pub use value::Value;
@@ -168,4 +178,12 @@ fn answer<A>(number: u64, place: u64, accepted: impl FnOnce() -> A) -> Result<A,
     } else {
         Err(Refusal::new(number, place as usize))
     }
+}
+
+/// The text that a call writes into a buffer of so many bytes, which are enough for every text of its kind.
+fn written(longest: usize, write_into: impl FnOnce(&mut [u8]) -> Result<usize, Refusal>) -> Result<Vec<u8>, Refusal> {
+    let mut text = vec![0; longest];
+    let length = write_into(&mut text)?;
+    text.truncate(length);
+    Ok(text)
 }

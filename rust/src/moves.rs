@@ -1,6 +1,6 @@
 //! The moves between the two forms of a readings text.
 
-use crate::{answer, ffi, Refusal};
+use crate::{answer, ffi, written, Refusal};
 
 /// The most bytes that a sheet or a readings text has, and so the most that a move writes.
 pub const LONGEST_TEXT: usize = 32_768;
@@ -19,7 +19,7 @@ pub const LONGEST_TEXT: usize = 32_768;
 /// # Ok::<(), mikhakun::Refusal>(())
 /// ```
 pub fn to_spans(sheet: &[u8], readings: &[u8]) -> Result<Vec<u8>, Refusal> {
-    moved(ffi::mikhakun_to_spans, sheet, readings)
+    written(LONGEST_TEXT, |buffer| to_spans_into(sheet, readings, buffer))
 }
 
 /// The readings one by one, each once, by signal number, then value with 0 first, then tick. For the rest as [`to_spans`].
@@ -35,7 +35,7 @@ pub fn to_spans(sheet: &[u8], readings: &[u8]) -> Result<Vec<u8>, Refusal> {
 /// # Ok::<(), mikhakun::Refusal>(())
 /// ```
 pub fn to_readings(sheet: &[u8], readings: &[u8]) -> Result<Vec<u8>, Refusal> {
-    moved(ffi::mikhakun_to_readings, sheet, readings)
+    written(LONGEST_TEXT, |buffer| to_readings_into(sheet, readings, buffer))
 }
 
 /// [`to_spans`] into a lent buffer, from its first byte on: the text's length. The bytes after the text stay, and at a refusal all do.
@@ -72,14 +72,6 @@ pub fn to_readings_into(sheet: &[u8], readings: &[u8], buffer: &mut [u8]) -> Res
 /// Is a readings text one of spans? Its first key tells; an empty text counts as one of single readings.
 pub(crate) fn is_of_spans(readings: &[u8]) -> bool {
     readings.starts_with(b"from=")
-}
-
-/// What a move writes into a buffer that is long enough for every text.
-fn moved(to_form: ffi::Move, sheet: &[u8], readings: &[u8]) -> Result<Vec<u8>, Refusal> {
-    let mut text = vec![0; LONGEST_TEXT];
-    let length = move_into(to_form, sheet, readings, &mut text)?;
-    text.truncate(length);
-    Ok(text)
 }
 
 /// Makes a move into the buffer: the text's length.

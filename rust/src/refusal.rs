@@ -69,10 +69,10 @@ impl Refusal {
             14 => "the value is a number other than 0 or 1",
             15 => "the table's length is not that of the sheet's rows and window",
             16 => "the table has a mark at a tick outside the window",
-            17 => "the signal or the tick asked for is outside its range",
+            17 => "the signal, the tick or the rule asked for is outside its range",
             18 => "the list of records is not as long as the sheet has signals",
             19 => "there are over 64 texts, or the sum of their lengths is not that of the joined texts",
-            20 => "what is to be written is longer than the buffer, or over 32,768 bytes",
+            20 => "what is to be written is longer than the buffer, or over 32,768 bytes, or a rule over 256",
             21 => "the span's to= is below its from=",
             _ => "there is no refusal of this number",
         }
@@ -80,7 +80,7 @@ impl Refusal {
 
     /// What is wrong, and the line and the byte where it is, in the texts that the refused call was given.
     ///
-    /// For a refusal of check or ask the readings are empty. For one of figures see [`Refusal::explain_among`].
+    /// For a refusal of check, ask or print_rule the readings are empty. For one of figures see [`Refusal::explain_among`].
     ///
     /// ```
     /// let sheet = b"window=2\nsignals=1\nsignal=a\nrules=1\nrule=a@[0,64]\n";

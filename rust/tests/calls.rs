@@ -1,6 +1,8 @@
 //! The calls that the gate runs and compares, made once more through the static library: `crates/run_operations/stdout` has each call with its answer.
 
-use mikhakun::{add, ask, check, figures_into, to_readings, to_readings_into, to_spans, to_spans_into, Record, Refusal, Table};
+use mikhakun::{
+    add, ask, check, figures_into, print_rule_into, to_readings, to_readings_into, to_spans, to_spans_into, Record, Refusal, Table,
+};
 
 /// A call, or a text or table for the calls that follow: the words of its heading, the lines under it, and the answer's lines, those of a written text among them.
 #[derive(Default)]
@@ -103,11 +105,24 @@ fn told(record: &Record) -> String {
     format!("signal {signal}, true {held}, false {failed}, unsettled {unsettled}, clashing {clashed}, first {first}")
 }
 
-/// The answer's lines to a move into a buffer full of dots: the text, or its last 100 bytes if it has over 32,000, and the byte after it.
+/// The answer's lines to a move into a buffer full of dots.
 fn moved(entry: &Entry, sheet: &[u8]) -> Vec<String> {
     let mut buffer = vec![b'.'; entry.number(1)];
     let to_form = if entry.kind() == "spans" { to_spans_into } else { to_readings_into };
-    let (mut lines, length) = match to_form(sheet, &entry.text(), &mut buffer) {
+    let answer = to_form(sheet, &entry.text(), &mut buffer);
+    written(answer, &buffer)
+}
+
+/// The answer's lines to a rule printed into a buffer full of dots.
+fn printed(entry: &Entry, sheet: &[u8]) -> Vec<String> {
+    let mut buffer = vec![b'.'; entry.number(2)];
+    let answer = print_rule_into(sheet, entry.number(1), &mut buffer);
+    written(answer, &buffer)
+}
+
+/// What was written into the buffer: the text, or its last 100 bytes if it has over 32,000, and the byte after it.
+fn written(answer: Result<usize, Refusal>, buffer: &[u8]) -> Vec<String> {
+    let (mut lines, length) = match answer {
         Ok(length) => (vec![format!("length {length}")], length),
         Err(refusal) => (vec![refused(refusal)], 0),
     };
@@ -157,6 +172,7 @@ fn every_call_has_the_answer_of_the_gate() {
             }
             "spans" | "singles" => moved(&entry, &sheet),
             "figures" => figured(&entry, &sheet, &mut table),
+            "print" => printed(&entry, &sheet),
             "ask" => vec![ask(&sheet, &table, entry.number(1), entry.number(2)).map_or_else(refused, |value| value.to_string())],
             other => panic!("a heading of no known kind: {other}"),
         };

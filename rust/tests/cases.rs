@@ -1,5 +1,10 @@
 //! P1 to P10, and signals that a listing has in another order: what follows from each sheet and its readings, one sign a tick as in the listing.
 
+mod common {
+    pub mod sheet;
+}
+
+use common::sheet::sheet;
 use mikhakun::{add, ask, check, to_readings, to_spans, Added, Table};
 
 /// A case: what it is called, the window, the signals, the rules, the readings as tick, signal and value, and what follows.
@@ -38,15 +43,7 @@ const CASES: &[Case] = &[
 
 impl Case {
     fn sheet(&self) -> Vec<u8> {
-        let mut text = format!("window={}\nsignals={}\n", self.window, self.signals.len());
-        for name in self.signals {
-            text += &format!("signal={name}\n");
-        }
-        text += &format!("rules={}\n", self.rules.len());
-        for rule in self.rules {
-            text += &format!("rule={rule}\n");
-        }
-        text.into_bytes()
+        sheet(self.window, self.signals, self.rules)
     }
 
     fn texts(&self) -> Vec<Vec<u8>> {

@@ -1,12 +1,13 @@
 //! The figures of several readings texts: what comes of each signal, the records' order, the work table, the limits, and each refusal with its place.
 
-use mikhakun::{add, ask, check, figures, figures_into, Record, Refusal, Table, Value};
-
-fn sheet(window: usize, signals: &[&str], rules: &[&str]) -> Vec<u8> {
-    let lines = |key: &str, values: &[&str]| values.iter().map(|value| format!("{key}={value}\n")).collect::<String>();
-    let (names, formulas) = (lines("signal", signals), lines("rule", rules));
-    format!("window={window}\nsignals={}\n{names}rules={}\n{formulas}", signals.len(), rules.len()).into_bytes()
+mod common {
+    pub mod numbers;
+    pub mod sheet;
 }
+
+use common::numbers::numbers_from;
+use common::sheet::sheet;
+use mikhakun::{add, ask, check, figures, figures_into, Record, Refusal, Table, Value};
 
 /// A signal's value at every tick from the first to the last.
 type Span<'a> = (usize, usize, &'a str, u8);
@@ -177,14 +178,6 @@ fn each_case_is_what_add_and_ask_tell() {
                 told(case.window, case.signals, case.rules, &[text]);
             }
         }
-    }
-}
-
-/// Numbers of no order, from a row that begins with this one, each below a bound.
-fn numbers_from(mut number: u64) -> impl FnMut(usize) -> usize {
-    move |bound| {
-        number = number.wrapping_mul(6_364_136_223_846_793_005).wrapping_add(1_442_695_040_888_963_407);
-        (number >> 33) as usize % bound
     }
 }
 

@@ -1,5 +1,10 @@
 //! The moves between single readings and spans: what each writes, the room that it needs, and the way there and back.
 
+mod common {
+    pub mod numbers;
+}
+
+use common::numbers::numbers_from;
 use mikhakun::{add, to_readings, to_readings_into, to_spans, to_spans_into, Refusal, Table, LONGEST_TEXT};
 
 type Move = fn(&[u8], &[u8]) -> Result<Vec<u8>, Refusal>;
@@ -130,11 +135,8 @@ fn a_text_may_be_written_up_to_the_longest() {
 }
 
 /// Spans of no order, from a row of numbers that begins with this one.
-fn spans_of_no_order(mut number: u64, window: usize) -> Vec<Span<'static>> {
-    let mut below = |bound: usize| {
-        number = number.wrapping_mul(6_364_136_223_846_793_005).wrapping_add(1_442_695_040_888_963_407);
-        (number >> 33) as usize % bound
-    };
+fn spans_of_no_order(number: u64, window: usize) -> Vec<Span<'static>> {
+    let mut below = numbers_from(number);
     let count = below(30);
     (0..count)
         .map(|_| {

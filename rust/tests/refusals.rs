@@ -1,6 +1,7 @@
 //! Each refusal number, with its place and what its explanation says.
 
-use mikhakun::{add, ask, check, figures, figures_into, to_readings, to_readings_into, to_spans, to_spans_into, Refusal, Table};
+use mikhakun::{add, ask, check, figures, figures_into, print_rule, print_rule_into, Refusal, Table};
+use mikhakun::{to_readings, to_readings_into, to_spans, to_spans_into};
 
 const SHEET: &[u8] = b"window=10\nsignals=2\nsignal=clear2\nsignal=go10\nrules=1\nrule=clear2@[-3,0]=>go10\n";
 
@@ -15,6 +16,10 @@ fn refused_sheet(sheet: &[u8]) -> Refusal {
     assert_eq!(figures(sheet, &[b"x".as_slice(); 65]), Err(refusal));
     assert_eq!(figures_into(sheet, b"x", &[], &mut table, &mut []), Err(refusal));
     refused_moves(sheet, &[b'x'; 32_769], refusal);
+    for rule in [0, usize::MAX] {
+        assert_eq!(print_rule(sheet, rule), Err(refusal));
+        assert_eq!(print_rule_into(sheet, rule, &mut []), Err(refusal));
+    }
     refusal
 }
 
@@ -266,9 +271,12 @@ fn a_last_tick_below_the_first() {
 
 #[test]
 fn no_room() {
-    let sentence = "what is to be written is longer than the buffer, or over 32,768 bytes";
+    let sentence = "what is to be written is longer than the buffer, or over 32,768 bytes, or a rule over 256";
     placeless(to_spans_into(SHEET, b"at=1\nsignal=go10\nvalue=0\n", &mut [0; 31]).unwrap_err(), 20, sentence);
     placeless(to_readings_into(SHEET, b"at=1\nsignal=go10\nvalue=0\n", &mut [0; 24]).unwrap_err(), 20, sentence);
+    placeless(print_rule_into(SHEET, 0, &mut [0; 18]).unwrap_err(), 20, sentence);
+    let long = format!("{HEAD}a{}\n", "@(9,11)".repeat(32));
+    placeless(print_rule(long.as_bytes(), 0).unwrap_err(), 20, sentence);
 }
 
 #[test]
@@ -289,8 +297,12 @@ fn a_table() {
 #[test]
 fn a_question() {
     let table = Table::for_sheet(SHEET).unwrap();
+    let sentence = "the signal, the tick or the rule asked for is outside its range";
     for (signal, tick) in [(2, 0), (0, 10), (usize::MAX, 0), (0, usize::MAX)] {
-        placeless(ask(SHEET, &table, signal, tick).unwrap_err(), 17, "the signal or the tick asked for is outside its range");
+        placeless(ask(SHEET, &table, signal, tick).unwrap_err(), 17, sentence);
+    }
+    for rule in [1, usize::MAX] {
+        placeless(print_rule(SHEET, rule).unwrap_err(), 17, sentence);
     }
 }
 

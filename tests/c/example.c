@@ -1,6 +1,6 @@
-/* Checks the shipped example, adds its readings, asks, moves them to spans and back, has the figures of several texts, and is refused, through the static
- * library; then the same over windows of several words; then names that end in a number. Prints what differs from what is wanted, and 'N passed, M failed'
- * at the end. */
+/* Checks the shipped example, adds its readings, asks, moves them to spans and back, has the figures of several texts, prints rules back, and is refused,
+ * through the static library; then the same over windows of several words; then names that end in a number. Prints what differs from what is wanted, and
+ * 'N passed, M failed' at the end. */
 #include "mikhakun.h"
 
 #include <stdio.h>
@@ -91,7 +91,7 @@ typedef uint64_t Move(const uint8_t *, size_t, const uint8_t *, size_t, uint8_t 
 enum { LONGEST_TEXT = 32768, MOST_ROOM = LONGEST_TEXT + 100, UNTOUCHED = '.' };
 static uint8_t out[MOST_ROOM];
 
-/* How many bytes of the buffer from `from` on are not as they were before the move. */
+/* How many bytes of the buffer from `from` on are not as they were before the call. */
 static uint64_t touched(size_t from) {
     uint64_t count = 0;
     for (size_t at = from; at < MOST_ROOM; at++)
@@ -99,28 +99,47 @@ static uint64_t touched(size_t from) {
     return count;
 }
 
-/* The move writes the text wanted, its length and nothing else, in room that is just enough and in all there is. */
-static void moves(const char *what, Move *move, const char *readings, const char *wanted) {
-    const size_t rooms[] = {strlen(wanted), MOST_ROOM};
-    for (size_t i = 0; i < 2; i++) {
-        uint64_t length = UNWRITTEN, place = UNWRITTEN;
-        memset(out, UNTOUCHED, sizeof out);
-        same(what, move(bytes(SHEET), strlen(SHEET), bytes(readings), strlen(readings), out, rooms[i], &length, &place), 0);
-        same("length of a move", length, strlen(wanted));
-        same("text of a move", (uint64_t)memcmp(out, wanted, strlen(wanted)), 0);
-        same("bytes after a move", touched(strlen(wanted)), 0);
-        same("place after a move", place, UNWRITTEN);
-    }
+/* What a call that writes a text answers. */
+typedef struct {
+    uint64_t number, length, place;
+} Written;
+
+static Written before_writing(void) {
+    memset(out, UNTOUCHED, sizeof out);
+    return (Written){.length = UNWRITTEN, .place = UNWRITTEN};
 }
 
-/* The move is refused by this number at this place: no byte is written, and no length. */
+/* The call wrote the text wanted, its length and nothing else. */
+static void has_written(const char *what, Written found, const char *wanted) {
+    same(what, found.number, 0);
+    same("length of a text", found.length, strlen(wanted));
+    same("bytes of a text", (uint64_t)memcmp(out, wanted, strlen(wanted)), 0);
+    same("bytes after a text", touched(strlen(wanted)), 0);
+    same("place after a text", found.place, UNWRITTEN);
+}
+
+/* The call was refused by this number at this place: it wrote no byte, and no length. */
+static void has_refused(const char *what, Written found, uint64_t number, uint64_t at) {
+    same(what, found.number, number);
+    same("place of a refused text", found.place, at);
+    same("length of a refused text", found.length, UNWRITTEN);
+    same("bytes after a refused text", touched(0), 0);
+}
+
+static Written moved(Move *move, const char *sheet, const char *readings, size_t room) {
+    Written found = before_writing();
+    found.number = move(bytes(sheet), strlen(sheet), bytes(readings), strlen(readings), out, room, &found.length, &found.place);
+    return found;
+}
+
+/* The move writes the text wanted, in room that is just enough and in all there is. */
+static void moves(const char *what, Move *move, const char *readings, const char *wanted) {
+    has_written(what, moved(move, SHEET, readings, strlen(wanted)), wanted);
+    has_written(what, moved(move, SHEET, readings, MOST_ROOM), wanted);
+}
+
 static void no_move(const char *what, Move *move, const char *sheet, const char *readings, size_t room, uint64_t number, uint64_t at) {
-    uint64_t length = UNWRITTEN, place = UNWRITTEN;
-    memset(out, UNTOUCHED, sizeof out);
-    same(what, move(bytes(sheet), strlen(sheet), bytes(readings), strlen(readings), out, room, &length, &place), number);
-    same("place of a refused move", place, at);
-    same("length of a refused move", length, UNWRITTEN);
-    same("bytes after a refused move", touched(0), 0);
+    has_refused(what, moved(move, sheet, readings, room), number, at);
 }
 
 /* The readings as spans and back, from either form; an empty text is both. */
@@ -287,6 +306,69 @@ static void refused_figures(void) {
     same_record("a record of 64 texts", empty.records[0], (mikhakun_record){0, 0, 0, 640, 0, MIKHAKUN_NO_TICK});
 }
 
+static Written printed(const char *sheet, uint64_t rule, size_t room) {
+    Written found = before_writing();
+    found.number = mikhakun_print_rule(bytes(sheet), strlen(sheet), rule, out, room, &found.length, &found.place);
+    return found;
+}
+
+/* Writes the sheet of one rule over three signals. */
+static void one_rule(char *sheet, const char *rule) { sprintf(sheet, "window=4\nsignals=3\nsignal=a\nsignal=b\nsignal=c20\nrules=1\nrule=%s\n", rule); }
+enum { ONE_RULE = MIKHAKUN_RULE_BYTES + 80 };
+
+/* The rule is printed so, in room that is just enough, in that of the longest rule and in all there is, and refused with a byte less. */
+static void prints(const char *rule, const char *wanted) {
+    char sheet[ONE_RULE];
+    one_rule(sheet, rule);
+    has_written(rule, printed(sheet, 0, strlen(wanted)), wanted);
+    has_written(rule, printed(sheet, 0, MIKHAKUN_RULE_BYTES), wanted);
+    has_written(rule, printed(sheet, 0, MOST_ROOM), wanted);
+    has_refused(rule, printed(sheet, 0, strlen(wanted) - 1), MIKHAKUN_NO_ROOM, 0);
+}
+
+/* Rules as written and as printed. What is printed is printed again as it is. */
+static void rules_printed(void) {
+    static const char *const rules[][2] = {
+        {"((a))", "a"}, {"(a&b)&c20", "a&b&c20"}, {"a&(b&c20)", "a&(b&c20)"}, {"(a|b)|c20", "a|b|c20"}, {"a|(b&c20)", "a|b&c20"}, {"(a|b)&c20", "(a|b)&c20"},
+        {"!(a@[0,1])", "!(a@[0,1])"}, {"(!a)@[0,1]", "!a@[0,1]"}, {"(a=>b)=>c20", "(a=>b)=>c20"}, {"a=>(b=>c20)", "a=>(b=>c20)"}, {"(a=>b)<=>(!(c20))", "a=>b<=>!c20"},
+        {"a@(0,3)", "a@[1,2]"}, {"(a?[0,3))@(-1,1)", "a?[0,2]@[0,0]"}, {"a@(9,11)", "a@[10,10]"}, {"a?(-11,-9)", "a?[-10,-10]"}, {"a@(-3,0)", "a@[-2,-1]"},
+        {"since((a),(b|c20))", "since(a,b|c20)"}, {"(until(((a)),b))&(c20)", "until(a,b)&c20"},
+    };
+    for (size_t i = 0; i < sizeof rules / sizeof *rules; i++) {
+        prints(rules[i][0], rules[i][1]);
+        prints(rules[i][1], rules[i][1]);
+    }
+    has_written("the last rule of a sheet", printed(SHEET, 1, MIKHAKUN_RULE_BYTES), "go10=>open10@[2,2]");
+}
+
+/* Writes the beginning of a rule and 31 times an interval. */
+static char *with_intervals(char *rule, const char *start, const char *interval) {
+    strcpy(rule, start);
+    for (int i = 0; i < 31; i++)
+        strcat(rule, interval);
+    return rule;
+}
+
+/* A text may have 256 bytes, and no more, however much room there is. Each interval has a byte more in square brackets. */
+static void longest_printed(void) {
+    char round[MIKHAKUN_RULE_BYTES + 1], square[MIKHAKUN_RULE_BYTES + 1], sheet[ONE_RULE];
+    prints(with_intervals(round, "a&a&!c20", "@(9,11)"), with_intervals(square, "a&a&!c20", "@[10,10]"));
+    same("bytes of the longest text", strlen(square), MIKHAKUN_RULE_BYTES);
+    one_rule(sheet, with_intervals(round, "a&a&!!c20", "@(9,11)"));
+    has_refused("a text of 257 bytes", printed(sheet, 0, MIKHAKUN_RULE_BYTES), MIKHAKUN_NO_ROOM, 0);
+    has_refused("a text of 257 bytes in all room", printed(sheet, 0, MOST_ROOM), MIKHAKUN_NO_ROOM, 0);
+}
+
+/* The sheet's refusal comes first, then that of the rule's number, then that of the room. */
+static void refused_prints(void) {
+    static const char torn[] = "window=10\n", no_rules[] = "window=10\nsignals=1\nsignal=a\nrules=0\n";
+    has_refused("a rule of a torn sheet", printed(torn, UINT64_MAX, 0), MIKHAKUN_SHEET_LINE, strlen(torn));
+    has_refused("the rule after the last", printed(SHEET, 2, 0), MIKHAKUN_NO_SUCH_CELL, 0);
+    has_refused("the largest number of a rule", printed(SHEET, UINT64_MAX, MOST_ROOM), MIKHAKUN_NO_SUCH_CELL, 0);
+    has_refused("a rule where there is none", printed(no_rules, 0, MOST_ROOM), MIKHAKUN_NO_SUCH_CELL, 0);
+    has_refused("a rule without room", printed(SHEET, 0, 0), MIKHAKUN_NO_ROOM, 0);
+}
+
 /* A sheet of such a window whose rule carries a mark of a to b a tick later, or one of b back, and its empty table. */
 typedef struct {
     char text[80];
@@ -398,6 +480,9 @@ int main(void) {
     figures_of_texts(table);
     figures_in_order();
     refused_figures();
+    rules_printed();
+    longest_printed();
+    refused_prints();
     clash_is_told(table);
     free(table);
     for (size_t i = 0; i < sizeof windows / sizeof *windows; i++)

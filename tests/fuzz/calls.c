@@ -1,12 +1,13 @@
 /* One input of the fuzzer: a sheet, readings, a lent table and a question. It makes the calls and sees that each keeps what include/mikhakun.h
  * promises: what it may answer, what it writes and what it leaves. The first breach is told in a line and ends the program. What the moves must write is
  * made from what the readings add to a table without rules. The figures are those of the readings, of no text, and of the readings cut in two and whole; what
- * they must be is counted after adds of each text to an empty table.
+ * they must be is counted after adds of each text to an empty table. A rule's printed text must stay the same when it is printed again, be another rule or none
+ * without a pair of its parentheses, and, alone in the sheet, make the same of a table as the rule that was written.
  *
- * The input is the sheet's bytes, a zero byte, the readings' bytes, a zero byte, and then, each a byte: the signal asked for, the tick in its word, that
- * word, by how many words the table is too long, and three for each mark of the table that is lent: its word (two bytes) and its tick there. What is
- * missing counts as 0. The longest tables take milliseconds to close, so an input in 32 is lent one, by its length; of the others such a sheet is only checked
- * and the readings moved.
+ * The input is the sheet's bytes, a zero byte, the readings' bytes, a zero byte, and then, each a byte: the signal asked for, which is the number of a rule to
+ * be printed too, the tick in its word, that word, by how many words the table is too long, and three for each mark of the table that is lent: its word (two
+ * bytes) and its tick there. What is missing counts as 0. The longest tables take milliseconds to close, so an input in 32 is lent one, by its length; of the
+ * others such a sheet is only checked, the readings moved and rules printed.
  *
  * The library is machine code that no sanitizer has prepared. So each text, table and buffer ends or begins where memory that nobody may touch begins
  * or ends, and the calls run above such memory too, on a stack of the 72 KB that a call may take and 2 for what makes it: a step too far in any of them is a crash. */
@@ -21,16 +22,26 @@
 
 enum { PAGE = 4096, LONGEST_INPUT = 1 << 17, OFTEN_LENT = 2 * 1024 * 8, MOST_WORDS = 2 * 1024 * 64 + 255, STACK = (72 + 2) * 1024,
        LONGEST_TEXT = 32768, LONGEST_ENTRY = 64, MOST_ROOM = LONGEST_TEXT + LONGEST_ENTRY, MOST_SIGNALS = 64, MOST_SAID = 2 * MOST_SIGNALS * 64,
-       MOST_TEXTS = 64, OFTEN_RUN = 1024 };
+       MOST_TEXTS = 64, OFTEN_RUN = 1024, MOST_RULES = 64, LONGEST_RULE = MIKHAKUN_RULE_BYTES };
 static const uint64_t UNWRITTEN = 0x5EC02D5EC02D5EC0;
 
 /* What the fuzzer is told beside the blocks of code that were reached: which answers were given, and how large the results were. */
-enum { CHECK = 0, ADD = 30, ASK = 60, TO_SPANS = 90, TO_READINGS = 120, FIGURES = 150, ROWS = 180, FRESH = 210, VALUE = 240, WRITTEN = 270, KINDS = 330 };
+enum { CHECK = 0, ADD = 30, ASK = 60, TO_SPANS = 90, TO_READINGS = 120, FIGURES = 150, PRINT_RULE = 180, ROWS = 210, FRESH = 240, VALUE = 270, WRITTEN = 300,
+       PRINTED = 340, KINDS = 360 };
 static uint8_t told[KINDS] __attribute__((section("__libfuzzer_extra_counters")));
 
 /* How many inputs there were, and in how many of them the sheet was accepted, the add, an add to a table of several words a row and value, the readings
- * (whatever the table), readings that were spans, figures of several texts, and figures of which some runs clashed and others did not. */
-uint64_t inputs, sheets, adds, wide_adds, texts, span_texts, counted, part_clashed;
+ * (whatever the table), readings that were spans, figures of several texts, and figures of which some runs clashed and others did not. How many rules were
+ * printed, of these not as they were written, and how many had a text over its limit. */
+static uint64_t inputs, sheets, adds, wide_adds, texts, span_texts, counted, part_clashed, printed, changed, too_long;
+
+void tell_counts(FILE *to)
+{
+    fprintf(to, "inputs: %lu, with an accepted sheet: %lu, with an accepted add: %lu, of these over 64 ticks: %lu\n", inputs, sheets, adds, wide_adds);
+    fprintf(to, "with accepted readings, moved both ways: %lu, of these spans: %lu\n", texts, span_texts);
+    fprintf(to, "with accepted figures of several texts: %lu, of these with some clashing: %lu\n", counted, part_clashed);
+    fprintf(to, "rules printed: %lu, of these not as written: %lu; over 256 bytes: %lu\n", printed, changed, too_long);
+}
 
 static void must_hold(int holds, const char *what)
 {
@@ -59,7 +70,7 @@ static void *lend(Area area, const void *from, size_t bytes, int low)
     return at;
 }
 
-static Area sheet_area, readings_area, moved_area, out_area, table_area, texts_area, lengths_area, records_area, stack_area;
+static Area sheet_area, readings_area, moved_area, rule_area, out_area, table_area, texts_area, lengths_area, records_area, stack_area;
 
 /* The input, taken apart. */
 typedef struct { const uint8_t *start; size_t len; } Text;
@@ -97,10 +108,10 @@ static int bits(uint64_t number)
 static uint64_t before[MOST_WORDS], *table;
 static size_t words;
 
-/* An accepted sheet: how many signals it has, their names, their numbers in the order of a listing, its window, and how many words a row has there for each
- * value. */
-static uint64_t signals, window, row_words, order[MOST_SIGNALS];
-static Text names[MOST_SIGNALS];
+/* An accepted sheet: how many signals it has, their names, their numbers in the order of a listing, its window, how many words a row has there for each value,
+ * and its rules. */
+static uint64_t signals, window, row_words, order[MOST_SIGNALS], rule_count;
+static Text names[MOST_SIGNALS], rules[MOST_RULES];
 
 /* The readings texts of figures: one behind the other, and their lengths. */
 static struct { uint8_t bytes[2 * LONGEST_INPUT]; uint64_t lengths[MOST_TEXTS + 1]; size_t len, runs; } joined;
@@ -126,6 +137,7 @@ static int number_allowed(int call, uint64_t number)
     if (call == ADD) return of_readings || of_table;
     if (call == ASK) return of_table || number == 17;
     if (call == FIGURES) return of_readings || number == 15 || number == 18 || number == 19;
+    if (call == PRINT_RULE) return number == 17 || number == 20;
     return (call == TO_SPANS || call == TO_READINGS) && (of_readings || number == 20);
 }
 
@@ -200,19 +212,36 @@ static Move *const to_form[FORMS] = { mikhakun_to_spans, mikhakun_to_readings };
 
 static int form_of_readings(void) { return readings.len > 0 && readings.start[0] == 'f' ? SPANS : SINGLE; }
 
-/* What the lent buffer holds before a move: bytes that no text has. */
+/* What the lent buffer holds before a call: bytes that no text has. */
 static uint8_t unwritten[MOST_ROOM], *out;
 
-/* A move of a text into a buffer of so many bytes: it writes the text, whose length it answers, and nothing else. */
+/* A call writes the text, whose length it answers, and nothing else. */
+static void must_write_alone(Answer a, size_t room, size_t longest)
+{
+    size_t written = a.number == 0 ? a.value : 0;
+    MUST(written <= room && written <= longest);
+    MUST(memcmp(out + written, unwritten, room - written) == 0);
+}
+
+/* A move of a text into a buffer of so many bytes. */
 static Answer move(int form, Text text, size_t room)
 {
     Answer a = { 0, UNWRITTEN, UNWRITTEN, 0 };
     out = lend(out_area, unwritten, room, low);
     a.number = to_form[form](lent_sheet, sheet.len, text.start, text.len, out, room, &a.value, &a.place);
     must_be_whole(form == SPANS ? TO_SPANS : TO_READINGS, a);
-    size_t written = a.number == 0 ? a.value : 0;
-    MUST(written <= room && written <= LONGEST_TEXT);
-    MUST(memcmp(out + written, unwritten, room - written) == 0);
+    must_write_alone(a, room, LONGEST_TEXT);
+    return a;
+}
+
+/* A rule printed into a buffer of so many bytes. */
+static Answer print_rule(uint64_t rule, size_t room)
+{
+    Answer a = { 0, UNWRITTEN, UNWRITTEN, 0 };
+    out = lend(out_area, unwritten, room, low);
+    a.number = mikhakun_print_rule(lent_sheet, sheet.len, rule, out, room, &a.value, &a.place);
+    must_be_whole(PRINT_RULE, a);
+    must_write_alone(a, room, LONGEST_RULE);
     return a;
 }
 
@@ -368,13 +397,29 @@ static void read_names(void)
     qsort(order, signals, sizeof *order, in_order);
 }
 
+/* How many bytes of an accepted sheet stand before its line `rules=`. */
+static size_t head_length(void) { return (size_t)(names[signals - 1].start - sheet.start) + names[signals - 1].len + 1; }
+
+/* Takes the rules of an accepted sheet, which are its last lines. */
+static void read_rules(void)
+{
+    const uint8_t *line = sheet.start + head_length(), *end = sheet.start + sheet.len;
+    rule_count = strtoul((const char *)line + strlen("rules="), NULL, 10);
+    MUST(rule_count <= MOST_RULES);
+    for (size_t at = 0; at < rule_count; at++) {
+        const uint8_t *before = memchr(line, '\n', (size_t)(end - line)), *rule = before + 1 + strlen("rule=");
+        line = memchr(rule, '\n', (size_t)(end - rule));
+        rules[at] = (Text){ rule, (size_t)(line - rule) };
+    }
+}
+
 /* Adds a text to the empty table of the sheet without its rules: that has then the marks that the text says, and no others. */
 static Answer say(Text text, uint64_t *marks)
 {
     static const char no_rules[] = "rules=0\n";
     static uint8_t bare[LONGEST_TEXT];
     Answer a = { 0, UNWRITTEN, UNWRITTEN, UNWRITTEN };
-    size_t head = (size_t)(names[signals - 1].start - sheet.start) + names[signals - 1].len + 1, length = 2 * signals * row_words;
+    size_t head = head_length(), length = 2 * signals * row_words;
     memcpy(bare, sheet.start, head);
     memcpy(bare + head, no_rules, strlen(no_rules));
     memset(marks, 0, 8 * length);
@@ -467,6 +512,132 @@ static Answer must_be_moved(void)
     for (int from = 0; from < FORMS; from++)
         if (wanted[from].len <= LONGEST_TEXT) must_come_back(from);
     return a;
+}
+
+/* The sheet with a rule of its own in the place of its rules, lent. */
+static Text sheet_of(Text rule)
+{
+    static const char one[] = "rules=1\nrule=";
+    static uint8_t bytes[LONGEST_TEXT + LONGEST_RULE];
+    size_t head = head_length(), start = head + strlen(one), length = start + rule.len + 1;
+    memcpy(bytes, sheet.start, head);
+    memcpy(bytes + head, one, strlen(one));
+    memcpy(bytes + start, rule.start, rule.len);
+    bytes[length - 1] = '\n';
+    return (Text){ lend(rule_area, bytes, length, low), length };
+}
+
+/* Is a rule printed as this text, in a sheet of its own? */
+static int printed_as(Text rule, Text text)
+{
+    Text alone = sheet_of(rule);
+    uint64_t length, place;
+    out = lend(out_area, unwritten, LONGEST_RULE, low);
+    return mikhakun_print_rule(alone.start, alone.len, 0, out, LONGEST_RULE, &length, &place) == 0 && length == text.len && memcmp(out, text.start, length) == 0;
+}
+
+/* The text without the pair of parentheses that opens at a byte. */
+static Text without_pair(Text text, size_t open)
+{
+    static uint8_t bytes[LONGEST_RULE];
+    size_t length = 0, inside = 0, close = open;
+    do inside += (text.start[close] == '(') - (text.start[close] == ')');
+    while (inside > 0 && ++close < text.len);
+    for (size_t at = 0; at < text.len; at++)
+        if (at != open && at != close) bytes[length++] = text.start[at];
+    return (Text){ bytes, length };
+}
+
+/* Does a pair of parentheses open at a byte, not that of a since or until? These stand behind a letter. */
+static int opens_pair(Text text, size_t at)
+{
+    return text.start[at] == '(' && (at == 0 || text.start[at - 1] < 'a' || text.start[at - 1] > 'z');
+}
+
+/* A printed text has square brackets only. Printed again it is the same, and with a pair of parentheses less it is another rule or none. */
+static void must_be_least(Text text)
+{
+    MUST(printed_as(text, text));
+    for (size_t at = 0; at < text.len; at++) {
+        MUST((text.start[at] != '@' && text.start[at] != '?') || text.start[at + 1] == '[');
+        if (opens_pair(text, at)) MUST(!printed_as(without_pair(text, at), text));
+    }
+}
+
+/* What a rule alone in the sheet makes of a table, if that is short, in which each row is true at a tick and false at another; and how many rows there are. */
+typedef struct { uint64_t rows, table[OFTEN_RUN]; } Closed;
+
+static void close_alone(Text rule, Closed *closed)
+{
+    Text alone = sheet_of(rule);
+    uint64_t fresh, clash, place;
+    memset(closed, 0, sizeof *closed);
+    MUST(mikhakun_check(alone.start, alone.len, &closed->rows, &place) == 0);
+    size_t length = mikhakun_words(closed->rows, window);
+    if (length > OFTEN_RUN) return;
+    for (uint64_t row = 0; row < closed->rows; row++)
+        for (uint64_t falsehood = 0; falsehood < 2; falsehood++) {
+            uint64_t tick = (row + falsehood * window / 2) % window;
+            closed->table[(2 * row + falsehood) * row_words + tick / 64] |= (uint64_t)1 << tick % 64;
+        }
+    MUST(mikhakun_add(alone.start, alone.len, lent_readings, 0, closed->table, length, &fresh, &clash, &place) == 0);
+}
+
+/* Alone in the sheet, the two rules make the same of the table. A row's marks go to the rows of its parts, so these must be the same. */
+static void must_be_the_same(Text one, Text other)
+{
+    static Closed of_one, of_other;
+    close_alone(one, &of_one);
+    close_alone(other, &of_other);
+    MUST(memcmp(&of_one, &of_other, sizeof of_one) == 0);
+}
+
+/* The most bytes that a rule's text may have: one more for each interval. */
+static size_t most_printed(Text rule)
+{
+    size_t most = rule.len;
+    for (size_t at = 0; at < rule.len; at++) most += rule.start[at] == '@' || rule.start[at] == '?';
+    return most;
+}
+
+/* A rule is printed where there is room, as the same rule with nothing needless, or refused by 20 where its text is over the limit. */
+static void must_be_printed(uint64_t rule)
+{
+    static uint8_t bytes[LONGEST_RULE];
+    Answer a = print_rule(rule, LONGEST_RULE);
+    MUST(a.number == 0 || a.number == 20);
+    if (a.number == 20) {
+        MUST(most_printed(rules[rule]) > LONGEST_RULE);
+        MUST(print_rule(rule, MOST_ROOM).number == 20);
+        too_long++;
+        return;
+    }
+    Text text = { bytes, a.value };
+    memcpy(bytes, out, text.len);
+    MUST(text.len > 0 && text.len <= most_printed(rules[rule]));
+    MUST(print_rule(rule, text.len - 1).number == 20);
+    MUST(print_rule(rule, text.len + some_room).value == text.len && memcmp(out, bytes, text.len) == 0);
+    must_be_least(text);
+    must_be_the_same(rules[rule], text);
+    printed++;
+    changed += text.len != rules[rule].len || memcmp(bytes, rules[rule].start, text.len) != 0;
+    told[PRINTED + bits(text.len)] = 1;
+}
+
+/* The rule asked for, one chosen by the input's length, and the one after the last, which there is not. */
+static void some_must_be_printed(void)
+{
+    if (signal_asked() < rule_count) must_be_printed(signal_asked());
+    else MUST(print_rule(signal_asked(), some_room).number == 17);
+    if (rule_count > 0) must_be_printed(some_room % rule_count);
+    MUST(print_rule(rule_count, some_room).number == 17);
+}
+
+/* A refused sheet: no rule is printed, whatever the number and the room. */
+static void must_not_be_printed(uint64_t number, uint64_t place)
+{
+    Answer a = print_rule(signal_asked(), some_room);
+    MUST(a.number == number && a.place == place);
 }
 
 static void join_none(void) { joined.len = joined.runs = 0; }
@@ -613,7 +784,9 @@ static void accepted_sheet(uint64_t rows)
     told[ROWS + bits(rows)] = 1;
     read_numbers();
     read_names();
+    read_rules();
     Answer moved = must_be_moved();
+    some_must_be_printed();
     size_t length = mikhakun_words(rows, window), too_long = rest.len > 3 ? rest.start[3] : 0;
     MUST(length == 2 * rows * row_words);
     if (length > OFTEN_LENT && !any_length) return;
@@ -647,6 +820,7 @@ static void calls(void)
         must_be_refused(checked.number, checked.place);
         must_not_be_counted(checked.number, checked.place);
         must_not_move(checked.number, checked.place);
+        must_not_be_printed(checked.number, checked.place);
     }
 }
 
@@ -657,6 +831,7 @@ int LLVMFuzzerTestOneInput(const uint8_t *data, size_t size)
         sheet_area = area(LONGEST_INPUT);
         readings_area = area(LONGEST_INPUT);
         moved_area = area(LONGEST_TEXT);
+        rule_area = area(LONGEST_TEXT + LONGEST_RULE);
         out_area = area(MOST_ROOM);
         memset(unwritten, 0xA5, sizeof unwritten);
         table_area = area(8 * MOST_WORDS);

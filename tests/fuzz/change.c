@@ -1,5 +1,6 @@
 /* How libFuzzer changes an input (see calls.c for its form). Changed at any byte, most sheets are refused in their first lines; so most changes are
- * to one line, or to what follows the sheet, and the numbers of signals and rules are then made to fit the lines. Some give the readings their other form. */
+ * to one line, or to what follows the sheet, and the numbers of signals and rules are then made to fit the lines. Some give the readings their other form,
+ * and some put parentheses round a part of a rule. */
 #include <stdint.h>
 #include <stdio.h>
 #include <string.h>
@@ -86,6 +87,51 @@ static size_t in_the_other_form(const char *text, size_t size)
     return put(length, text + end, size - end);
 }
 
+static int in_name(char byte) { return (byte >= 'a' && byte <= 'z') || (byte >= '0' && byte <= '9'); }
+
+/* Can a part of a rule start at this byte, which is not the first? Its key cannot, nor an interval or one of its ends. */
+static int starts_part(const char *text, size_t at)
+{
+    char byte = text[at], before = text[at - 1];
+    return (byte == '!' || byte == '(' || (byte >= 'a' && byte <= 'z')) && !in_name(before) && before != '@' && before != '?' && before != '\n';
+}
+
+/* Does a part of a rule end with this byte: a closing bracket, or the last of a name that no `(` follows? */
+static int ends_part(const char *text, size_t at, size_t end)
+{
+    char after = at + 1 < end ? text[at + 1] : '\n';
+    return text[at] == ')' || text[at] == ']' || (in_name(text[at]) && !in_name(after) && after != '(');
+}
+
+/* Where the part of a rule that starts at `from` ends: at the first place for that where no bracket is open, or so many places later. */
+static size_t part_end(const char *text, size_t from, size_t end, unsigned later)
+{
+    size_t found = from;
+    int open = 0;
+    for (size_t at = from; at < end && text[at] != '\n'; at++) {
+        open += (text[at] == '(' || text[at] == '[') - (text[at] == ')' || text[at] == ']');
+        if (open < 0) break;
+        if (open > 0 || !ends_part(text, at, end)) continue;
+        found = at + 1;
+        if (later-- == 0) break;
+    }
+    return found;
+}
+
+/* Copies the input with parentheses round a part of a rule, the first from the byte `chosen` of the rules on; answers its new length. */
+static size_t with_parentheses(const char *text, size_t size, size_t chosen, unsigned later)
+{
+    size_t end = text_end(text, 0, size), from = 0;
+    while (from < end && !starts(text, from, end, "rule=")) from = line_end(text, from, end);
+    if (from < end) from += 1 + chosen % (end - from);
+    while (from < end && !starts_part(text, from)) from++;
+    size_t to = part_end(text, from, end, later), length = put(0, text, from);
+    if (to > from) length = put(length, "(", 1);
+    length = put(length, text + from, to - from);
+    if (to > from) length = put(length, ")", 1);
+    return put(length, text + to, size - to);
+}
+
 /* Takes the changed input, cut to what there is room for. */
 static size_t take_changed(uint8_t *data, size_t size, size_t most)
 {
@@ -126,6 +172,7 @@ size_t LLVMFuzzerCustomMutator(uint8_t *data, size_t size, size_t most, unsigned
 {
     if (size == 0 || most > LONGEST) return LLVMFuzzerMutate(data, size, most);
     if (seed / 64 % 16 == 0) return take_changed(data, in_the_other_form((char *)data, size), most);
+    if (seed / 64 % 16 == 1) return take_changed(data, with_parentheses((char *)data, size, seed / 1024, seed % 4), most);
     size = change_some(data, size, most, seed);
     if (seed / 8 % 4 == 0) return size;
     return take_changed(data, with_right_numbers((char *)data, size), most);

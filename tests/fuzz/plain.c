@@ -14,7 +14,7 @@
 
 int LLVMFuzzerTestOneInput(const uint8_t *data, size_t size);
 size_t LLVMFuzzerCustomMutator(uint8_t *data, size_t size, size_t most, unsigned seed);
-extern uint64_t inputs, sheets, adds, wide_adds, texts, span_texts, counted, part_clashed;
+void tell_counts(FILE *to);
 
 enum { LONGEST = 80000, HANGS_AFTER = 5 };
 static uint8_t input[LONGEST];
@@ -58,7 +58,7 @@ size_t LLVMFuzzerMutate(uint8_t *data, size_t size, size_t most)
 {
     static const char *words[] = { "since(", "until(", "=>", "<=>", "|", "&", "!", "(", ")", "@[", "?(", "[-1,1]", "[-63,63]", "a", "0", "1", "64", "\n",
                                    "rule=a\n", "signal=z\n", "at=0\nsignal=a\nvalue=1\n", "02", "9999", "10000", "signal=z9\n", "signal=z10\n",
-                                   "from=0\nto=3\nsignal=a\nvalue=1\n", "from=", "to=", "from=2\nto=1\n" };
+                                   "from=0\nto=3\nsignal=a\nvalue=1\n", "from=", "to=", "from=2\nto=1\n", "(9,11)", "(-3,0)", "((a))" };
     char copy[64];
     size_t from = next_below(size + 1), some = next_below(sizeof copy), at = next_below(size + 1);
     if (some > size - from) some = size - from;
@@ -100,7 +100,5 @@ int main(int count, char **words)
             if (next_below(4) == 0) break;
         }
     }
-    printf("inputs: %lu, with an accepted sheet: %lu, with an accepted add: %lu, of these over 64 ticks: %lu\n", inputs, sheets, adds, wide_adds);
-    printf("with accepted readings, moved both ways: %lu, of these spans: %lu\n", texts, span_texts);
-    printf("with accepted figures of several texts: %lu, of these with some clashing: %lu\n", counted, part_clashed);
+    tell_counts(stdout);
 }

@@ -33,13 +33,11 @@ static void at_breakpoint(int number, siginfo_t *info, void *context)
     reached_in_all++;
 }
 
-extern uint64_t inputs, sheets, adds, wide_adds, texts, span_texts, counted, part_clashed;
+void tell_counts(FILE *to);
 
 static void tell(void)
 {
-    fprintf(stderr, "inputs: %lu, with an accepted sheet: %lu, with an accepted add: %lu, of these over 64 ticks: %lu\n", inputs, sheets, adds, wide_adds);
-    fprintf(stderr, "with accepted readings, moved both ways: %lu, of these spans: %lu\n", texts, span_texts);
-    fprintf(stderr, "with accepted figures of several texts: %lu, of these with some clashing: %lu\n", counted, part_clashed);
+    tell_counts(stderr);
     fprintf(stderr, "blocks reached: %zu of %zu\n", reached_in_all, blocks);
 }
 
