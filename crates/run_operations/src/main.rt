@@ -1,25 +1,24 @@
-// Runs check, add, ask, the moves and figures on a table of cases and prints each case with its answer. Assumes nothing of the cases, which are on standard input.
+// Runs check, add, ask, the moves, printing a rule and figures on a table of cases and prints each case with its answer. Assumes nothing of the cases, which are on standard input.
 // A heading says what is run, then what it shows: `=== sheet` with the sheet for what follows; `=== table N` with the table for what follows,
 // of N words, all 0 but those of its lines `I W`; `=== check`; `=== add` with the readings; `=== ask X T`; `=== spans N` and `=== singles N` with the
-// readings, moved into a buffer of N bytes that is full of dots. `--- then` has the buffer's first byte that was not written, if there is one.
+// readings, moved into a buffer of N bytes that is full of dots; `=== print R N`, which prints rule R back into such a buffer. `--- then` has the buffer's first byte
+// that was not written, if there is one.
 // `=== figures M N ..:` with the joined readings texts, of N bytes each, for M records; the table is the work table.
 mod figures;
 mod numbers;
+mod texts;
 mod words;
 
 use figures::run_figures;
 use libc::STDIN_FILENO;
 use numbers::decimal_at;
 use numbers::next_word;
-use numbers::word_after;
 use op_add::Adding;
 use op_add::add;
 use op_ask::Asking;
 use op_ask::ask;
 use op_check::Checking;
 use op_check::check;
-use op_moves::moves::to_readings;
-use op_moves::moves::to_spans;
 use read_bytes::bytes::starts_at;
 use run_cases::heading;
 use run_cases::next_line;
@@ -28,8 +27,9 @@ use run_cases::print_number;
 use run_cases::print_refusal;
 use run_cases::text_under;
 use spec_limits::LISTED_WORDS;
-use spec_operations::Writing;
 use table_marks::Value;
+use texts::run_moves;
+use texts::run_print;
 use words::print_words;
 ghost use mathlib.Core.Path.{_≡_};
 ghost use Prim.Native.Nat.{_<_, _≤_};
@@ -39,15 +39,6 @@ ghost use Rattle.spec_limits.specs.Limits.{mostListedWords};
 
 // The most bytes of a table of cases.
 const CASES: usize = 131072;
-
-// The largest buffer that is lent to a move.
-const ROOM: usize = 65536;
-
-// The longest text that is printed whole.
-const WHOLE: usize = 32000;
-
-// So many bytes are printed of a longer one, its last.
-const END: usize = 100;
 
 // Sets a word of the table as the line at `at` says, where there is such a word.
 fn set_word(cases: &[u8], at: usize, words: &mut [u64]) {
@@ -130,80 +121,6 @@ fn run_ask(s: &[u8], cases: &[u8], at: usize, words: &[u64]) {
     }
 }
 
-// A buffer full of dots.
-fn dots() -> [u8; ROOM]
-    ensures { λ r. ⌜ 65536 ≡ length r ⌝ }
-{
-    [b'.'; ROOM]
-}
-
-// The room that the heading at `at` names, at most that of the largest buffer.
-fn room_at(cases: &[u8], at: usize) -> usize
-    ensures { λ r. ⌜ r ≤ 65536 ⌝ }
-{
-    let second = word_after(cases, at);
-    let n = decimal_at(cases, second) as usize;
-    if n < ROOM { n } else { ROOM }
-}
-
-// Prints the text in the first n bytes of the buffer.
-fn print_text(out: &[u8], n: usize) {
-    if n <= out.len() {
-        if n <= WHOLE {
-            print(&out[0..n]);
-        } else {
-            print(b"--- its end\n");
-            print(&out[n - END..n]);
-        }
-    }
-}
-
-// Prints the byte at n, if the buffer has one.
-fn print_then(out: &[u8], n: usize) {
-    if n < out.len() {
-        print(b"--- then ");
-        print(&out[n..n + 1]);
-        print(b"\n");
-    }
-}
-
-// Prints what a move answers, and what is in the buffer after it.
-fn print_moved(answer: Writing, out: &[u8]) {
-    match answer {
-        Writing::Written(n) => {
-            print_number(b"--- length ", n as u64, b"\n");
-            print_text(out, n);
-            print_then(out, n);
-        }
-        Writing::Refused(number, place) => {
-            print_refusal(number, place);
-            print_then(out, 0);
-        }
-    }
-}
-
-// Writes the readings as spans, or one by one.
-fn run_move(spans: bool, s: &[u8], readings: &[u8], out: &mut [u8]) {
-    if spans {
-        let answer = to_spans(s, readings, out);
-        print_moved(answer, out);
-    } else {
-        let answer = to_readings(s, readings, out);
-        print_moved(answer, out);
-    }
-}
-
-// Moves the readings under the heading at `at`.
-fn run_moves(spans: bool, s: &[u8], cases: &[u8], at: usize)
-    requires { ⌜ at < length (now cases) ⌝ }
-{
-    let mut buffer = io::large_buffer();
-    let n = text_under(cases, at, &mut buffer);
-    let room = room_at(cases, at + 4);
-    let mut space = dots();
-    run_move(spans, s, &buffer[..n], &mut space[0..room]);
-}
-
 // Runs the operation of the heading at `at`, if it names one, on the sheet under the heading at `above` and the first `used` words.
 fn run_operation(cases: &[u8], above: usize, at: usize, words: &mut [u64], used: usize)
     requires { ⌜ (above < length (now cases)) × (at < length (now cases)) × Counts used (now words) ⌝ }
@@ -223,6 +140,8 @@ fn run_operation(cases: &[u8], above: usize, at: usize, words: &mut [u64], used:
         run_moves(false, s, cases, at);
     } else if starts_at(cases, at, b"=== figures") {
         run_figures(s, cases, at, &mut words[..used]);
+    } else if starts_at(cases, at, b"=== print") {
+        run_print(s, cases, at);
     }
 }
 

@@ -93,6 +93,15 @@ slice-aggregate-run-figures c = c .before .before .before .before .before .befor
 run-figures-requires : tie.Need-run-figures-requires
 run-figures-requires c κs = search needs
 
+slice-aggregate-starts-at-7 : tie.Need-slice-aggregate-starts-at-7
+slice-aggregate-starts-at-7 c = search needs
+
+starts-at-requires-7 : tie.Need-starts-at-requires-7
+starts-at-requires-7 c κs = search needs
+
+run-print-requires : tie.Need-run-print-requires
+run-print-requires c κs = c .before .before .before .before .before .before .before .before .before .before .before .before .before .before .before .before .before .before .before .before .before .before .before .before .before .before .before .before .pre .1
+
 returns : tie.Need-returns
 returns c = search needs
 
@@ -122,6 +131,9 @@ returns-6 c = search needs
 
 returns-7 : tie.Need-returns-7
 returns-7 c = search needs
+
+returns-8 : tie.Need-returns-8
+returns-8 c = search needs
 
 pub run-operation-spec : {M : Type 1} → statement M
 run-operation-spec =
@@ -157,6 +169,9 @@ run-operation-spec =
     slice-relend-prefix-run-figures
     slice-aggregate-run-figures
     run-figures-requires
+    slice-aggregate-starts-at-7
+    starts-at-requires-7
+    run-print-requires
     returns
     same-length
     returns-2
@@ -166,4 +181,5 @@ run-operation-spec =
     returns-5
     same-length-3
     returns-6
-    returns-7)
+    returns-7
+    returns-8)
