@@ -59,6 +59,7 @@ fn of_folder(folder: &Path) -> Case {
         }],
         moves: vec![],
         figures: vec![],
+        prints: vec![],
     }
 }
 

@@ -78,6 +78,15 @@ mod linked {
             record_count: usize,
             place: *mut u64,
         ) -> u64;
+        fn mikhakun_print_rule(
+            sheet: *const u8,
+            sheet_len: usize,
+            rule: u64,
+            out: *mut u8,
+            room: usize,
+            length: *mut u64,
+            place: *mut u64,
+        ) -> u64;
     }
 
     pub const LINKED: bool = true;
@@ -179,6 +188,19 @@ mod linked {
             outputs: vec![place],
         }
     }
+
+    pub fn print_rule(sheet: &[u8], rule: u64, out: &mut [u8]) -> Outcome {
+        let (mut length, mut place) = (UNWRITTEN, UNWRITTEN);
+        let (sheet_len, room) = (sheet.len(), out.len());
+        let (sheet, out) = (sheet.as_ptr(), out.as_mut_ptr());
+        let answer = unsafe {
+            mikhakun_print_rule(sheet, sheet_len, rule, out, room, &mut length, &mut place)
+        };
+        Outcome {
+            answer,
+            outputs: vec![length, place],
+        }
+    }
 }
 
 #[cfg(not(library))]
@@ -208,6 +230,10 @@ mod linked {
     pub fn figures(_: &[u8], _: &[u8], _: &[u64], _: &mut [u64], _: &mut [Record]) -> Outcome {
         unreachable!("no library")
     }
+
+    pub fn print_rule(_: &[u8], _: u64, _: &mut [u8]) -> Outcome {
+        unreachable!("no library")
+    }
 }
 
-pub use linked::{add, ask, check, figures, move_to, LINKED};
+pub use linked::{add, ask, check, figures, move_to, print_rule, LINKED};

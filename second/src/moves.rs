@@ -3,18 +3,14 @@
 use crate::operations::read;
 use crate::text::name::Name;
 use crate::text::readings::{self, Form};
-use crate::text::{refuse, Refusal, LONGEST_TEXT};
+use crate::text::{write, Refusal, LONGEST_TEXT};
 use std::collections::BTreeMap;
 
 /// Writes the readings in this form to the buffer's first bytes; answers how many these are.
 pub fn move_to(form: Form, sheet: &[u8], readings: &[u8], out: &mut [u8]) -> Result<u64, Refusal> {
     let (sheet, _) = read(sheet)?;
     let text = moved(form, readings, sheet.window, &sheet.names)?;
-    if text.len() > LONGEST_TEXT || text.len() > out.len() {
-        return refuse(20, 0);
-    }
-    out[..text.len()].copy_from_slice(text.as_bytes());
-    Ok(text.len() as u64)
+    write(&text, LONGEST_TEXT, out)
 }
 
 /// The readings in this form, however long that is.

@@ -1,12 +1,14 @@
 //! What the cases of a comparison meet, each thing in enough of them: numbers answered, kinds of windows, names refused for their end number,
-//! and what texts of readings and calls of figures meet.
+//! and what texts of readings, calls of figures and calls that print a rule meet.
 
 use crate::figures::Record;
 use crate::generate::figures::Figures;
 use crate::generate::moves::Move;
+use crate::generate::print::Print;
 use crate::generate::Call;
 use crate::library::Outcome;
 use crate::seen_figures;
+use crate::seen_print;
 use crate::seen_readings;
 use crate::table::block_words;
 use crate::tally::Tally;
@@ -48,9 +50,10 @@ pub struct Seen {
     misnumbered: Tally,
     readings: seen_readings::Seen,
     figures: seen_figures::Seen,
+    prints: Tally,
 }
 
-/// What one case met, as places in the lists above.
+/// What one case met: places in the lists above, and things that have their lists elsewhere.
 #[derive(Default)]
 pub struct Met {
     numbers: BTreeSet<usize>,
@@ -58,6 +61,7 @@ pub struct Met {
     misnumbered: BTreeSet<usize>,
     readings: seen_readings::Met,
     figures: seen_figures::Met,
+    prints: BTreeSet<String>,
 }
 
 impl Seen {
@@ -84,6 +88,7 @@ impl Seen {
             ),
             readings: seen_readings::Seen::none(least),
             figures: seen_figures::Seen::none(least),
+            prints: seen_print::tally(least),
         }
     }
 
@@ -97,6 +102,9 @@ impl Seen {
         }
         self.readings.count(case.readings);
         self.figures.count(case.figures);
+        for thing in &case.prints {
+            self.prints.met_thing(thing);
+        }
     }
 
     /// Prints the counts; answers how many things were met too seldom.
@@ -106,6 +114,7 @@ impl Seen {
             + self.misnumbered.print()
             + self.readings.print()
             + self.figures.print()
+            + self.prints.print()
     }
 }
 
@@ -141,6 +150,12 @@ impl Met {
     pub fn figured(&mut self, sheet: &[u8], call: &Figures, outcome: &Outcome, records: &[Record]) {
         self.number(outcome.answer);
         self.figures.figured(sheet, call, outcome, records);
+    }
+
+    /// Takes in a call that prints a rule, and what it answered.
+    pub fn printed(&mut self, call: &Print, outcome: &Outcome) {
+        self.number(outcome.answer);
+        self.prints.extend(seen_print::met(call, outcome));
     }
 
     fn number(&mut self, number: u64) {

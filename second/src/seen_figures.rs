@@ -4,14 +4,14 @@ use crate::figures::{cut, Record, MOST_RUNS, NEVER};
 use crate::generate::figures::Figures;
 use crate::library::Outcome;
 use crate::operations::read;
+use crate::seen_calls::{of_sheet, SHEETS};
 use crate::tally::Tally;
 use crate::text::readings::{self, Form};
 use crate::text::sheet::Sheet;
 use crate::text::LONGEST_TEXT;
 use std::collections::BTreeSet;
 
-/// The refusals of a sheet, and those of a text, which may be the first or a later one.
-const OF_SHEETS: [u64; 9] = [1, 2, 3, 4, 5, 6, 7, 8, 9];
+/// The refusals of a text, which may be the first or a later one.
 const OF_TEXTS: [u64; 6] = [10, 11, 12, 13, 14, 21];
 /// The other refusals, with what would be refused later in the same call, and what is accepted.
 const OTHERS: [&str; 26] = [
@@ -53,7 +53,7 @@ pub struct Met(BTreeSet<String>);
 impl Seen {
     /// None yet; each thing has to be met so often.
     pub fn none(least: u64) -> Self {
-        let of_sheets = OF_SHEETS.iter().map(|&number| of_sheet(number));
+        let of_sheets = SHEETS.iter().map(|thing| thing.to_string());
         let of_first = OF_TEXTS.iter().map(|&number| of_text(number, 0));
         let of_later = OF_TEXTS.iter().map(|&number| of_text(number, 1));
         let others = OTHERS.iter().map(|thing| thing.to_string());
@@ -79,7 +79,7 @@ impl Met {
         let sheet = match read(sheet) {
             Ok((sheet, _)) => sheet,
             Err(_) => {
-                self.0.insert(of_sheet(number));
+                self.0.insert(of_sheet(number).to_string());
                 return;
             }
         };
@@ -120,10 +120,6 @@ impl Met {
             ),
         ]);
     }
-}
-
-fn of_sheet(number: u64) -> String {
-    format!("the sheet: {number}")
 }
 
 /// The refusal of the text at this place of the list.

@@ -4,6 +4,7 @@ use crate::generate::moves::Move;
 use crate::library::Outcome;
 use crate::moves::moved;
 use crate::operations::read;
+use crate::seen_calls::{of_room, of_sheet, ROOMS, SHEETS};
 use crate::tally::Tally;
 use crate::text::readings::Form;
 use crate::text::LONGEST_TEXT;
@@ -36,27 +37,8 @@ const ADDS: [&str; 4] = [
     "whole or cut, in the other form: 0",
     "both forms on one table: 0",
 ];
-const MOVES: [&str; 19] = [
-    "the sheet: 1",
-    "the sheet: 2",
-    "the sheet: 3",
-    "the sheet: 4",
-    "the sheet: 5",
-    "the sheet: 6",
-    "the sheet: 7",
-    "the sheet: 8",
-    "the sheet: 9",
-    "room to the byte: 0",
-    "room to spare: 0",
-    "room for one byte too few: 20",
-    "room for half or less: 20",
-    "no room: 20",
-    "no room, and an empty text: 0",
-    "32,768 bytes: 0",
-    "32,769 bytes: 20",
-    "more bytes, and room for them: 20",
-    "there and back: 0",
-];
+/// What a move meets besides, with its sheet and its room.
+const MOVES: [&str; 2] = ["no room, and an empty text: 0", "there and back: 0"];
 
 /// In how many cases each thing was met, by operation.
 pub struct Seen {
@@ -80,12 +62,13 @@ impl Seen {
             let things = TEXTS.iter().chain(own);
             Tally::new(title, things.map(|thing| (thing.to_string(), least)))
         };
+        let moves = [&SHEETS[..], &ROOMS, &MOVES].concat();
         Seen {
             add: tally("cases in which a text of readings met in an add", &ADDS),
-            to_spans: tally("cases in which one met in a move to spans", &MOVES),
+            to_spans: tally("cases in which one met in a move to spans", &moves),
             to_readings: tally(
                 "cases in which one met in a move to single readings",
-                &MOVES,
+                &moves,
             ),
         }
     }
@@ -131,9 +114,10 @@ impl Met {
     pub fn moved(&mut self, sheet: &[u8], call: &Move, outcome: &Outcome) {
         let text = of_text(&call.readings, outcome);
         let own = match outcome.answer {
-            number @ 1..=9 => vec![MOVES[number as usize - 1]],
-            0 => of_room(outcome.outputs[0] as usize, call.room),
-            20 => of_room(length(sheet, call), call.room),
+            number @ 1..=9 => vec![of_sheet(number)],
+            0 if (outcome.outputs[0], call.room) == (0, 0) => vec!["no room, and an empty text: 0"],
+            0 => of_room(outcome.outputs[0] as usize, call.room, LONGEST_TEXT),
+            20 => of_room(length(sheet, call), call.room, LONGEST_TEXT),
             _ => vec![],
         };
         self.of(call.to).extend(text.into_iter().chain(own));
@@ -190,31 +174,4 @@ fn length(sheet: &[u8], call: &Move) -> usize {
     let text = read(sheet)
         .and_then(|(sheet, _)| moved(call.to, &call.readings, sheet.window, &sheet.names));
     text.map_or(0, |text| text.len())
-}
-
-/// What a text of this length met in a buffer of this room.
-fn of_room(length: usize, room: usize) -> Vec<&'static str> {
-    let (some_room, fits, short) = (room > 0, length <= room, length <= LONGEST_TEXT);
-    let things = [
-        ("room to the byte: 0", short && some_room && length == room),
-        ("room to spare: 0", short && length < room),
-        (
-            "room for one byte too few: 20",
-            short && some_room && length == room + 1,
-        ),
-        (
-            "room for half or less: 20",
-            short && some_room && 2 * room <= length,
-        ),
-        ("no room: 20", short && !some_room && !fits),
-        ("no room, and an empty text: 0", !some_room && fits),
-        ("32,768 bytes: 0", length == LONGEST_TEXT && fits),
-        ("32,769 bytes: 20", length == LONGEST_TEXT + 1 && fits),
-        (
-            "more bytes, and room for them: 20",
-            length > LONGEST_TEXT + 1 && fits,
-        ),
-    ];
-    let met = things.into_iter().filter(|(_, met)| *met);
-    met.map(|(thing, _)| thing).collect()
 }

@@ -3,6 +3,8 @@
 mod figures;
 mod moves;
 mod parts;
+mod print;
+mod written;
 
 use crate::generate::{case, Call, Case};
 use crate::library::{self, Outcome, UNWRITTEN};
@@ -65,6 +67,9 @@ fn compare(case: &Case, seen: &mut Seen) -> Result<(), String> {
     }
     for call in &case.figures {
         figures::compare(&case.sheet, call, &mut met)?;
+    }
+    for call in &case.prints {
+        print::compare(call, &mut met)?;
     }
     seen.count(met);
     Ok(())

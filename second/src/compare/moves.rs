@@ -1,16 +1,14 @@
 //! A move on both sides: answer, length, place and every byte of the lent buffer must be the same, and the library's text must come back
 //! from moves there and back.
 
-use super::{expected, shown};
+use super::expected;
+use super::written::{sides, Written};
 use crate::generate::moves::Move;
-use crate::library::{self, Outcome};
+use crate::library;
 use crate::moves::move_to;
 use crate::seen::Met;
 use crate::text::readings::Form;
 use crate::text::LONGEST_TEXT;
-
-/// Bytes before and after the lent buffer that no call may change.
-const GUARD: usize = 16;
 
 pub fn compare(sheet: &[u8], call: &Move, met: &mut Met) -> Result<(), String> {
     let Move { to, readings, room } = call;
@@ -29,40 +27,14 @@ pub fn compare(sheet: &[u8], call: &Move, met: &mut Met) -> Result<(), String> {
     Ok(())
 }
 
-/// What a move answered, and the lent buffer after it, with its guards.
-#[derive(PartialEq, Eq)]
-struct Moved {
-    outcome: Outcome,
-    buffer: Vec<u8>,
+fn our_move(to: Form, sheet: &[u8], readings: &[u8], room: usize) -> Written {
+    Written::by(room, |out| {
+        expected(move_to(to, sheet, readings, out).map(|length| [length]))
+    })
 }
 
-impl Moved {
-    /// The text written, if the move was accepted and the length can be one.
-    fn text(&self) -> Option<&[u8]> {
-        let length = self.outcome.outputs[0] as usize;
-        let accepted = self.outcome.answer == 0;
-        let end = GUARD.checked_add(length).filter(|_| accepted)?;
-        self.buffer.get(GUARD..end)
-    }
-}
-
-/// A buffer of so many bytes between guards. No text has its bytes, and its neighbours differ.
-fn lent(room: usize) -> Vec<u8> {
-    let byte = |place: usize| 0x80 | (place * 37 % 128) as u8;
-    (0..GUARD + room + GUARD).map(byte).collect()
-}
-
-fn our_move(to: Form, sheet: &[u8], readings: &[u8], room: usize) -> Moved {
-    let mut buffer = lent(room);
-    let length = move_to(to, sheet, readings, &mut buffer[GUARD..GUARD + room]);
-    let outcome = expected(length.map(|length| [length]));
-    Moved { outcome, buffer }
-}
-
-fn their_move(to: Form, sheet: &[u8], readings: &[u8], room: usize) -> Moved {
-    let mut buffer = lent(room);
-    let outcome = library::move_to(to, sheet, readings, &mut buffer[GUARD..GUARD + room]);
-    Moved { outcome, buffer }
+fn their_move(to: Form, sheet: &[u8], readings: &[u8], room: usize) -> Written {
+    Written::by(room, |out| library::move_to(to, sheet, readings, out))
 }
 
 /// Moves a written text on: to its own form, which changes nothing; to the other form, which gives what the readings themselves give there;
@@ -83,8 +55,8 @@ fn back(to: Form, sheet: &[u8], readings: &[u8], text: &[u8]) -> Result<bool, &'
     }
 }
 
-/// The call and its texts as Rust source, then what each side answered and where the buffers differ first.
-fn pasteable(sheet: &[u8], call: &Move, ours: &Moved, theirs: &Moved) -> String {
+/// The call and its texts as Rust source, then what both sides gave.
+fn pasteable(sheet: &[u8], call: &Move, ours: &Written, theirs: &Written) -> String {
     let Move { to, readings, room } = call;
     let function = match to {
         Form::Readings => "to_readings",
@@ -93,14 +65,5 @@ fn pasteable(sheet: &[u8], call: &Move, ours: &Moved, theirs: &Moved) -> String 
     let mut text = format!("let sheet = b\"{}\";\n", sheet.escape_ascii());
     text += &format!("let readings = b\"{}\";\n", readings.escape_ascii());
     text += &format!("{function}(sheet, readings, &mut [0; {room}]);\n");
-    for (side, moved) in [("second", ours), ("library", theirs)] {
-        text += &format!("// {side}: {}\n", shown(&moved.outcome));
-    }
-    let mut bytes = ours.buffer.iter().zip(&theirs.buffer);
-    if let Some(place) = bytes.position(|(one, two)| one != two) {
-        let (one, two) = (ours.buffer[place], theirs.buffer[place]);
-        let place = place as i64 - GUARD as i64;
-        text += &format!("// out[{place}] after: second {one:#x}, library {two:#x}\n");
-    }
-    text
+    text + &sides(ours, theirs)
 }

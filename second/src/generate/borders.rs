@@ -8,11 +8,7 @@ use super::windows;
 
 /// Few rules, so that the window may be of any length.
 pub fn borders(random: &mut Random) -> Draft {
-    let style = Style {
-        names: names(random, 1, 4),
-        hidden: 0,
-        wild: false,
-    };
+    let style = Style::plain(names(random, 1, 4));
     let rules = (0..1 + random.below(4)).map(|_| rule(random, &style));
     let rules = rules.collect();
     Draft::new(windows::longer(random), style.names, rules)

@@ -9,9 +9,21 @@ pub struct Style {
     pub hidden: usize,
     /// Whether intervals may have ends anywhere up to their limits, over them, or none inside.
     pub wild: bool,
+    /// Whether many parts stand in parentheses that they do not need, some in several.
+    pub clumsy: bool,
 }
 
 impl Style {
+    /// These names, and nothing that is out of the way.
+    pub fn plain(names: Vec<String>) -> Self {
+        Style {
+            names,
+            hidden: 0,
+            wild: false,
+            clumsy: false,
+        }
+    }
+
     pub fn name(&self, random: &mut Random) -> String {
         self.names[random.below(self.names.len())].clone()
     }
@@ -48,11 +60,21 @@ fn part(random: &mut Random, style: &Style, size: usize, level: usize) -> String
             (5, format!("{word}{arguments})"))
         }
     };
-    if own < level || random.chance(4) {
+    let text = if own < level || random.chance(4) {
         format!("({text})")
     } else {
         text
+    };
+    clumsily(random, style, text)
+}
+
+/// The part, in needless parentheses if the style is clumsy.
+fn clumsily(random: &mut Random, style: &Style, text: String) -> String {
+    if !style.clumsy {
+        return text;
     }
+    let pairs = random.weighted(&[70, 18, 8, 4]);
+    "(".repeat(pairs) + &text + &")".repeat(pairs)
 }
 
 /// Two parts, each with its size and level, and what joins them.
@@ -70,9 +92,12 @@ fn pair(
 
 fn leaf(random: &mut Random, style: &Style, level: usize) -> String {
     let not = random.pick(&["", "", "", "!", "!!"]);
-    let text = format!("{not}{}", style.name(random));
+    let name = style.name(random);
+    let name = clumsily(random, style, name);
+    let text = clumsily(random, style, format!("{not}{name}"));
     if level <= 4 && random.chance(25) {
-        text + &timing(random, style)
+        let timed = text + &timing(random, style);
+        clumsily(random, style, timed)
     } else {
         text
     }

@@ -45,11 +45,7 @@ pub fn rules_of_rows(random: &mut Random, names: &[String], rows: usize) -> Vec<
 
 /// From 31 to 34 since or until in all.
 pub fn hidden_near_limit(random: &mut Random) -> Draft {
-    let style = Style {
-        names: names(random, 1, 4),
-        hidden: 0,
-        wild: false,
-    };
+    let style = Style::plain(names(random, 1, 4));
     let mut left = random.pick(&[31, 32, 32, 33, 33, 34]);
     let mut rules = vec![];
     while left > 0 {
@@ -61,11 +57,7 @@ pub fn hidden_near_limit(random: &mut Random) -> Draft {
 }
 
 pub fn open_near_limit(random: &mut Random) -> Draft {
-    let style = Style {
-        names: names(random, 1, 3),
-        hidden: 0,
-        wild: false,
-    };
+    let style = Style::plain(names(random, 1, 3));
     let count = random.pick(&[31, 32, 32, 33, 33, 40]);
     let text = match random.below(6) {
         0 => limit_formula::reopened(random, &style),
@@ -94,9 +86,9 @@ pub fn rule_length(random: &mut Random) -> Draft {
 
 pub fn intervals(random: &mut Random) -> Draft {
     let style = Style {
-        names: names(random, 1, 3),
         hidden: 5,
         wild: true,
+        ..Style::plain(names(random, 1, 3))
     };
     let mut rules = vec![];
     for _ in 0..1 + random.below(2) {

@@ -1,6 +1,7 @@
 //! The generator of cases: a sheet, a lent table, and calls one after another; the same seed gives the same cases.
 
 mod borders;
+mod clumsy;
 mod damage;
 mod draft;
 mod faults;
@@ -13,8 +14,10 @@ pub mod listed;
 pub mod moves;
 mod names;
 mod parts;
+pub mod print;
 pub mod random;
 mod readings;
+mod room;
 mod sheet;
 mod spans;
 mod tables;
@@ -24,6 +27,7 @@ use crate::operations::read;
 use crate::text::name::{self, Name};
 use figures::Figures;
 use moves::Move;
+use print::Print;
 use random::Random;
 
 pub enum Call {
@@ -47,6 +51,8 @@ pub struct Case {
     pub moves: Vec<Move>,
     /// Calls with a work table of their own.
     pub figures: Vec<Figures>,
+    /// Calls that take no table, some with a sheet of their own.
+    pub prints: Vec<Print>,
 }
 
 /// What the rest of a case needs to know of its sheet; of a refused sheet it is made up.
@@ -72,12 +78,14 @@ pub fn case(seed: u64, number: u64) -> Case {
     let moves = moves.collect();
     let figures = (0..random.below(3)).map(|_| figures::any(&mut random, &shape));
     let figures = figures.collect();
+    let prints = print::calls(&mut random, &sheet);
     Case {
         sheet,
         table,
         calls,
         moves,
         figures,
+        prints,
     }
 }
 
@@ -92,6 +100,7 @@ fn full_case(random: &mut Random) -> Case {
         calls: vec![],
         moves,
         figures: vec![figures::any(random, &shape)],
+        prints: vec![],
     }
 }
 

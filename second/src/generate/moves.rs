@@ -1,6 +1,7 @@
-//! Calls of the moves: texts of either form, and buffers with room to spare, to the byte, and too small.
+//! Calls of the moves: texts of either form, and buffers of every kind of room.
 
 use super::random::Random;
+use super::room::room;
 use super::{full, readings, Shape};
 use crate::moves::moved;
 use crate::text::readings::Form;
@@ -32,22 +33,6 @@ pub fn full(random: &mut Random, shape: &Shape) -> Move {
 
 fn with_room(random: &mut Random, shape: &Shape, to: Form, readings: Vec<u8>) -> Move {
     let text = moved(to, &readings, shape.window, &shape.declared);
-    let room = match text {
-        Ok(text) => room(random, text.len()),
-        Err(_) => random.pick(&[0, 1, 100, LONGEST_TEXT]),
-    };
+    let room = room(random, text.ok(), LONGEST_TEXT);
     Move { to, readings, room }
-}
-
-/// The room for a text of this length: enough, to the byte, one byte too few, far too few, or none at all.
-fn room(random: &mut Random, length: usize) -> usize {
-    let (spare, part) = (random.below(40), random.below(length / 2 + 1));
-    match random.weighted(&[35, 25, 15, 10, 5, 10]) {
-        0 => length + spare,
-        1 => length,
-        2 => length.saturating_sub(1),
-        3 => part,
-        4 => 0,
-        _ => LONGEST_TEXT.max(length) + spare,
-    }
 }

@@ -25,14 +25,23 @@ pub fn sheet(random: &mut Random) -> Vec<u8> {
     if random.chance(8) {
         draft.window = windows::longer(random).to_string();
     }
+    wrong_value(random, &mut draft);
+    windows::shorten(random, &mut draft);
+    damaged(random, draft.text())
+}
+
+/// Now and then a fault in one of the values.
+pub fn wrong_value(random: &mut Random, draft: &mut Draft) {
     match random.weighted(&[66, 5, 5, 3]) {
         0 => {}
-        1 => faults::wrong_number(random, &mut draft),
-        2 => faults::wrong_name(random, &mut draft),
-        _ => faults::undeclared(random, &mut draft),
+        1 => faults::wrong_number(random, draft),
+        2 => faults::wrong_name(random, draft),
+        _ => faults::undeclared(random, draft),
     }
-    windows::shorten(random, &mut draft);
-    let mut text = draft.text();
+}
+
+/// The text, now and then damaged or made about as long as it may be.
+pub fn damaged(random: &mut Random, mut text: Vec<u8>) -> Vec<u8> {
     match random.weighted(&[74, 22, 4]) {
         0 => {}
         1 => damage(random, &mut text),
@@ -51,9 +60,8 @@ fn random_draft(
 ) -> Draft {
     let hidden = random.pick(&[0, 0, 6, 25]);
     let style = Style {
-        names: names(random, signals, signals),
         hidden,
-        wild: false,
+        ..Style::plain(names(random, signals, signals))
     };
     let rules = random_rules(random, &style, rules, size);
     Draft::new(window, style.names, rules)
@@ -81,9 +89,8 @@ fn large(random: &mut Random) -> Draft {
 /// Rules that carry values from tick to tick over a long window.
 fn chain(random: &mut Random) -> Draft {
     let style = Style {
-        names: names(random, 2, 9),
         hidden: 10,
-        wild: false,
+        ..Style::plain(names(random, 2, 9))
     };
     let mut rules = vec![];
     for _ in 0..1 + random.below(10) {
@@ -103,11 +110,7 @@ fn chain(random: &mut Random) -> Draft {
 }
 
 fn equivalences(random: &mut Random) -> Draft {
-    let style = Style {
-        names: names(random, 1, 4),
-        hidden: 0,
-        wild: false,
-    };
+    let style = Style::plain(names(random, 1, 4));
     let mut rules = vec![];
     for _ in 0..1 + random.below(3) {
         let depth = random.pick(&[2, 4, 6, 7, 8, 9, 20]);

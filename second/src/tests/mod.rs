@@ -1,5 +1,5 @@
-//! Unit tests: the proved cases, the refusal table, names, the lowering, the closing, tables of several words, spans, the moves, figures
-//! and the generator; and how they write texts.
+//! Unit tests: the proved cases, the refusal table, names, the lowering, the closing, tables of several words, spans, the moves, figures,
+//! printed rules and the generator; and how they write texts.
 
 mod borders;
 mod closing;
@@ -9,6 +9,7 @@ mod listed;
 mod lowering;
 mod moves;
 mod names;
+mod print;
 mod proved;
 mod refusals;
 mod spans;
@@ -19,6 +20,21 @@ use crate::text::Refusal;
 /// A refusal's number and place, or none.
 fn shown<T>(result: Result<T, Refusal>) -> Option<(u64, u64)> {
     result.err().map(|refusal| (refusal.number, refusal.place))
+}
+
+/// The text that a call writes to a buffer of so many bytes, or its refusal. The other bytes stay as they were.
+fn written(
+    room: usize,
+    call: impl Fn(&mut [u8]) -> Result<u64, Refusal>,
+) -> Result<String, (u64, u64)> {
+    let mut out = vec![b'.'; room];
+    let answer = call(&mut out);
+    let (text, rest) = out.split_at(answer.unwrap_or(0) as usize);
+    assert!(rest.iter().all(|&byte| byte == b'.'));
+    match shown(answer) {
+        Some(refusal) => Err(refusal),
+        None => Ok(String::from_utf8_lossy(text).to_string()),
+    }
 }
 
 /// A sheet of this window, these names (parted by spaces) and these rules.

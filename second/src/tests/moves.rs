@@ -1,6 +1,6 @@
 //! The moves between the two forms, worked out by hand, and on generated texts by sets of readings.
 
-use super::{readings as single, sheet, shown, spans};
+use super::{readings as single, sheet, shown, spans, written};
 use crate::generate::case;
 use crate::moves::move_to;
 use crate::operations::read;
@@ -13,18 +13,9 @@ fn moved(to: Form, text: &str) -> String {
 }
 
 fn moved_in(to: Form, sheet: &str, text: &str) -> Result<String, (u64, u64)> {
-    let mut out = vec![b'.'; 40_000];
-    match move_to(to, sheet.as_bytes(), text.as_bytes(), &mut out) {
-        Ok(length) => {
-            let (text, rest) = out.split_at(length as usize);
-            assert!(rest.iter().all(|&byte| byte == b'.'));
-            Ok(String::from_utf8_lossy(text).to_string())
-        }
-        Err(refusal) => {
-            assert!(out.iter().all(|&byte| byte == b'.'));
-            Err((refusal.number, refusal.place))
-        }
-    }
+    written(40_000, |out| {
+        move_to(to, sheet.as_bytes(), text.as_bytes(), out)
+    })
 }
 
 /// First and last ticks of spans.

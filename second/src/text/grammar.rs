@@ -21,6 +21,22 @@ pub enum Formula {
     Once(Box<Formula>, i64, i64),
 }
 
+impl Formula {
+    /// Its parts, left before right; a hidden signal has none.
+    pub fn parts(&self) -> Vec<&Formula> {
+        match self {
+            Formula::Signal(_) | Formula::Hidden(_) => vec![],
+            Formula::Not(part) | Formula::Always(part, ..) | Formula::Once(part, ..) => {
+                vec![part]
+            }
+            Formula::And(left, right)
+            | Formula::Or(left, right)
+            | Formula::Implies(left, right)
+            | Formula::Iff(left, right) => vec![left, right],
+        }
+    }
+}
+
 /// The written since or until behind a hidden signal: its arguments, and the tick it looks at (-1 or 1).
 #[derive(Clone, Debug, PartialEq, Eq)]
 pub struct Hidden {

@@ -28,5 +28,14 @@ pub fn refuse<T>(number: u64, place: usize) -> Result<T, Refusal> {
     Err(Refusal { number, place })
 }
 
+/// Writes a text to the buffer's first bytes, if it has at most so many and fits; answers how many these are.
+pub fn write(text: &str, most: usize, out: &mut [u8]) -> Result<u64, Refusal> {
+    if text.len() > most || text.len() > out.len() {
+        return refuse(20, 0);
+    }
+    out[..text.len()].copy_from_slice(text.as_bytes());
+    Ok(text.len() as u64)
+}
+
 /// The longest sheet and the longest readings, in bytes.
 pub const LONGEST_TEXT: usize = 32_768;

@@ -15,17 +15,19 @@ pub struct Sheet {
     pub hidden: Vec<Hidden>,
 }
 
-/// A rule, and the numbers of the hidden signals written in it.
+/// A rule, the numbers of the hidden signals written in it, and where its text stands in the sheet.
 pub struct Rule {
     pub formula: Formula,
     pub hidden: Range<usize>,
+    pub text: Range<usize>,
 }
 
 /// The most ticks, signals and rules.
 pub const LONGEST_WINDOW: u64 = 4_096;
 const MOST_SIGNALS: u64 = 64;
-const MOST_RULES: u64 = 64;
-const LONGEST_RULE: usize = 256;
+pub const MOST_RULES: u64 = 64;
+/// The longest rule, in bytes.
+pub const LONGEST_RULE: usize = 256;
 
 pub fn read(text: &[u8]) -> Result<Sheet, Refusal> {
     if text.len() > LONGEST_TEXT {
@@ -79,6 +81,12 @@ fn read_rule(lines: &mut Lines, sheet: &mut Sheet) -> Result<(), Refusal> {
     let first = sheet.hidden.len();
     let formula = grammar::read(value.bytes, value.place, &sheet.names, &mut sheet.hidden)?;
     let hidden = first..sheet.hidden.len();
-    sheet.rules.push(Rule { formula, hidden });
+    let text = value.place..value.place + value.bytes.len();
+    let rule = Rule {
+        formula,
+        hidden,
+        text,
+    };
+    sheet.rules.push(rule);
     Ok(())
 }
