@@ -3,15 +3,15 @@
 use mathlib.Core.Path.{_≡_, refl, sym, ap, subst, _∙_}
 use mathlib.Core.Bool.{Bool, true, false}
 use mathlib.Core.List.{List}
+use mathlib.Core.Option.{Option, none, some}
 use Prim.Native.Nat.{ℕ, _+_, _-_, _*_, _<_, _≤_}
-use native.Mathlib.Decide.{decLe}
+use native.Mathlib.Decide.{decLe, decLt}
 use native.Mathlib.Omega.{arith}
-use borrow.Author.Tests.{leb-true}
 use lib.Dec.{leb, eqb}
-use lib.ListN.{length, take, drop, length-drop}
+use lib.ListN.{length, take, length-drop}
 use lib.Seq.{length-take-le}
 use Rattle.spec_limits.specs.Limits.{mostBytes, mostRules, mostRuleBytes, mostSignals}
-use Rattle.read_bytes.specs.Read.{Read, andThen}
+use Rattle.read_bytes.specs.Read.{andThen}
 use Rattle.read_bytes.specs.Read.Read.{got, refused as unread}
 use Rattle.read_bytes.specs.Bytes.{bytes, pick, between}
 use Rattle.read_bytes.proofs.Answers.{not-both, same-value, through, came}
@@ -31,7 +31,7 @@ use Rattle.read_head.specs.SheetHead.{Head, head, firstPlaces, Headed}
 use Rattle.read_sheet.specs.Sheet.{Contents, contents, ruleTo, ruleLine, rules, atEnd, sheetOf}
 use Rattle.read_sheet.specs.RuleAnswers.{RuleHeld}
 use Rattle.read_sheet.proofs.Formulas.{rule-reads}
-use Rattle.read_sheet.proofs.Wholes.{sheet-long, refused-head}
+use Rattle.read_sheet.proofs.Wholes.{sheet-long, refused-head, sheet-head}
 use Rattle.read_sheet.proofs.Answers.{when-headed, when-no-head}
 use Rattle.read_sheet.proofs.Ruled.{rules-many}
 use Rattle.read_head.proofs.Heads.{head-past}
@@ -50,7 +50,7 @@ use Rattle.spec_print.proofs.ReadBack.{at-most-twice}
 use Rattle.write_formula.specs.PartTexts.{NamedNode}
 use Rattle.op_print.specs.RuleLines.{lineOf, printedLine, LineAt, Accepted}
 use Rattle.op_print.proofs.Rooms.{gives-refused}
-use Rattle.op_print.proofs.RulesFound.{rule-past-all, Found, found}
+use Rattle.op_print.proofs.RulesFound.{rule-past-all, rule-inside, Found, found}
 
 -- ---- a rule that is read from its line
 
@@ -209,3 +209,16 @@ module _ {s T : List ℕ} (x : Accepted s) {r : Heading} {w n m p : ℕ} (y : He
 -- The head of an accepted sheet is not refused.
 pub no-head : {s T : List ℕ} {r : Heading} {k q : ℕ} → Accepted s → Headed s T r → r ≡ heading.Refused k q → ⊥
 no-head {s} x y e = head-accepted s (x .sheet) (short-enough x) (when-no-head y e)
+
+-- ---- a sheet's rules are rules
+
+some-one : {f g : Written} → some f ≡ some g → f ≡ g
+some-one e = cc
+
+pub rule-is : (s : List ℕ) (r : ℕ) {k : Contents} {f : Written} → sheetIn s ≡ accepted k → ruleAt (k .rules) r ≡ some f → IsRule (namesAt s (k .places)) f
+rule-is s r {k} {f} e x =
+    let h = sheet-head s (in-sheet s e .reads) in
+    let y = after-head s (in-sheet s e .reads) (h .2) in
+    let m = rules-many (namesAt s (k .places)) s (h .0) (h .1) (head-past s (h .2) .inside) (y .2) in
+    let z = rule-found s e (h .2) {r = r} (omega (arith, rule-inside (k .rules) r x)) in
+    subst (IsRule (namesAt s (k .places))) (some-one (sym (z .is-rule) ∙ x)) (line-printable (namesAt s (k .places)) s (lineOf s r (h .1)) (z .reads) .is-rule)

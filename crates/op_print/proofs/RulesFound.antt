@@ -1,7 +1,6 @@
 -- The lines of an accepted sheet's rules: where each is, and that the rule with a number is read there.
 -- Assumes nothing. `names` are the declared names' texts, `s` is the sheet's text.
 use mathlib.Core.Path.{_≡_, refl, sym, ap, subst, _∙_}
-use mathlib.Core.Bool.{Bool, true, false}
 use mathlib.Core.List.{List, [], _∷_, _++_}
 use mathlib.Core.Option.{Option, none, some}
 use mathlib.Core.Logic.{_⊎_, inl, inr, ⊎-elim}
@@ -63,6 +62,21 @@ unfolding ruleAt
 rule-past-all [] r h = refl
 rule-past-all (f ∷ fs) zero h = absurd (omega arith)
 rule-past-all (f ∷ fs) (suc r) h = rule-past-all fs r (omega arith)
+
+none-some : {f : Written} → _≡_ {A = Option Written} none (some f) → ⊥
+none-some e = let z : _≡_ {A = ℕ} 0 1 = cc in omega arith
+
+pub rule-inside : (fs : List Written) (r : ℕ) {f : Written} → ruleAt fs r ≡ some f → r < length fs
+unfolding ruleAt
+rule-inside [] r e = absurd (none-some e)
+rule-inside (g ∷ fs) zero e = omega arith
+rule-inside (g ∷ fs) (suc r) e = let l = rule-inside fs r e in omega arith
+
+pub rule-absent : (fs : List Written) (r : ℕ) → ruleAt fs r ≡ none → length fs ≤ r
+unfolding ruleAt
+rule-absent [] r e = omega arith
+rule-absent (f ∷ fs) zero e = absurd (none-some (sym e))
+rule-absent (f ∷ fs) (suc r) e = let l = rule-absent fs r e in omega arith
 
 -- ---- the lines in turn
 

@@ -92,7 +92,8 @@ module _ (s : List ℕ) where
       go (yes l) = same-refusal (SheetRefused s) (sym (sheet-long s l) ∙ e) (one l)
       go (no l) = two-to-eight (omega arith) (sheet-refused s (omega arith) n p .0 e)
 
-  sheet-case : {n p : ℕ} → sheetIn s ≡ refused n p → SheetRefused s n p
+  -- The sheet's refusals by their cases.
+  pub sheet-case : {n p : ℕ} → sheetIn s ≡ refused n p → SheetRefused s n p
   unfolding sheetIn
   sheet-case {n} {p} e = of-read (sheetOf s) refl e
     where
@@ -104,7 +105,7 @@ module _ (s : List ℕ) where
       of-read (got k q) f h = of-size k q f (fits (meant k)) refl h
       of-read (unread m q) f h = subst (Case s) h (of-lines f)
 
-  case-sheet : {n p : ℕ} → SheetRefused s n p → sheetIn s ≡ refused n p
+  pub case-sheet : {n p : ℕ} → SheetRefused s n p → sheetIn s ≡ refused n p
   case-sheet (one l) = in-refused s (sheet-long s l)
   case-sheet (two-to-eight {n} {p} l f) = in-refused s (sheet-refused s l n p .1 f)
   case-sheet (nine x o) = in-over s (say-lines x) o

@@ -1,6 +1,6 @@
 -- Each refusal of a move exactly in its listed case, and the lent buffer keeps every byte.
 -- Assumes nothing. `s` is the sheet's text, r the readings' text, O the lent buffer; n is the number and p the place.
-use mathlib.Core.Path.{_≡_, refl, sym, ap, subst, _∙_}
+use mathlib.Core.Path.{_≡_, refl, sym, subst, _∙_}
 use mathlib.Core.Bool.{Bool}
 use mathlib.Core.List.{List}
 use mathlib.Core.Logic.{inl, inr, _↔_}
@@ -14,26 +14,15 @@ use Rattle.read_sheet.specs.Sheet.{Contents}
 use Rattle.read_readings.specs.Readings.{readings}
 use Rattle.read_readings.proofs.Turns.{readings-long}
 use Rattle.spec_grammar.proofs.ReadingLines.{readings-refused}
-use Rattle.open_sheet.specs.Results.{Result, accepted, refused}
-use Rattle.open_sheet.specs.SheetIn.{sheetIn, namesIn}
-use Rattle.open_table.proofs.Tables.{accepted-refused}
-use Rattle.spec_operations.specs.Operations.{counted}
-use Rattle.spec_operations.proofs.Determined.{refused-alike}
-use Rattle.proof_demands.specs.Refusals.{SheetAccepted, SheetRefused}
-use Rattle.proof_demands.proofs.Refusals.{sheet-in, in-sheet-text, check-refusals}
+use Rattle.open_sheet.specs.Results.{refused}
+use Rattle.open_sheet.specs.SheetIn.{namesIn}
+use Rattle.proof_demands.specs.Refusals.{SheetAccepted}
+use Rattle.proof_demands.proofs.Refusals.{sheet-case, case-sheet, sheet-in, in-sheet-text}
 use Rattle.spec_moves.specs.Moves.{Moves}
 use Rattle.spec_moves.specs.Moves.Moves.{not-opened, not-read, no-room}
 use Rattle.proof_moves.specs.MoveCases.{MoveRefused}
 use Rattle.proof_moves.specs.MoveCases.MoveRefused.{up-to-nine, ten, line-by-line, twenty}
 use Rattle.spec_moves.proofs.Determined.{moves-one}
-
--- The sheet's refusals are check's.
-sheet-off : (s : List ℕ) {n p : ℕ} → SheetRefused s n p → sheetIn s ≡ refused n p
-sheet-off s {n} {p} x = go (sheetIn s) (check-refusals s .1 x)
-  where
-    go : (R : Result Contents) → counted R ≡ refused n p → R ≡ refused n p
-    go (accepted k) e = absurd (accepted-refused e)
-    go (refused m q) e = refused-alike e
 
 module _ {spans : Bool} {s r O : List ℕ} where
   -- A move's refusal of the readings is one of theirs: 10, or that of their first line at fault.
@@ -50,13 +39,13 @@ module _ {spans : Bool} {s r O : List ℕ} where
 
 module _ {spans : Bool} {s r O O′ : List ℕ} where
   move-case : {n p : ℕ} → Moves spans s r O O′ (refused n p) → MoveRefused spans s r O n p × (O′ ≡ O)
-  move-case (not-opened e f) = (up-to-nine (check-refusals s .0 (ap counted e)), f)
+  move-case (not-opened e f) = (up-to-nine (sheet-case s e), f)
   move-case (not-read e g f) = (of-readings (sheet-in s e) g, f)
   move-case (no-room w (inl l) f) = (twenty w (inl (omega arith)), f)
   move-case (no-room w (inr l) f) = (twenty w (inr (omega arith)), f)
 
   case-move : {n p : ℕ} → MoveRefused spans s r O n p → O′ ≡ O → Moves spans s r O O′ (refused n p)
-  case-move (up-to-nine x) f = not-opened (sheet-off s x) f
+  case-move (up-to-nine x) f = not-opened (case-sheet s x) f
   case-move (ten {k} x l) f = not-read (in-sheet-text s x) (readings-long (namesIn s k) (k .window) r l) f
   case-move (line-by-line {k} {n} {p} x l g) f = not-read (in-sheet-text s x) (readings-refused (namesIn s k) (k .window) r l n p .1 g) f
   case-move (twenty w (inl l)) f = no-room w (inl (omega arith)) f

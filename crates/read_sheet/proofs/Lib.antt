@@ -8,4 +8,5 @@ pub mod Formulas
 pub mod Accepted
 pub mod Examples
 pub mod Bodies
+pub mod SheetTexts
 pub mod Shuffled

@@ -1,14 +1,14 @@
 -- How many bytes and how many `(` the text of tokens has.
 -- Assumes nothing.
-use mathlib.Core.Path.{_≡_, refl, sym, ap, _∙_}
+use mathlib.Core.Path.{_≡_, ap, _∙_}
 use mathlib.Core.Bool.{Bool, true, false}
-use mathlib.Core.List.{List, [], _∷_, _++_}
-use Prim.Native.Nat.{ℕ, zero, suc, _+_, _*_, _<_, _≤_}
+use mathlib.Core.List.{List, [], _∷_, _++_, flatten}
+use Prim.Native.Nat.{ℕ, suc, _+_, _*_, _<_}
 use native.Mathlib.Omega.{arith}
 use lib.Dec.{eqb}
 use lib.ListN.{length, length-append}
 use Rattle.read_bytes.specs.Bytes.{byte, bytes, pick}
-use Rattle.spec_print.specs.RuleTexts.{enclosed, tokensText}
+use Rattle.spec_print.specs.RuleTexts.{enclosed}
 use Rattle.spec_print.specs.Parentheses.{opened, LeavesPairOut}
 use Rattle.spec_print.specs.Parentheses.LeavesPairOut.{without}
 use Rattle.spec_print.proofs.TokenTexts.{text-append}
@@ -31,24 +31,24 @@ opened-less (without a b c) =
 
 -- How many bytes and how many `(` the text of tokens has.
 abbrev pub long : List (List ℕ) → ℕ
-long ws = length (tokensText ws)
+long ws = length (flatten ws)
 
 abbrev pub opens : List (List ℕ) → ℕ
-opens ws = opened (tokensText ws)
+opens ws = opened (flatten ws)
 
 pub long-next : (w : List ℕ) (ws : List (List ℕ)) → long (w ∷ ws) ≡ length w + long ws
-unfolding tokensText
-long-next w ws = length-append w (tokensText ws)
+unfolding flatten
+long-next w ws = length-append w (flatten ws)
 
 pub opens-next : (w : List ℕ) (ws : List (List ℕ)) → opens (w ∷ ws) ≡ opened w + opens ws
-unfolding tokensText
-opens-next w ws = opened-append w (tokensText ws)
+unfolding flatten
+opens-next w ws = opened-append w (flatten ws)
 
 pub long-append : (us ws : List (List ℕ)) → long (us ++ ws) ≡ long us + long ws
-long-append us ws = ap length (text-append us ws) ∙ length-append (tokensText us) (tokensText ws)
+long-append us ws = ap length (text-append us ws) ∙ length-append (flatten us) (flatten ws)
 
 pub opens-append : (us ws : List (List ℕ)) → opens (us ++ ws) ≡ opens us + opens ws
-opens-append us ws = ap opened (text-append us ws) ∙ opened-append (tokensText us) (tokensText ws)
+opens-append us ws = ap opened (text-append us ws) ∙ opened-append (flatten us) (flatten ws)
 
 -- 1 for yes and 0 for no.
 abbrev pub one : Bool → ℕ
@@ -56,11 +56,11 @@ one b = pick b (λ _. 1) 0
 
 -- Parentheses are a `(` more, and two bytes.
 pub enclosed-opens : (b : Bool) (ws : List (List ℕ)) → opens (enclosed b ws) ≡ opens ws + one b
-unfolding opened tokensText
+unfolding opened flatten
 enclosed-opens true ws = omega (arith, opens-append ws (bytes ")" ∷ []))
 enclosed-opens false ws = omega arith
 
 pub enclosed-long : (b : Bool) (ws : List (List ℕ)) → long (enclosed b ws) ≡ long ws + 2 * one b
-unfolding tokensText
+unfolding flatten
 enclosed-long true ws = omega (arith, long-append ws (bytes ")" ∷ []))
 enclosed-long false ws = omega arith

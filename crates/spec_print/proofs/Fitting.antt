@@ -3,21 +3,20 @@
 -- Assumes nothing.
 use mathlib.Core.Path.{_≡_, refl, sym, ap, subst, _∙_}
 use mathlib.Core.Bool.{Bool, true, false}
-use mathlib.Core.List.{List, [], _∷_, _++_}
+use mathlib.Core.List.{List, [], _∷_, _++_, flatten}
 use Prim.Native.Nat.{ℕ, zero, suc, _+_, _-_, _*_, _<_, _≤_}
 use native.Mathlib.Decide.{decLt, decLe}
 use native.Mathlib.Omega.{arith}
 use borrow.Author.Tests.{lt-ltb, le-ltb, ltb-true}
-use lib.Dec.{ltb}
 use lib.ListN.{length, getD}
-use Rattle.read_bytes.specs.Bytes.{byte, bytes}
+use Rattle.read_bytes.specs.Bytes.{bytes}
 use Rattle.read_names.proofs.Names.{find-is}
 use Rattle.spec_tilco.specs.Formula.{Op, And, Or, Implies, Iff, Written}
 use Rattle.read_parts.specs.FormulaText.{signText}
 use Rattle.spec_grammar.specs.Grammar.{Part, formula, before, below, keepWord, timeSign, Name, Interval, Is, Declared, Legal}
 use Rattle.spec_grammar.specs.Grammar.Part.{plain, timed, level}
 use Rattle.spec_grammar.proofs.Walk.{deeper}
-use Rattle.spec_print.specs.RuleTexts.{rank, partOf, needed, enclosed, interval, tokens, tokensIn, tokensText}
+use Rattle.spec_print.specs.RuleTexts.{rank, partOf, needed, interval, tokens, tokensIn}
 use Rattle.spec_print.specs.Parentheses.{opened}
 use Rattle.spec_print.proofs.Counts.{one, long, opens, long-next, opens-next, long-append, opens-append, enclosed-long, enclosed-opens}
 use Rattle.spec_print.proofs.IntervalTexts.{interval-printed, legal-near, interval-some}
@@ -194,13 +193,13 @@ module _ (names : List (List ℕ)) where
 
   -- The texts of since and until with two arguments.
   keep-opens : (b : Bool) (us ws : List (List ℕ)) → opens (keepWord b ∷ bytes "(" ∷ (us ++ (bytes "," ∷ (ws ++ (bytes ")" ∷ []))))) ≡ opened (keepWord b) + (opens us + opens ws + 1)
-  unfolding opened tokensText
+  unfolding opened flatten
   keep-opens b us ws =
       omega
       (arith, opens-next (keepWord b) (bytes "(" ∷ (us ++ (bytes "," ∷ (ws ++ (bytes ")" ∷ []))))), opens-next (bytes "(") (us ++ (bytes "," ∷ (ws ++ (bytes ")" ∷ [])))), opens-append us (bytes "," ∷ (ws ++ (bytes ")" ∷ []))), opens-next (bytes ",") (ws ++ (bytes ")" ∷ [])), opens-append ws (bytes ")" ∷ []))
 
   keep-long : (b : Bool) (us ws : List (List ℕ)) → long (keepWord b ∷ bytes "(" ∷ (us ++ (bytes "," ∷ (ws ++ (bytes ")" ∷ []))))) ≡ length (keepWord b) + (long us + long ws + 3)
-  unfolding tokensText
+  unfolding flatten
   keep-long b us ws =
       omega
       (arith, long-next (keepWord b) (bytes "(" ∷ (us ++ (bytes "," ∷ (ws ++ (bytes ")" ∷ []))))), long-next (bytes "(") (us ++ (bytes "," ∷ (ws ++ (bytes ")" ∷ [])))), long-append us (bytes "," ∷ (ws ++ (bytes ")" ∷ []))), long-next (bytes ",") (ws ++ (bytes ")" ∷ [])), long-append ws (bytes ")" ∷ []))

@@ -1,26 +1,24 @@
 -- An interval as it is printed: it is one of the grammar, with the offsets that it is printed from, and has at most nine bytes and no `(`.
 -- Assumes nothing.
-use mathlib.Core.Path.{_≡_, refl, sym, ap, subst, _∙_}
-use mathlib.Core.Bool.{Bool, true, false}
-use mathlib.Core.List.{List, [], _∷_, _++_}
-use Prim.Native.Nat.{ℕ, zero, suc, _+_, _-_, _*_, _/_, _%_, _<_, _≤_}
+use mathlib.Core.Path.{_≡_, refl, ap, subst, _∙_}
+use mathlib.Core.List.{List, [], _∷_, _++_, flatten}
+use Prim.Native.Nat.{ℕ, _+_, _-_, _/_, _%_, _<_, _≤_}
 use native.Mathlib.Decide.{decLt, ℕ-discrete}
 use native.Mathlib.Omega.{arith}
 use borrow.Author.Tests.{lt-ltb, le-ltb, ne-eqb}
-use lib.Dec.{ltb, eqb}
-use lib.ListN.{length, length-append}
+use lib.ListN.{length}
 use Rattle.spec_limits.specs.Limits.{offsetZero, mostOffset}
-use Rattle.read_bytes.specs.Bytes.{byte, bytes, digit}
+use Rattle.read_bytes.specs.Bytes.{byte, bytes}
 use Rattle.read_bytes.specs.Numbers.{decimal}
 use Rattle.read_bytes.proofs.Tests.{between-in, between-is}
 use Rattle.read_interval.specs.Interval.{endZero, overOffset, leastEnd, greatestEnd}
 use Rattle.write_bytes.specs.Writes.{decimalText}
 use Rattle.write_bytes.proofs.Decimals.{decimal-one, decimal-more}
-use Rattle.spec_grammar.specs.Tokens.{Each, Numeral, End}
+use Rattle.spec_grammar.specs.Tokens.{Numeral, End}
 use Rattle.spec_grammar.specs.Grammar.{Interval, Legal}
-use Rattle.spec_print.specs.RuleTexts.{endText, interval, tokensText}
+use Rattle.spec_print.specs.RuleTexts.{endText, interval}
 use Rattle.spec_print.specs.Parentheses.{opened}
-use Rattle.spec_print.proofs.Counts.{opened-append, long, opens, long-next, opens-next}
+use Rattle.spec_print.proofs.Counts.{long, opens, long-next, opens-next}
 
 -- A number of one or two digits that is not 0.
 record Printed (n : ℕ) (w : List ℕ) : Type 0 where
@@ -107,7 +105,7 @@ pub record PrintedInterval (first more : ℕ) : Type 0 where
   pub none-opened : opens (interval first more) ≡ 0
 
 pub interval-printed : (first more : ℕ) → 1 ≤ first → first + more ≤ mostOffset → PrintedInterval first more
-unfolding interval opened tokensText
+unfolding interval opened flatten
 interval-printed first more l h =
     let a = end-printed first l (omega arith) in
     let b = end-printed (first + more) (omega arith) h in
@@ -151,7 +149,7 @@ end-some (End.plus n) = numeral-some n
 end-some (End.minus n) = omega arith
 
 pub interval-some : {ws : List (List ℕ)} {o v w c : ℕ} → Interval ws o v w c → 5 ≤ long ws
-unfolding tokensText
+unfolding flatten
 interval-some (Interval.interval {o} {c} {x = x} {y = y} ho hx hy hc) =
     omega
     (arith, end-some hx, end-some hy, long-next (o ∷ []) (x ∷ bytes "," ∷ y ∷ (c ∷ []) ∷ []), long-next x (bytes "," ∷ y ∷ (c ∷ []) ∷ []), long-next (bytes ",") (y ∷ (c ∷ []) ∷ []), long-next y ((c ∷ []) ∷ []), long-next (c ∷ []) [])

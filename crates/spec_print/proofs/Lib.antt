@@ -3,5 +3,6 @@ pub mod TokenTexts
 pub mod Counts
 pub mod IntervalTexts
 pub mod Fitting
+pub mod OneLine
 pub mod ReadBack
 pub mod Determined

@@ -1,14 +1,14 @@
 -- A rule that was read, printed back: its text is read as the same formula, no text of that formula has fewer parentheses, and it is at most twice as long.
 -- Assumes nothing. `names` are the declared names' texts.
-use mathlib.Core.Path.{_≡_, refl, sym, ap, subst, _∙_}
-use mathlib.Core.Bool.{true, false}
-use mathlib.Core.List.{List, [], _++_, append-nil}
-use Prim.Native.Nat.{ℕ, _+_, _-_, _*_, _<_, _≤_}
+use mathlib.Core.Path.{_≡_, sym, ap, subst, _∙_}
+use mathlib.Core.Bool.{false}
+use mathlib.Core.List.{List, [], append-nil, flatten}
+use Prim.Native.Nat.{ℕ, _-_, _*_, _≤_}
 use native.Mathlib.Omega.{arith}
 use lib.ListN.{length}
 use Rattle.spec_limits.specs.Limits.{mostOpen}
 use Rattle.read_bytes.specs.Read.Read.{got}
-use Rattle.read_bytes.specs.Bytes.{peek, nameByte, starts}
+use Rattle.read_bytes.specs.Bytes.{peek, nameByte, InLine}
 use Rattle.read_bytes.proofs.Answers.{same-value}
 use Rattle.read_bytes.proofs.Places.{peek-out}
 use Rattle.spec_tilco.specs.Formula.{Written}
@@ -17,15 +17,16 @@ use Rattle.read_parts.specs.FormulaText.{rule}
 use Rattle.spec_grammar.specs.Grammar.{formula, Is, Declared, Legal}
 use Rattle.spec_grammar.proofs.Sound.{rule-sound}
 use Rattle.spec_grammar.proofs.Complete.{rule-complete}
-use Rattle.spec_print.specs.RuleTexts.{tokensIn, tokensText, printed, IsRule}
+use Rattle.spec_print.specs.RuleTexts.{tokensIn, printed, IsRule}
 use Rattle.spec_print.specs.Parentheses.{opened, LeavesPairOut}
 use Rattle.spec_print.proofs.Counts.{opened-less}
 use Rattle.spec_print.proofs.TokenTexts.{TextFrom, tokens-of, text-of, whole-text}
+use Rattle.spec_print.proofs.OneLine.{tokens-in-line, is-some}
 use Rattle.spec_print.proofs.Fitting.{fits, fitted, few-in, short-in}
 
 -- A text stands in itself, and LF follows it.
-whole : (ws : List (List ℕ)) → TextFrom (tokensText ws) 0 ws (length (tokensText ws))
-whole ws = record { stands = rw (append-nil (tokensText ws)) at (starts-self (tokensText ws) []); end = omega arith }
+whole : (ws : List (List ℕ)) → TextFrom (flatten ws) 0 ws (length (flatten ws))
+whole ws = record { stands = rw (append-nil (flatten ws)) at (starts-self (flatten ws) []); end = omega arith }
 
 end-not-named : (t : List ℕ) → nameByte (peek t (length t)) ≡ false
 unfolding nameByte
@@ -42,7 +43,18 @@ module _ {names : List (List ℕ)} where
   read-back {f} h =
       let ws = tokensIn names formula f in
       let x = is-printed h in
-      rule-complete names (tokensText ws) 0 (record { tokens = ws; stand = tokens-of x (whole ws) (end-not-named (tokensText ws)); is = x })
+      rule-complete names (flatten ws) 0 (record { tokens = ws; stand = tokens-of x (whole ws) (end-not-named (flatten ws)); is = x })
+
+  -- It can stand in a rule's line.
+  pub in-one-line : {f : Written} → IsRule names f → InLine (printed names f)
+  unfolding printed
+  in-one-line {f} h =
+      let ws = tokensIn names formula f in
+      tokens-in-line ws (tokens-of (is-printed h) (whole ws) (end-not-named (flatten ws)))
+
+  pub not-empty : {f : Written} → IsRule names f → 1 ≤ length (printed names f)
+  unfolding printed
+  not-empty h = is-some (is-printed h)
 
   -- "Writing it again changes no byte."
   pub print-again : {f g : Written} {q : ℕ} → IsRule names f → rule names (printed names f) 0 ≡ got g q → printed names g ≡ printed names f

@@ -2,8 +2,8 @@
 -- Assumes nothing. `s` is a text in which the tokens' text stands from p to q.
 use mathlib.Core.Path.{_≡_, refl, sym, ap, _∙_}
 use mathlib.Core.Bool.{Bool, true, false, true≢false, _||_}
-use mathlib.Core.List.{List, [], _∷_, _++_, append-assoc}
-use Prim.Native.Nat.{ℕ, zero, suc, _+_, _≤_}
+use mathlib.Core.List.{List, [], _∷_, _++_, append-assoc, flatten}
+use Prim.Native.Nat.{ℕ, suc, _+_, _≤_}
 use native.Mathlib.Nat.{add-zero}
 use native.Mathlib.Omega.{arith}
 use borrow.Author.Tests.{eqb-true}
@@ -11,50 +11,48 @@ use lib.Dec.{eqb}
 use lib.ListN.{length, length-append}
 use Rattle.read_bytes.specs.Bytes.{byte, bytes, peek, digit, letter, nameByte, oneOf, starts}
 use Rattle.spec_tilco.specs.Formula.{Op, And, Or, Implies, Iff, Written}
-use Rattle.spec_tilco.specs.Lists.{All}
-use Rattle.write_bytes.proofs.Standing.{starts-both, starts-then, Standing, stands-then, stands-whole}
+use Rattle.write_bytes.proofs.Standing.{starts-both, Standing, stands-then, stands-whole}
 use Rattle.read_parts.specs.FormulaText.{signText}
 use Rattle.spec_grammar.specs.Tokens.{Each, Spelling, Numeral, End, Token, TokenAt, Tokens}
-use Rattle.spec_grammar.specs.Grammar.{Part, keepWord, timeSign, Name, Interval, Is}
+use Rattle.spec_grammar.specs.Grammar.{Part, keepWord, timeSign, Interval, Is}
 use Rattle.spec_grammar.proofs.Standing.{starts-head, starts-tail, starts-none, next-is, none-is, one-at, tokens-then, word-each, word-first}
-use Rattle.spec_grammar.proofs.Signs.{lone, lone-sign, op-sign, sign-token, sign-letter, sign-end, word-no-end, end-first, letter-no-end, leading-digit}
+use Rattle.spec_grammar.proofs.Signs.{lone, lone-sign, op-sign, sign-token, sign-letter, sign-end, word-no-end, end-first, leading-digit}
 use Rattle.spec_grammar.proofs.Offsets.{two-lone}
 use Rattle.spec_grammar.proofs.Complete.{tokens-ahead}
-use Rattle.spec_print.specs.RuleTexts.{tokensText}
 
 -- ---- tokens one after the other
 
-pub text-append : (us ws : List (List ℕ)) → tokensText (us ++ ws) ≡ tokensText us ++ tokensText ws
-unfolding tokensText
+pub text-append : (us ws : List (List ℕ)) → flatten (us ++ ws) ≡ flatten us ++ flatten ws
+unfolding flatten
 text-append [] ws = refl
 text-append (u ∷ us) ws = rw (text-append us ws, append-assoc)
 
 -- The text of tokens stands from p to q.
 pub record TextFrom (s : List ℕ) (p : ℕ) (ws : List (List ℕ)) (q : ℕ) : Type 0 where
-  pub stands : starts s p (tokensText ws) ≡ true
-  pub end : q ≡ p + length (tokensText ws)
+  pub stands : starts s p (flatten ws) ≡ true
+  pub end : q ≡ p + length (flatten ws)
 
 module _ {s : List ℕ} {p q : ℕ} where
   -- That of one token,
   from-one : {w : List ℕ} → TextFrom s p (w ∷ []) q → (starts s p w ≡ true) × (p + length w ≡ q)
-  unfolding tokensText
+  unfolding flatten
   from-one {w} t = (starts-both s p w [] (t .stands) .0, omega (arith, t .end, length-append w []))
 
   -- that of a token and those after it,
   from-next : {w : List ℕ} {ws : List (List ℕ)} → TextFrom s p (w ∷ ws) q → (starts s p w ≡ true) × TextFrom s (p + length w) ws q
-  unfolding tokensText
+  unfolding flatten
   from-next {w} {ws} t =
-      let b = starts-both s p w (tokensText ws) (t .stands) in
-      (b .0, record { stands = b .1; end = omega (arith, t .end, length-append w (tokensText ws)) })
+      let b = starts-both s p w (flatten ws) (t .stands) in
+      (b .0, record { stands = b .1; end = omega (arith, t .end, length-append w (flatten ws)) })
 
   -- and that of some and those after them.
   from-parts : (us ws : List (List ℕ)) → TextFrom s p (us ++ ws) q → (m : ℕ) × TextFrom s p us m × TextFrom s m ws q
   from-parts us ws t =
-      let b = starts-both s p (tokensText us) (tokensText ws) (rw (text-append us ws) at (t .stands)) in
+      let b = starts-both s p (flatten us) (flatten ws) (rw (text-append us ws) at (t .stands)) in
       (
-        p + length (tokensText us),
+        p + length (flatten us),
         record { stands = b .0; end = refl },
-        record { stands = b .1; end = omega (arith, t .end, ap length (text-append us ws), length-append (tokensText us) (tokensText ws)) },
+        record { stands = b .1; end = omega (arith, t .end, ap length (text-append us ws), length-append (flatten us) (flatten ws)) },
       )
 
 -- ---- where a token ends
@@ -71,7 +69,7 @@ no-further P s p (x ∷ w) (y ∷ v) h k e f =
     omega arith
 
 -- A byte of an end.
-abbrev endByte : ℕ → Bool
+abbrev pub endByte : ℕ → Bool
 endByte b = digit b || eqb b (byte "-")
 
 digits-end : (w : List ℕ) → Each digit w → Each endByte w
@@ -81,7 +79,7 @@ digits-end (b ∷ w) h = (rw (h .0), digits-end w (h .1))
 numeral-end : {w : List ℕ} {v : ℕ} → Numeral w v → Each endByte w
 numeral-end (Numeral.numeral {b} {w} h d l) = (rw (leading-digit b h), digits-end w d)
 
-end-each : {w : List ℕ} {v : ℕ} → End w v → Each endByte w
+pub end-each : {w : List ℕ} {v : ℕ} → End w v → Each endByte w
 end-each End.nought = (refl, tt)
 end-each (End.plus n) = numeral-end n
 end-each (End.minus n) = (refl, numeral-end n)
@@ -132,7 +130,7 @@ bracket-not c h = go (eqb c (byte "]")) refl (eqb c (byte ")")) refl h
     go false e false f h = absurd (true≢false (sym h ∙ rw (e, f)))
 
 -- since and until are words.
-keep-word : (b : Bool) → Spelling (keepWord b)
+pub keep-word : (b : Bool) → Spelling (keepWord b)
 unfolding nameByte
 keep-word true = Spelling.word {b = byte "s"} {w = bytes "ince"} refl (refl, (refl, (refl, (refl, tt))))
 keep-word false = Spelling.word {b = byte "u"} {w = bytes "ntil"} refl (refl, (refl, (refl, (refl, tt))))
@@ -197,15 +195,15 @@ module _ {s : List ℕ} where
   -- ---- the text of tokens
 
   -- The text that tokens stand in, up to its end, is theirs.
-  pub text-of : {p q : ℕ} (ws : List (List ℕ)) → Tokens s q p ws → q ≤ length s → Standing s p (tokensText ws) × (q ≡ p + length (tokensText ws))
-  unfolding tokensText
+  pub text-of : {p q : ℕ} (ws : List (List ℕ)) → Tokens s q p ws → q ≤ length s → Standing s p (flatten ws) × (q ≡ p + length (flatten ws))
+  unfolding flatten
   text-of {p} {q} [] t l = let e = none-is t in (record { bytes = starts-none s p; inside = omega arith }, omega arith)
   text-of {p} {q} (w ∷ ws) t l =
       let n = next-is t in
       let r = text-of ws (n .1) l in
       let a = tokens-ahead ws (n .1) in
-      (stands-then w (tokensText ws) (record { bytes = n .0 .stands; inside = omega arith }) (r .0), omega (arith, r .1, length-append w (tokensText ws)))
+      (stands-then w (flatten ws) (record { bytes = n .0 .stands; inside = omega arith }) (r .0), omega (arith, r .1, length-append w (flatten ws)))
 
 -- The tokens of a whole text are those of which it is made.
-pub whole-text : {s : List ℕ} {ws : List (List ℕ)} → Tokens s (length s) 0 ws → s ≡ tokensText ws
-whole-text {s} {ws} t = let r = text-of ws t (omega arith) in stands-whole s (tokensText ws) (r .0) (omega (arith, r .1))
+pub whole-text : {s : List ℕ} {ws : List (List ℕ)} → Tokens s (length s) 0 ws → s ≡ flatten ws
+whole-text {s} {ws} t = let r = text-of ws t (omega arith) in stands-whole s (flatten ws) (r .0) (omega (arith, r .1))

@@ -2,7 +2,7 @@
 -- Assumes nothing. `names` are the declared names' texts, in sheet order.
 use mathlib.Core.Path.{_≡_}
 use mathlib.Core.Bool.{Bool}
-use mathlib.Core.List.{List, [], _∷_, _++_}
+use mathlib.Core.List.{List, [], _∷_, _++_, flatten}
 use Prim.Native.Nat.{ℕ, _+_, _-_}
 use lib.Dec.{ltb}
 use lib.ListN.{getD}
@@ -62,14 +62,9 @@ tokens names (Written.keep b f g) =
 abbrev pub tokensIn : List (List ℕ) → Part → Written → List (List ℕ)
 tokensIn names k f = enclosed (needed k f) (tokens names f)
 
--- The text of tokens: one after the other, with nothing between.
-unfoldable pub tokensText : List (List ℕ) → List ℕ
-tokensText [] = []
-tokensText (w ∷ ws) = w ++ tokensText ws
-
--- The text of a rule as it is printed back.
+-- The text of a rule as it is printed back: its tokens one after the other, with nothing between.
 unfoldable pub printed : List (List ℕ) → Written → List ℕ
-printed names f = tokensText (tokensIn names formula f)
+printed names f = flatten (tokensIn names formula f)
 
 -- f is a rule: some text is read as it.
 pub record IsRule (names : List (List ℕ)) (f : Written) : Type 0 where

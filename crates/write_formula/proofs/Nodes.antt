@@ -1,6 +1,6 @@
 -- The formula at a node of the arena, by the node's kind: its names are declared, its text is made of its children's, and its children are smaller.
 -- Assumes nothing. T is the index of the declared names, a the arena.
-use mathlib.Core.Path.{_≡_, refl, sym, ap, subst, _∙_}
+use mathlib.Core.Path.{_≡_, sym, ap, subst}
 use mathlib.Core.List.{List, _++_}
 use Prim.Native.Nat.{ℕ, _+_, _<_}
 use native.Mathlib.Omega.{arith}
@@ -9,7 +9,7 @@ use Rattle.read_bytes.specs.Bytes.{byte}
 use Rattle.spec_tilco.specs.Formula.{Written, Named}
 use Rattle.read_index.specs.Index.{nameCount}
 use Rattle.read_arena.specs.Nodes.{nodeAt}
-use Rattle.read_arena.specs.NodeRules.{textOf, writtenAt, ChildrenBefore, NodeIn}
+use Rattle.read_arena.specs.NodeRules.{textOf, writtenAt, ChildrenBefore}
 use Rattle.read_arena.specs.declared.Node.{Node}
 use Rattle.read_arena.specs.declared.Node.the-variants.{Name, Deny, Pair, Time, Keep}
 use Rattle.read_arena.proofs.Puts.{arena-fewer}

@@ -2,9 +2,9 @@
 -- Assumes nothing.
 use mathlib.Core.Path.{_≡_, sym, ap, _∙_}
 use mathlib.Core.List.{List, []}
-use Prim.Native.Nat.{ℕ, _+_, _-_, _<_, _≤_}
+use Prim.Native.Nat.{ℕ, _+_, _-_, _<_}
 use native.Mathlib.Omega.{arith}
-use lib.ListN.{length, getD, length-drop}
+use lib.ListN.{getD, length-drop}
 use lib.Seq.{getD-drop}
 use Rattle.read_names.specs.Spellings.{spellingAt}
 use Rattle.read_names.proofs.Names.{names-at}

@@ -1,7 +1,7 @@
 -- The text of a part of a rule, and what its writers ask of the arena.
 -- Assumes nothing. T is the index of the declared names, a the arena; `names` are the names' texts.
 use mathlib.Core.Bool.{Bool}
-use mathlib.Core.List.{List, [], _∷_}
+use mathlib.Core.List.{List, [], _∷_, flatten}
 use Prim.Native.Nat.{ℕ, _<_}
 use lib.Dec.{ltb}
 use Rattle.read_bytes.specs.Bytes.{pick}
@@ -10,15 +10,15 @@ use Rattle.read_index.specs.Index.{nameCount}
 use Rattle.read_arena.specs.declared.Node.{Node}
 use Rattle.read_arena.specs.declared.Node.the-variants.{Name, Deny, Pair, Time, Keep}
 use Rattle.read_arena.specs.NodeRules.{writtenAt, NodeIn}
-use Rattle.spec_print.specs.RuleTexts.{rank, partOf, enclosed, tokens, tokensText}
+use Rattle.spec_print.specs.RuleTexts.{rank, partOf, enclosed, tokens}
 
 -- The text of a formula without parentheses around it.
 unfoldable pub bareText : List (List ℕ) → Written → List ℕ
-bareText names f = tokensText (tokens names f)
+bareText names f = flatten (tokens names f)
 
 -- Its text where a part of a rank up to `most` may stand: in parentheses if it is of a higher one.
 unfoldable pub partText : List (List ℕ) → ℕ → Written → List ℕ
-partText names most f = tokensText (enclosed (ltb most (rank (partOf f))) (tokens names f))
+partText names most f = flatten (enclosed (ltb most (rank (partOf f))) (tokens names f))
 
 -- A parenthesis, or nothing where none is needed.
 abbrev pub parenText : Bool → ℕ → List ℕ

@@ -11,7 +11,7 @@ use write_bytes::push;
 use write_bytes::push_text;
 use write_lines::write_word;
 ghost use mathlib.Core.Path.{_≡_};
-ghost use mathlib.Core.List.{[], _∷_, _++_};
+ghost use mathlib.Core.List.{[], _∷_, _++_, flatten};
 ghost use Prim.Native.Nat.{ℕ, _<_};
 ghost use lib.ListN.{getD};
 ghost use Rattle.read_bytes.specs.Bytes.{bytes};
@@ -25,7 +25,7 @@ ghost use Rattle.spec_tilco.specs.Formula.Written.{pair, time, keep};
 ghost use Rattle.spec_grammar.specs.Grammar.{before as partBefore, below, keepWord, timeSign};
 ghost use Rattle.spec_grammar.specs.Grammar.Part.{level};
 ghost use Rattle.write_bytes.specs.Writes.{Counted, Wrote};
-ghost use Rattle.spec_print.specs.RuleTexts.{rank, partOf, endText, interval, tokensText, printed};
+ghost use Rattle.spec_print.specs.RuleTexts.{rank, partOf, endText, interval, printed};
 ghost use Rattle.write_formula.specs.PartTexts.{bareText, partText, parenText, NamedNode, NamedParts};
 
 // The ranks of a plain part, of a timed part and of a formula.
@@ -105,8 +105,8 @@ fn write_end(offset: usize, out: &mut [u8], used: usize) -> usize
 
 // An interval in square brackets.
 fn write_interval(first: u16, more: u16, out: &mut [u8], used: usize) -> usize
-    requires { ⌜ Counted used (tokensText (interval first more)) ⌝ }
-    ensures { λ r. ⌜ Wrote (tokensText (interval first more)) used (before out) (after out) r ⌝ }
+    requires { ⌜ Counted used (flatten (interval first more)) ⌝ }
+    ensures { λ r. ⌜ Wrote (flatten (interval first more)) used (before out) (after out) r ⌝ }
 {
     let low = first as usize;
     let high = low + more as usize;

@@ -1,6 +1,5 @@
 -- `print_checked` meets its contract. Assumes nothing.
 use native.Mathlib.Omega.{arith}
-use denote.Ref.{now}
 use lib.ListN.{length-take}
 use Rattle.open_sheet.proofs.Buffers.{fresh-names}
 use Rattle.op_print.proofs.Outcomes.{short-enough, few-rules, few-names, past-last, line-ready, gives-line, no-head}

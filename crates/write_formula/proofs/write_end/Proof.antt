@@ -1,6 +1,5 @@
 -- `write_end` meets its contract. Assumes nothing.
 use Rattle.write_bytes.proofs.Writing.{like, and-then, counted-like, counted-first, counted-rest}
-use native.Mathlib.Omega.{arith}
 use Rattle.write_formula.proofs.Parts.{minus-parts, plus-parts}
 use borrow.Author.Needs.{needs}
 use Rattle.write_formula.proofs.write_end.Statement.{statement}

@@ -1,0 +1,2 @@
+-- The definitions that the theorems cite.
+pub mod PrintCases
