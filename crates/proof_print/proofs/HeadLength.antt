@@ -1,6 +1,6 @@
 -- How long a sheet's head is at most: 12 bytes for the window, 11 for how many signals, 24 for each of 64, and 9 for how many rules.
 -- Assumes nothing. `s` is the sheet's text.
-use mathlib.Core.Path.{_≡_, sym, ap, _∙_}
+use mathlib.Core.Path.{_≡_}
 use mathlib.Core.List.{List, [], _∷_, _++_}
 use Prim.Native.Nat.{ℕ, zero, suc, _+_, _*_, _^_, _<_, _≤_}
 use native.Mathlib.Omega.{arith}

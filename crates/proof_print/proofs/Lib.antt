@@ -3,3 +3,4 @@ pub mod Refusals
 pub mod PrintedBack
 pub mod HeadLength
 pub mod SameSheet
+pub mod Examples

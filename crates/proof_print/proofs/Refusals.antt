@@ -2,7 +2,7 @@
 -- Assumes nothing. `s` is the sheet's text, r the rule's number, O the lent buffer; n is the number and p the place.
 use mathlib.Core.Path.{_≡_, refl, sym, ap, subst, _∙_}
 use mathlib.Core.List.{List}
-use mathlib.Core.Logic.{_⊎_, inl, inr, _↔_}
+use mathlib.Core.Logic.{inl, inr, _↔_}
 use mathlib.Core.Option.{Option, none, some}
 use Prim.Native.Nat.{ℕ, _<_, _≤_}
 use native.Mathlib.Decide.{decLt}
@@ -13,12 +13,10 @@ use Rattle.spec_tilco.specs.Formula.{Written}
 use Rattle.read_sheet.specs.Sheet.{Contents}
 use Rattle.open_sheet.specs.Results.{Result, accepted, refused}
 use Rattle.open_sheet.specs.SheetIn.{sheetIn, namesIn}
-use Rattle.open_table.proofs.Tables.{accepted-one, accepted-refused}
 use Rattle.proof_demands.specs.Refusals.{SheetAccepted}
 use Rattle.proof_demands.proofs.Refusals.{sheet-case, case-sheet, sheet-in, in-sheet-text}
 use Rattle.spec_print.specs.RuleTexts.{printed}
 use Rattle.spec_print.specs.Printing.{ruleAt, withRoom, printedRule, printedOf, printing, Gives, Prints}
-use Rattle.spec_print.proofs.Determined.{prints-one}
 use Rattle.op_print.proofs.Rooms.{room-for, over-limit, over-room, gives-refused, gives-text}
 use Rattle.op_print.proofs.RulesFound.{rule-past-all, rule-absent}
 use Rattle.op_print.proofs.Outcomes.{sheet-refused}

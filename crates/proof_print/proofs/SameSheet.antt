@@ -2,11 +2,11 @@
 -- Assumes that no rule's text has an LF in it, and that the head counts the rules.
 use mathlib.Core.Path.{_≡_, refl, sym, ap, ap₂, subst, _∙_}
 use mathlib.Core.Bool.{Bool, true, false}
-use mathlib.Core.List.{List, [], _∷_}
+use mathlib.Core.List.{List}
 use Prim.Native.Nat.{ℕ, suc, _+_, _*_, _≤_}
 use native.Mathlib.Omega.{arith}
 use lib.ListN.{length, length-append}
-use Rattle.spec_limits.specs.Limits.{mostBytes, mostRules, mostRuleBytes}
+use Rattle.spec_limits.specs.Limits.{mostBytes, mostRuleBytes}
 use Rattle.read_bytes.specs.Read.Read.{got, refused}
 use Rattle.read_bytes.specs.Bytes.{pick, between, InLine}
 use Rattle.read_bytes.proofs.Tests.{between-in, between-is}
@@ -18,7 +18,7 @@ use Rattle.read_parts.specs.FormulaText.{rule}
 use Rattle.read_head.specs.SheetHead.{Head, head}
 use Rattle.read_head.proofs.Heads.{head-past}
 use Rattle.read_head.proofs.HeadPrefix.{head-names-kept}
-use Rattle.read_sheet.specs.Sheet.{Contents, contents, sheetOf, ruleLines, sheetText}
+use Rattle.read_sheet.specs.Sheet.{Contents, contents, ruleLines, sheetText}
 use Rattle.read_sheet.proofs.Bodies.{ruleText, Each}
 use Rattle.read_sheet.proofs.Bodies.Each.{none, one}
 use Rattle.read_sheet.proofs.SheetTexts.{lines-long, sheet-read, read-sheet}

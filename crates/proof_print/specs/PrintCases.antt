@@ -3,7 +3,7 @@
 use mathlib.Core.Path.{_≡_}
 use mathlib.Core.List.{List, [], _∷_, _++_}
 use mathlib.Core.Logic.{_⊎_}
-use mathlib.Core.Option.{none, some}
+use mathlib.Core.Option.{some}
 use Prim.Native.Nat.{ℕ, _<_, _≤_}
 use lib.ListN.{length, drop}
 use Rattle.spec_limits.specs.Limits.{mostRuleBytes}

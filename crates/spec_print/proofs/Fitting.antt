@@ -7,7 +7,7 @@ use mathlib.Core.List.{List, [], _∷_, _++_, flatten}
 use Prim.Native.Nat.{ℕ, zero, suc, _+_, _-_, _*_, _<_, _≤_}
 use native.Mathlib.Decide.{decLt, decLe}
 use native.Mathlib.Omega.{arith}
-use borrow.Author.Tests.{lt-ltb, le-ltb, ltb-true}
+use borrow.Author.Tests.{ltb-true, ltb-false}
 use lib.ListN.{length, getD}
 use Rattle.read_bytes.specs.Bytes.{bytes}
 use Rattle.read_names.proofs.Names.{find-is}
@@ -98,6 +98,24 @@ module _ {N : List ℕ → ℕ → Type 0} {I : ℕ → ℕ → ℕ → ℕ → 
 
 -- ---- parentheses where they are needed
 
+-- They are needed around a part of a higher rank, and around no other.
+above-needed : (k : Part) (f : Written) → needed k f ≡ true → rank k < rank (partOf f)
+above-needed k f e = omega (arith, ltb-true)
+
+needed-above : (k : Part) (f : Written) → rank k < rank (partOf f) → needed k f ≡ true
+needed-above k f h = go (needed k f) refl
+  where
+    go : (b : Bool) → needed k f ≡ b → needed k f ≡ true
+    go true e = e
+    go false e = absurd (omega (arith, ltb-false))
+
+not-needed : (k : Part) (f : Written) → rank (partOf f) ≤ rank k → needed k f ≡ false
+not-needed k f h = go (needed k f) refl
+  where
+    go : (b : Bool) → needed k f ≡ b → needed k f ≡ false
+    go true e = let l = above-needed k f e in absurd (omega arith)
+    go false e = e
+
 module _ (names : List (List ℕ)) where
   -- What is printed of f, where its tokens were ws and a part k stood, with at most d open.
   pub record Fits (k : Part) (d : ℕ) (ws : List (List ℕ)) (f : Written) : Type 0 where
@@ -113,11 +131,11 @@ module _ (names : List (List ℕ)) where
     where
       go : Dec (rank k < rank (partOf f)) → Is (Declared names) Legal k d (tokensIn names k f) f
       go (yes l) =
-          let e = lt-ltb (rank k) (rank (partOf f)) l in
+          let e = needed-above k f l in
           let h : x .depth + 1 ≤ d = rw e at (x .shallow) in
           rw e (more-open (omega arith) (climb (omega arith) (Is.parens (climb (rank-most (partOf f)) (x .is)))))
       go (no l) =
-          let e = le-ltb (rank k) (rank (partOf f)) (omega arith) in
+          let e = not-needed k f (omega arith) in
           let h : x .depth + 0 ≤ d = rw e at (x .shallow) in
           rw e (more-open (omega arith) (climb (omega arith) (x .is)))
 
@@ -128,20 +146,20 @@ module _ (names : List (List ℕ)) where
 
   higher : {j k : Part} {d : ℕ} {ws : List (List ℕ)} {f : Written} → rank j ≤ rank k → Fits j d ws f → Fits k d ws f
   higher {j} {k} {d} {ws} {f} h x =
-      let l = one-less (needed k f) (needed j f) (λ e. let r = ltb-true (rank k) (rank (partOf f)) e in lt-ltb (rank j) (rank (partOf f)) (omega arith)) in
+      let l = one-less (needed k f) (needed j f) (λ e. let l = above-needed k f e in needed-above j f (omega arith)) in
       record { depth = x .depth; is = x .is; shallow = omega (arith, x .shallow); few = omega (arith, x .few); short = omega (arith, x .short) }
 
   -- What is its own part needs no parentheses.
   own : {k : Part} {d : ℕ} {ws : List (List ℕ)} {f : Written} → partOf f ≡ k → Is (Declared names) Legal (partOf f) d (tokens names f) f → opens (tokens names f) ≤ opens ws → long (tokens names f) ≤ 2 * long ws → Fits k d ws f
   own {k} {d} {ws} {f} p x o l =
       let r = ap rank p in
-      let e = le-ltb (rank k) (rank (partOf f)) (omega arith) in
+      let e = not-needed k f (omega arith) in
       record { depth = d; is = x; shallow = rw e (omega arith); few = rw e (omega arith); short = rw e (omega arith) }
 
   -- Where parentheses stood, there are none or the same.
   in-parens : {d : ℕ} {ws : List (List ℕ)} {f : Written} → Fits formula d ws f → Fits plain (suc d) (bytes "(" ∷ (ws ++ (bytes ")" ∷ []))) f
   in-parens {d} {ws} {f} x =
-      let e = le-ltb (rank formula) (rank (partOf f)) (rank-most (partOf f)) in
+      let e = not-needed formula f (rank-most (partOf f)) in
       let l = one-less (needed plain f) true (λ _. refl) in
       record {
         depth = x .depth;

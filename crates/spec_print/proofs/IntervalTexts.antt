@@ -16,7 +16,7 @@ use Rattle.write_bytes.specs.Writes.{decimalText}
 use Rattle.write_bytes.proofs.Decimals.{decimal-one, decimal-more}
 use Rattle.spec_grammar.specs.Tokens.{Numeral, End}
 use Rattle.spec_grammar.specs.Grammar.{Interval, Legal}
-use Rattle.spec_print.specs.RuleTexts.{endText, interval}
+use Rattle.spec_print.specs.RuleTexts.{endText, lastOf, interval}
 use Rattle.spec_print.specs.Parentheses.{opened}
 use Rattle.spec_print.proofs.Counts.{long, opens, long-next, opens-next}
 
@@ -97,6 +97,10 @@ end-printed x l h = go (decLt x offsetZero) (ℕ-discrete x offsetZero)
           none-opened = rw t (n .none-opened);
         }
 
+-- Whatever its number is.
+end-is : {x : ℕ} (v : ℕ) → PrintedEnd x → x + overOffset ≡ v → End (endText x) v
+end-is v a e = subst (End (endText _)) e (a .is)
+
 -- The interval, and its offsets.
 pub record PrintedInterval (first more : ℕ) : Type 0 where
   pub is : Interval (interval first more) (byte "[") (first + overOffset) (first + more + overOffset) (byte "]")
@@ -108,11 +112,11 @@ pub interval-printed : (first more : ℕ) → 1 ≤ first → first + more ≤ m
 unfolding interval opened flatten
 interval-printed first more l h =
     let a = end-printed first l (omega arith) in
-    let b = end-printed (first + more) (omega arith) h in
+    let b = end-printed (lastOf first more) (omega arith) (omega arith) in
     let x = endText first in
-    let y = endText (first + more) in
+    let y = endText (lastOf first more) in
     record {
-      is = Interval.interval refl (a .is) (b .is) refl;
+      is = Interval.interval refl (end-is (first + overOffset) a (omega arith)) (end-is (first + more + overOffset) b (omega arith)) refl;
       legal = record {
         near-first = between-in leastEnd greatestEnd (first + overOffset) (omega arith) (omega arith);
         near-last = between-in leastEnd greatestEnd (first + more + overOffset) (omega arith) (omega arith);

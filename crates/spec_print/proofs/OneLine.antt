@@ -3,7 +3,7 @@
 use mathlib.Core.Path.{_≡_, refl, sym, ap, _∙_}
 use mathlib.Core.Bool.{Bool, true, false, true≢false, _||_}
 use mathlib.Core.List.{List, [], _∷_, _++_, flatten}
-use Prim.Native.Nat.{ℕ, _+_, _≤_}
+use Prim.Native.Nat.{ℕ, _≤_}
 use native.Mathlib.Omega.{arith}
 use borrow.Author.Tests.{eq-eqb}
 use lib.Dec.{eqb}
@@ -13,10 +13,9 @@ use Rattle.spec_tilco.specs.Formula.{Op, And, Or, Implies, Iff, Written}
 use Rattle.spec_tilco.specs.Lists.{All}
 use Rattle.read_parts.specs.FormulaText.{rule, signText}
 use Rattle.spec_grammar.specs.Tokens.{Each, Spelling, Token, Tokens, signs}
-use Rattle.spec_grammar.specs.Grammar.{Part, formula, keepWord, timeSign, Is}
+use Rattle.spec_grammar.specs.Grammar.{Part, keepWord, timeSign, Is}
 use Rattle.spec_grammar.proofs.Standing.{next-is, word-each}
 use Rattle.spec_grammar.proofs.Signs.{among}
-use Rattle.spec_print.specs.RuleTexts.{printed, IsRule}
 use Rattle.spec_print.proofs.Counts.{long, long-next, long-append}
 use Rattle.spec_print.proofs.TokenTexts.{endByte, end-each, keep-word}
 

@@ -48,8 +48,7 @@ module _ {s : List ℕ} {p q : ℕ} where
   -- and that of some and those after them.
   from-parts : (us ws : List (List ℕ)) → TextFrom s p (us ++ ws) q → (m : ℕ) × TextFrom s p us m × TextFrom s m ws q
   from-parts us ws t =
-      let b = starts-both s p (flatten us) (flatten ws) (rw (text-append us ws) at (t .stands)) in
-      (
+      let b = starts-both s p (flatten us) (flatten ws) (rw (text-append us ws) at (t .stands)) in (
         p + length (flatten us),
         record { stands = b .0; end = refl },
         record { stands = b .1; end = omega (arith, t .end, ap length (text-append us ws), length-append (flatten us) (flatten ws)) },

@@ -44,9 +44,13 @@ enclosed b ws = pick b (λ _. bytes "(" ∷ (ws ++ (bytes ")" ∷ []))) ws
 unfoldable pub endText : ℕ → List ℕ
 endText x = pick (ltb x offsetZero) (λ _. byte "-" ∷ decimalText (offsetZero - x)) (decimalText (x - offsetZero))
 
+-- The last offset of an interval, after its first one and how many more.
+abbrev pub lastOf : ℕ → ℕ → ℕ
+lastOf first more = first + more
+
 -- An interval in square brackets, from its first offset to its last.
 unfoldable pub interval : ℕ → ℕ → List (List ℕ)
-interval first more = bytes "[" ∷ endText first ∷ bytes "," ∷ endText (first + more) ∷ bytes "]" ∷ []
+interval first more = bytes "[" ∷ endText first ∷ bytes "," ∷ endText (lastOf first more) ∷ bytes "]" ∷ []
 
 -- The tokens of a formula, each part of it in parentheses only where the grammar needs them.
 unfoldable pub tokens : List (List ℕ) → Written → List (List ℕ)

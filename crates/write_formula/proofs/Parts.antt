@@ -3,7 +3,7 @@
 use mathlib.Core.Path.{_≡_, sym, ap}
 use mathlib.Core.Bool.{Bool, true, false}
 use mathlib.Core.List.{List, [], _∷_, _++_, append-nil, append-assoc, flatten}
-use Prim.Native.Nat.{ℕ, _+_, _-_, _<_, _≤_}
+use Prim.Native.Nat.{ℕ, _-_, _<_, _≤_}
 use borrow.Author.Tests.{lt-ltb, le-ltb}
 use lib.Dec.{ltb}
 use lib.ListN.{getD}
@@ -14,7 +14,7 @@ use Rattle.read_parts.specs.FormulaText.{signText}
 use Rattle.spec_grammar.specs.Grammar.{formula, before, below, keepWord, timeSign}
 use Rattle.spec_grammar.specs.Grammar.Part.{plain, timed}
 use Rattle.write_bytes.specs.Writes.{decimalText}
-use Rattle.spec_print.specs.RuleTexts.{rank, partOf, enclosed, endText, interval, tokens, tokensIn, printed}
+use Rattle.spec_print.specs.RuleTexts.{rank, partOf, enclosed, endText, lastOf, interval, tokens, tokensIn, printed}
 use Rattle.spec_print.proofs.TokenTexts.{text-append}
 use Rattle.write_formula.specs.PartTexts.{bareText, partText, parenText}
 
@@ -29,7 +29,7 @@ pub plus-parts : (x : ℕ) → offsetZero ≤ x → endText x ≡ decimalText (x
 unfolding endText
 plus-parts x h = rw (le-ltb x offsetZero h)
 
-pub interval-parts : (first more low high : ℕ) → low ≡ first → high ≡ first + more
+pub interval-parts : (first more low high : ℕ) → low ≡ first → high ≡ lastOf first more
     → flatten (interval first more) ≡ bytes "[" ++ (endText low ++ (bytes "," ++ (endText high ++ bytes "]")))
 unfolding interval flatten
 interval-parts first more low high l h = rw (l, h)

@@ -30,7 +30,9 @@ ghost use Rattle.write_formula.specs.PartTexts.{bareText, partText, pare
 
 // The ranks of a plain part, of a timed part and of a formula.
 const PLAIN: usize = 0;
+
 const TIMED: usize = 1;
+
 const FORMULA: usize = 5;
 
 // The rank of a level.

@@ -17,22 +17,42 @@ enum-known-h : tie.Need-enum-known-h
 enum-known-h c = search needs
 
 returns : tie.Need-returns
-returns c = past-last (c .before .before .before .before .before .before .before .before .before .pre) (c .before .before .before .before .before .head .ensures) (c .before .before .h .given .1) (c .if1 .taken) _
+returns c =
+    let at-head = c .before .before .before .before .before in
+    let start = at-head .before .before .before .before in
+    past-last (start .pre) (at-head .head .ensures) (c .before .before .h .given .1) (c .if1 .taken) _
 
 line-of-requires : tie.Need-line-of-requires
-line-of-requires c κs = let f = few-rules (c .before .before .before .before .before .before .before .before .before .pre) (c .before .before .before .before .before .head .ensures) (c .before .before .h .given .1) in (f .0, short-enough (c .before .before .before .before .before .before .before .before .before .pre), omega arith)
+line-of-requires c κs =
+    let at-head = c .before .before .before .before .before in
+    let start = at-head .before .before .before .before in
+    let f = few-rules (start .pre) (at-head .head .ensures) (c .before .before .h .given .1) in (f .0, short-enough (start .pre), omega arith)
 
 add-names : tie.Need-add-names
-add-names c = omega (arith, few-names (c .before .before .before .before .before .before .before .before .before .before .pre) (c .before .before .before .before .before .before .head .ensures) (c .before .before .before .h .given .1) .1)
+add-names c =
+    let at-head = c .before .before .before .before .before .before in
+    let start = at-head .before .before .before .before in
+    omega (arith, few-names (start .pre) (at-head .head .ensures) (c .before .before .before .h .given .1) .1)
 
 array-share-prefix-names : tie.Need-array-share-prefix-names
-array-share-prefix-names c = let f = few-names (c .before .before .before .before .before .before .before .before .before .before .pre) (c .before .before .before .before .before .before .head .ensures) (c .before .before .before .h .given .1) in omega arith
+array-share-prefix-names c =
+    let at-head = c .before .before .before .before .before .before in
+    let start = at-head .before .before .before .before in
+    let f = few-names (start .pre) (at-head .head .ensures) (c .before .before .before .h .given .1) in omega arith
 
 slice-aggregate-print-line : tie.Need-slice-aggregate-print-line
-slice-aggregate-print-line c = let f = few-names (c .before .before .before .before .before .before .before .before .before .before .before .pre) (c .before .before .before .before .before .before .before .head .ensures) (c .before .before .before .before .h .given .1) in simp length-take (omega arith)
+slice-aggregate-print-line c =
+    let at-h = c .before .before .before .before in
+    let at-head = at-h .before .before .before in
+    let start = at-head .before .before .before .before in
+    let f = few-names (start .pre) (at-head .head .ensures) (at-h .h .given .1) in simp length-take (omega arith)
 
 print-line-requires : tie.Need-print-line-requires
-print-line-requires c κs = line-ready (c .before .before .before .before .before .before .before .before .before .before .before .before .pre) (c .before .before .before .before .before .before .before .before .head .ensures) (c .before .before .before .before .before .h .given .1) (omega arith) (c .before .before .line-of .ensures)
+print-line-requires c κs =
+    let at-h = c .before .before .before .before .before in
+    let at-head = at-h .before .before .before in
+    let start = at-head .before .before .before .before in
+    line-ready (start .pre) (at-head .head .ensures) (at-h .h .given .1) (omega arith) (c .before .before .line-of .ensures)
 
 enum-known-h-2 : tie.Need-enum-known-h-2
 enum-known-h-2 c = search needs
@@ -41,10 +61,18 @@ same-length : tie.Need-same-length
 same-length c = search needs
 
 returns-2 : tie.Need-returns-2
-returns-2 c = gives-line (c .before .before .before .before .before .before .before .before .before .before .before .before .before .before .before .pre) (c .before .before .before .before .before .before .before .before .before .before .before .head .ensures) (c .before .before .before .before .before .before .before .before .h .given .1) (omega arith) (c .before .before .before .before .before .line-of .ensures) (c .before .before .print-line .ensures)
+returns-2 c =
+    let at-line-of = c .before .before .before .before .before in
+    let at-h = at-line-of .before .before .before in
+    let at-head = at-h .before .before .before in
+    let start = at-head .before .before .before .before in
+    gives-line (start .pre) (at-head .head .ensures) (at-h .h .given .1) (omega arith) (at-line-of .line-of .ensures) (c .before .before .print-line .ensures)
 
 returns-3 : tie.Need-returns-3
-returns-3 c = absurd (no-head (c .before .before .before .before .before .before .before .before .pre) (c .before .before .before .before .head .ensures) (c .before .h2 .given .1))
+returns-3 c =
+    let at-head = c .before .before .before .before in
+    let start = at-head .before .before .before .before in
+    absurd (no-head (start .pre) (at-head .head .ensures) (c .before .h2 .given .1))
 
 pub print-checked-spec : {M : Type 1} → statement M
 print-checked-spec =

@@ -23,10 +23,15 @@ slice-aggregate-print-node : tie.Need-slice-aggregate-print-node
 slice-aggregate-print-node c = search needs
 
 sub-print-node : tie.Need-sub-print-node
-sub-print-node c = omega (arith, when-rule (c .before .before .before .before .before .rule-line .ensures) (c .before .before .r .given .1) .some)
+sub-print-node c =
+    let at-rule-line = c .before .before .before .before .before in
+    omega (arith, when-rule (at-rule-line .rule-line .ensures) (c .before .before .r .given .1) .some)
 
 print-node-requires : tie.Need-print-node-requires
-print-node-requires c κs = (node-named (now (c .before .before .before .before .before .before .before .before .before .before .before .args .s)) (now (c .before .before .before .before .before .before .before .before .before .before .before .args .names)) (c .before .before .before .before .before .before .before .before .before .before .before .args .at) (when-rule (c .before .before .before .before .before .before .rule-line .ensures) (c .before .before .before .r .given .1)), node-short (now (c .before .before .before .before .before .before .before .before .before .before .before .args .s)) (now (c .before .before .before .before .before .before .before .before .before .before .before .args .names)) (c .before .before .before .before .before .before .before .before .before .before .before .args .at) (when-rule (c .before .before .before .before .before .before .rule-line .ensures) (c .before .before .before .r .given .1)))
+print-node-requires c κs =
+    let at-rule-line = c .before .before .before .before .before .before in
+    let start = at-rule-line .before .before .before .before .before in
+    (node-named (now (start .args .s)) (now (start .args .names)) (start .args .at) (when-rule (at-rule-line .rule-line .ensures) (c .before .before .before .r .given .1)), node-short (now (start .args .s)) (now (start .args .names)) (start .args .at) (when-rule (at-rule-line .rule-line .ensures) (c .before .before .before .r .given .1)))
 
 enum-known-r-2 : tie.Need-enum-known-r-2
 enum-known-r-2 c = search needs
@@ -35,10 +40,16 @@ same-length : tie.Need-same-length
 same-length c = search needs
 
 returns : tie.Need-returns
-returns c = gives-rule (now (c .before .before .before .before .before .before .before .before .before .before .before .before .before .before .args .s)) (now (c .before .before .before .before .before .before .before .before .before .before .before .before .before .before .args .names)) (c .before .before .before .before .before .before .before .before .before .before .before .before .before .before .args .at) (when-rule (c .before .before .before .before .before .before .before .before .before .rule-line .ensures) (c .before .before .before .before .before .before .r .given .1)) (c .before .before .print-node .ensures)
+returns c =
+    let at-r = c .before .before .before .before .before .before in
+    let at-rule-line = at-r .before .before .before in
+    let start = at-rule-line .before .before .before .before .before in
+    gives-rule (now (start .args .s)) (now (start .args .names)) (start .args .at) (when-rule (at-rule-line .rule-line .ensures) (at-r .r .given .1)) (c .before .before .print-node .ensures)
 
 returns-2 : tie.Need-returns-2
-returns-2 c = gives-refused (ap (printedLine _ _) (when-no-rule (c .before .before .before .before .rule-line .ensures) (c .before .r2 .given .1))) _
+returns-2 c =
+    let at-rule-line = c .before .before .before .before in
+    gives-refused (ap (printedLine _ _) (when-no-rule (at-rule-line .rule-line .ensures) (c .before .r2 .given .1))) _
 
 pub print-line-spec : {M : Type 1} → statement M
 print-line-spec =

@@ -22,16 +22,24 @@ array-share-prefix-text : tie.Need-array-share-prefix-text
 array-share-prefix-text c = search needs
 
 slice-aggregate-push-text : tie.Need-slice-aggregate-push-text
-slice-aggregate-push-text c = own-long (c .before .before .before .before .write-formula .ensures) (now (c .before .before .before .before .before .before .before .before .before .before .args .out)) (omega arith)
+slice-aggregate-push-text c =
+    let at-write-formula = c .before .before .before .before in
+    let start = at-write-formula .before .before .before .before .before .before in
+    own-long (at-write-formula .write-formula .ensures) (now (start .args .out)) (omega arith)
 
 push-text-requires : tie.Need-push-text-requires
-push-text-requires c κs = own-counted (c .before .before .before .before .before .write-formula .ensures) (now (c .before .before .before .before .before .before .before .before .before .before .before .args .out)) (omega arith) (omega arith)
+push-text-requires c κs =
+    let at-write-formula = c .before .before .before .before .before in
+    let start = at-write-formula .before .before .before .before .before .before in
+    own-counted (at-write-formula .write-formula .ensures) (now (start .args .out)) (omega arith) (omega arith)
 
 same-length : tie.Need-same-length
 same-length c = search needs
 
 returns-3 : tie.Need-returns-3
-returns-3 c = copied (c .before .before .before .before .before .before .before .before .write-formula .ensures) _ (omega arith) (omega arith) (omega arith) (c .before .before .push-text .ensures)
+returns-3 c =
+    let at-write-formula = c .before .before .before .before .before .before .before .before in
+    copied (at-write-formula .write-formula .ensures) _ (omega arith) (omega arith) (omega arith) (c .before .before .push-text .ensures)
 
 pub print-node-spec : {M : Type 1} → statement M
 print-node-spec =

@@ -105,149 +105,241 @@ module _ (t : ℕ) where
   write-bare-enum-known-node c = search needs
 
   write-bare-write-name-requires : write-bare-lts.Need-write-name-requires bare-calls bare-at write-bare.Post
-  write-bare-write-name-requires c κs = (parts-of (c .before .before .node .given .1) (now (c .before .before .before .before .before .before .before .before .args .names)) (now (c .before .before .before .before .before .before .before .before .args .arena)) (c .before .before .before .before .before .before .before .before .pre .1 .0), counted-like (c .before .before .before .before .before .before .before .before .pre .1 .1) (of-node (c .before .before .node .given .1) _ _ ∙ name-parts _ _))
+  write-bare-write-name-requires c κs =
+      let start = c .before .before .before .before .before .before .before .before in
+      (parts-of (c .before .before .node .given .1) (now (start .args .names)) (now (start .args .arena)) (start .pre .1 .0), counted-like (start .pre .1 .1) (of-node (c .before .before .node .given .1) _ _ ∙ name-parts _ _))
 
   write-bare-enum-known-node-2 : write-bare-lts.Need-enum-known-node-2 bare-calls bare-at write-bare.Post
   write-bare-enum-known-node-2 c = search needs
 
   write-bare-push-requires : write-bare-lts.Need-push-requires bare-calls bare-at write-bare.Post
-  write-bare-push-requires c κs = counted-first _ (counted-like (c .before .before .before .before .before .before .before .before .pre .1 .1) (of-node (c .before .before .node2 .given .1) _ _ ∙ deny-parts _ _ _ refl))
+  write-bare-push-requires c κs =
+      let start = c .before .before .before .before .before .before .before .before in
+      counted-first _ (counted-like (start .pre .1 .1) (of-node (c .before .before .node2 .given .1) _ _ ∙ deny-parts _ _ _ refl))
 
   write-bare-write-part-requires : write-bare-lts.Need-write-part-requires bare-calls bare-at write-bare.Post
   unfolding weight
-  write-bare-write-part-requires c κs = (omega (arith, weight-of (c .before .before .before .before .before .before .node2 .given .1) (writtenAt (now (c .before .before .before .before .before .before .before .before .before .before .before .before .args .arena)))), (parts-of (c .before .before .before .before .before .before .node2 .given .1) (now (c .before .before .before .before .before .before .before .before .before .before .before .before .args .names)) (now (c .before .before .before .before .before .before .before .before .before .before .before .before .args .arena)) (c .before .before .before .before .before .before .before .before .before .before .before .before .pre .1 .0), counted-rest (counted-like (c .before .before .before .before .before .before .before .before .before .before .before .before .pre .1 .1) (of-node (c .before .before .before .before .before .before .node2 .given .1) _ _ ∙ deny-parts _ _ _ refl)) (c .before .before .before .push .ensures)))
+  write-bare-write-part-requires c κs =
+      let at-node2 = c .before .before .before .before .before .before in
+      let start = at-node2 .before .before .before .before .before .before in
+      (omega (arith, weight-of (at-node2 .node2 .given .1) (writtenAt (now (start .args .arena)))), (parts-of (at-node2 .node2 .given .1) (now (start .args .names)) (now (start .args .arena)) (start .pre .1 .0), counted-rest (counted-like (start .pre .1 .1) (of-node (at-node2 .node2 .given .1) _ _ ∙ deny-parts _ _ _ refl)) (c .before .before .before .push .ensures)))
 
   write-bare-enum-known-node-3 : write-bare-lts.Need-enum-known-node-3 bare-calls bare-at write-bare.Post
   write-bare-enum-known-node-3 c = search needs
 
   write-bare-write-pair-requires : write-bare-lts.Need-write-pair-requires bare-calls bare-at write-bare.Post
   unfolding weight
-  write-bare-write-pair-requires c κs = (omega (arith, weight-of (c .before .before .node3 .given .1) (writtenAt (now (c .before .before .before .before .before .before .before .before .args .arena)))), (parts-of (c .before .before .node3 .given .1) (now (c .before .before .before .before .before .before .before .before .args .names)) (now (c .before .before .before .before .before .before .before .before .args .arena)) (c .before .before .before .before .before .before .before .before .pre .1 .0), counted-like (c .before .before .before .before .before .before .before .before .pre .1 .1) (of-node (c .before .before .node3 .given .1) _ _)))
+  write-bare-write-pair-requires c κs =
+      let start = c .before .before .before .before .before .before .before .before in
+      (omega (arith, weight-of (c .before .before .node3 .given .1) (writtenAt (now (start .args .arena)))), (parts-of (c .before .before .node3 .given .1) (now (start .args .names)) (now (start .args .arena)) (start .pre .1 .0), counted-like (start .pre .1 .1) (of-node (c .before .before .node3 .given .1) _ _)))
 
   write-bare-enum-known-node-4 : write-bare-lts.Need-enum-known-node-4 bare-calls bare-at write-bare.Post
   write-bare-enum-known-node-4 c = search needs
 
   write-bare-write-timed-requires : write-bare-lts.Need-write-timed-requires bare-calls bare-at write-bare.Post
   unfolding weight
-  write-bare-write-timed-requires c κs = (omega (arith, weight-of (c .before .before .node4 .given .1) (writtenAt (now (c .before .before .before .before .before .before .before .before .args .arena)))), (parts-of (c .before .before .node4 .given .1) (now (c .before .before .before .before .before .before .before .before .args .names)) (now (c .before .before .before .before .before .before .before .before .args .arena)) (c .before .before .before .before .before .before .before .before .pre .1 .0), counted-like (c .before .before .before .before .before .before .before .before .pre .1 .1) (of-node (c .before .before .node4 .given .1) _ _)))
+  write-bare-write-timed-requires c κs =
+      let start = c .before .before .before .before .before .before .before .before in
+      (omega (arith, weight-of (c .before .before .node4 .given .1) (writtenAt (now (start .args .arena)))), (parts-of (c .before .before .node4 .given .1) (now (start .args .names)) (now (start .args .arena)) (start .pre .1 .0), counted-like (start .pre .1 .1) (of-node (c .before .before .node4 .given .1) _ _)))
 
   write-bare-enum-known-node-5 : write-bare-lts.Need-enum-known-node-5 bare-calls bare-at write-bare.Post
   write-bare-enum-known-node-5 c = search needs
 
   write-bare-write-keep-requires : write-bare-lts.Need-write-keep-requires bare-calls bare-at write-bare.Post
   unfolding weight
-  write-bare-write-keep-requires c κs = (omega (arith, weight-of (c .before .before .node5 .given .1) (writtenAt (now (c .before .before .before .before .before .before .before .before .args .arena)))), (parts-of (c .before .before .node5 .given .1) (now (c .before .before .before .before .before .before .before .before .args .names)) (now (c .before .before .before .before .before .before .before .before .args .arena)) (c .before .before .before .before .before .before .before .before .pre .1 .0), counted-like (c .before .before .before .before .before .before .before .before .pre .1 .1) (of-node (c .before .before .node5 .given .1) _ _)))
+  write-bare-write-keep-requires c κs =
+      let start = c .before .before .before .before .before .before .before .before in
+      (omega (arith, weight-of (c .before .before .node5 .given .1) (writtenAt (now (start .args .arena)))), (parts-of (c .before .before .node5 .given .1) (now (start .args .names)) (now (start .args .arena)) (start .pre .1 .0), counted-like (start .pre .1 .1) (of-node (c .before .before .node5 .given .1) _ _)))
 
   write-bare-same-length : write-bare-lts.Need-same-length bare-calls bare-at write-bare.Post
   write-bare-same-length c = search needs
 
   write-bare-returns : write-bare-lts.Need-returns bare-calls bare-at write-bare.Post
-  write-bare-returns c = like (of-node (c .before .before .before .before .before .node .given .1) _ _ ∙ name-parts _ _) (c .before .before .write-name .ensures)
+  write-bare-returns c =
+      let at-node = c .before .before .before .before .before in
+      like (of-node (at-node .node .given .1) _ _ ∙ name-parts _ _) (c .before .before .write-name .ensures)
 
   write-bare-same-length-2 : write-bare-lts.Need-same-length-2 bare-calls bare-at write-bare.Post
   write-bare-same-length-2 c = search needs
 
   write-bare-returns-2 : write-bare-lts.Need-returns-2 bare-calls bare-at write-bare.Post
-  write-bare-returns-2 c = like (of-node (c .before .before .before .before .before .before .before .before .before .node2 .given .1) _ _ ∙ deny-parts _ _ _ refl) (and-then (c .before .before .before .before .before .before .push .ensures) (c .before .before .write-part .ensures))
+  write-bare-returns-2 c =
+      let at-push = c .before .before .before .before .before .before in
+      let at-node2 = at-push .before .before .before in
+      like (of-node (at-node2 .node2 .given .1) _ _ ∙ deny-parts _ _ _ refl) (and-then (at-push .push .ensures) (c .before .before .write-part .ensures))
 
   write-bare-same-length-3 : write-bare-lts.Need-same-length-3 bare-calls bare-at write-bare.Post
   write-bare-same-length-3 c = search needs
 
   write-bare-returns-3 : write-bare-lts.Need-returns-3 bare-calls bare-at write-bare.Post
-  write-bare-returns-3 c = like (of-node (c .before .before .before .before .before .node3 .given .1) _ _) (c .before .before .write-pair .ensures)
+  write-bare-returns-3 c =
+      let at-node3 = c .before .before .before .before .before in
+      like (of-node (at-node3 .node3 .given .1) _ _) (c .before .before .write-pair .ensures)
 
   write-bare-same-length-4 : write-bare-lts.Need-same-length-4 bare-calls bare-at write-bare.Post
   write-bare-same-length-4 c = search needs
 
   write-bare-returns-4 : write-bare-lts.Need-returns-4 bare-calls bare-at write-bare.Post
-  write-bare-returns-4 c = like (of-node (c .before .before .before .before .before .node4 .given .1) _ _) (c .before .before .write-timed .ensures)
+  write-bare-returns-4 c =
+      let at-node4 = c .before .before .before .before .before in
+      like (of-node (at-node4 .node4 .given .1) _ _) (c .before .before .write-timed .ensures)
 
   write-bare-same-length-5 : write-bare-lts.Need-same-length-5 bare-calls bare-at write-bare.Post
   write-bare-same-length-5 c = search needs
 
   write-bare-returns-5 : write-bare-lts.Need-returns-5 bare-calls bare-at write-bare.Post
-  write-bare-returns-5 c = like (of-node (c .before .before .before .before .before .node5 .given .1) _ _) (c .before .before .write-keep .ensures)
+  write-bare-returns-5 c =
+      let at-node5 = c .before .before .before .before .before in
+      like (of-node (at-node5 .node5 .given .1) _ _) (c .before .before .write-keep .ensures)
 
   write-keep-write-keep-word-requires : write-keep-lts.Need-write-keep-word-requires keep-calls keep-at write-keep.Post
-  write-keep-write-keep-word-requires c κs = counted-first _ (counted-like (c .before .before .before .before .before .pre .1 .1) (keep-parts _ _ _ _ _ _ refl refl))
+  write-keep-write-keep-word-requires c κs =
+      let start = c .before .before .before .before .before in
+      counted-first _ (counted-like (start .pre .1 .1) (keep-parts _ _ _ _ _ _ refl refl))
 
   write-keep-write-part-requires : write-keep-lts.Need-write-part-requires keep-calls keep-at write-keep.Post
-  write-keep-write-part-requires c κs = (omega arith, (c .before .before .before .before .before .before .before .before .before .pre .1 .0 .0, counted-first _ (counted-rest (counted-like (c .before .before .before .before .before .before .before .before .before .pre .1 .1) (keep-parts _ _ _ _ _ _ refl refl)) (c .before .before .before .write-keep-word .ensures))))
+  write-keep-write-part-requires c κs =
+      let start = c .before .before .before .before .before .before .before .before .before in
+      (omega arith, (start .pre .1 .0 .0, counted-first _ (counted-rest (counted-like (start .pre .1 .1) (keep-parts _ _ _ _ _ _ refl refl)) (c .before .before .before .write-keep-word .ensures))))
 
   write-keep-push-requires : write-keep-lts.Need-push-requires keep-calls keep-at write-keep.Post
-  write-keep-push-requires c κs = counted-first _ (counted-rest (counted-rest (counted-like (c .before .before .before .before .before .before .before .before .before .before .before .before .before .pre .1 .1) (keep-parts _ _ _ _ _ _ refl refl)) (c .before .before .before .before .before .before .before .write-keep-word .ensures)) (c .before .before .before .write-part .ensures))
+  write-keep-push-requires c κs =
+      let at-write-keep-word = c .before .before .before .before .before .before .before in
+      let start = at-write-keep-word .before .before .before .before .before .before in
+      counted-first _ (counted-rest (counted-rest (counted-like (start .pre .1 .1) (keep-parts _ _ _ _ _ _ refl refl)) (at-write-keep-word .write-keep-word .ensures)) (c .before .before .before .write-part .ensures))
 
   write-keep-write-part-requires-2 : write-keep-lts.Need-write-part-requires-2 keep-calls keep-at write-keep.Post
-  write-keep-write-part-requires-2 c κs = (omega arith, (c .before .before .before .before .before .before .before .before .before .before .before .before .before .before .before .before .before .pre .1 .0 .1, counted-first _ (counted-rest (counted-rest (counted-rest (counted-like (c .before .before .before .before .before .before .before .before .before .before .before .before .before .before .before .before .before .pre .1 .1) (keep-parts _ _ _ _ _ _ refl refl)) (c .before .before .before .before .before .before .before .before .before .before .before .write-keep-word .ensures)) (c .before .before .before .before .before .before .before .write-part .ensures)) (c .before .before .before .push .ensures))))
+  write-keep-write-part-requires-2 c κs =
+      let at-write-part = c .before .before .before .before .before .before .before in
+      let at-write-keep-word = at-write-part .before .before .before .before in
+      let start = at-write-keep-word .before .before .before .before .before .before in
+      (omega arith, (start .pre .1 .0 .1, counted-first _ (counted-rest (counted-rest (counted-rest (counted-like (start .pre .1 .1) (keep-parts _ _ _ _ _ _ refl refl)) (at-write-keep-word .write-keep-word .ensures)) (at-write-part .write-part .ensures)) (c .before .before .before .push .ensures))))
 
   write-keep-push-requires-2 : write-keep-lts.Need-push-requires-2 keep-calls keep-at write-keep.Post
-  write-keep-push-requires-2 c κs = counted-rest (counted-rest (counted-rest (counted-rest (counted-like (c .before .before .before .before .before .before .before .before .before .before .before .before .before .before .before .before .before .before .before .before .before .pre .1 .1) (keep-parts _ _ _ _ _ _ refl refl)) (c .before .before .before .before .before .before .before .before .before .before .before .before .before .before .before .write-keep-word .ensures)) (c .before .before .before .before .before .before .before .before .before .before .before .write-part .ensures)) (c .before .before .before .before .before .before .before .push .ensures)) (c .before .before .before .write-part2 .ensures)
+  write-keep-push-requires-2 c κs =
+      let at-push = c .before .before .before .before .before .before .before in
+      let at-write-part = at-push .before .before .before .before in
+      let at-write-keep-word = at-write-part .before .before .before .before in
+      let start = at-write-keep-word .before .before .before .before .before .before in
+      counted-rest (counted-rest (counted-rest (counted-rest (counted-like (start .pre .1 .1) (keep-parts _ _ _ _ _ _ refl refl)) (at-write-keep-word .write-keep-word .ensures)) (at-write-part .write-part .ensures)) (at-push .push .ensures)) (c .before .before .before .write-part2 .ensures)
 
   write-keep-same-length : write-keep-lts.Need-same-length keep-calls keep-at write-keep.Post
   write-keep-same-length c = search needs
 
   write-keep-returns : write-keep-lts.Need-returns keep-calls keep-at write-keep.Post
-  write-keep-returns c = like (keep-parts _ _ _ _ _ _ refl refl) (and-then (c .before .before .before .before .before .before .before .before .before .before .before .before .before .before .before .before .before .before .write-keep-word .ensures) (and-then (c .before .before .before .before .before .before .before .before .before .before .before .before .before .before .write-part .ensures) (and-then (c .before .before .before .before .before .before .before .before .before .before .push .ensures) (and-then (c .before .before .before .before .before .before .write-part2 .ensures) (c .before .before .push2 .ensures)))))
+  write-keep-returns c =
+      let at-write-part2 = c .before .before .before .before .before .before in
+      let at-push = at-write-part2 .before .before .before .before in
+      let at-write-part = at-push .before .before .before .before in
+      let at-write-keep-word = at-write-part .before .before .before .before in
+      like (keep-parts _ _ _ _ _ _ refl refl) (and-then (at-write-keep-word .write-keep-word .ensures) (and-then (at-write-part .write-part .ensures) (and-then (at-push .push .ensures) (and-then (at-write-part2 .write-part2 .ensures) (c .before .before .push2 .ensures)))))
 
   write-pair-rank-before-requires : write-pair-lts.Need-rank-before-requires pair-calls pair-at write-pair.Post
   write-pair-rank-before-requires c κs = search needs
 
   write-pair-write-part-requires : write-pair-lts.Need-write-part-requires pair-calls pair-at write-pair.Post
-  write-pair-write-part-requires c κs = (omega arith, (c .before .before .before .before .before .before .pre .1 .0 .0, counted-first _ (counted-like (c .before .before .before .before .before .before .pre .1 .1) (pair-parts _ _ _ _ _ _ (c .before .rank-before .ensures) refl))))
+  write-pair-write-part-requires c κs =
+      let start = c .before .before .before .before .before .before in
+      (omega arith, (start .pre .1 .0 .0, counted-first _ (counted-like (start .pre .1 .1) (pair-parts _ _ _ _ _ _ (c .before .rank-before .ensures) refl))))
 
   write-pair-write-sign-requires : write-pair-lts.Need-write-sign-requires pair-calls pair-at write-pair.Post
-  write-pair-write-sign-requires c κs = counted-first _ (counted-rest (counted-like (c .before .before .before .before .before .before .before .before .before .before .pre .1 .1) (pair-parts _ _ _ _ _ _ (c .before .before .before .before .before .rank-before .ensures) refl)) (c .before .before .before .write-part .ensures))
+  write-pair-write-sign-requires c κs =
+      let at-rank-before = c .before .before .before .before .before in
+      let start = at-rank-before .before .before .before .before .before in
+      counted-first _ (counted-rest (counted-like (start .pre .1 .1) (pair-parts _ _ _ _ _ _ (at-rank-before .rank-before .ensures) refl)) (c .before .before .before .write-part .ensures))
 
   write-pair-rank-below-requires : write-pair-lts.Need-rank-below-requires pair-calls pair-at write-pair.Post
   write-pair-rank-below-requires c κs = search needs
 
   write-pair-write-part-requires-2 : write-pair-lts.Need-write-part-requires-2 pair-calls pair-at write-pair.Post
-  write-pair-write-part-requires-2 c κs = (omega arith, (c .before .before .before .before .before .before .before .before .before .before .before .before .before .before .before .pre .1 .0 .1, counted-rest (counted-rest (counted-like (c .before .before .before .before .before .before .before .before .before .before .before .before .before .before .before .pre .1 .1) (pair-parts _ _ _ _ _ _ (c .before .before .before .before .before .before .before .before .before .before .rank-before .ensures) (c .before .rank-below .ensures))) (c .before .before .before .before .before .before .before .before .write-part .ensures)) (c .before .before .before .before .write-sign .ensures)))
+  write-pair-write-part-requires-2 c κs =
+      let at-write-sign = c .before .before .before .before in
+      let at-write-part = at-write-sign .before .before .before .before in
+      let at-rank-before = at-write-part .before .before in
+      let start = at-rank-before .before .before .before .before .before in
+      (omega arith, (start .pre .1 .0 .1, counted-rest (counted-rest (counted-like (start .pre .1 .1) (pair-parts _ _ _ _ _ _ (at-rank-before .rank-before .ensures) (c .before .rank-below .ensures))) (at-write-part .write-part .ensures)) (at-write-sign .write-sign .ensures)))
 
   write-pair-same-length : write-pair-lts.Need-same-length pair-calls pair-at write-pair.Post
   write-pair-same-length c = search needs
 
   write-pair-returns : write-pair-lts.Need-returns pair-calls pair-at write-pair.Post
-  write-pair-returns c = like (pair-parts _ _ _ _ _ _ (c .before .before .before .before .before .before .before .before .before .before .before .before .before .rank-before .ensures) (c .before .before .before .before .rank-below .ensures)) (and-then (c .before .before .before .before .before .before .before .before .before .before .before .write-part .ensures) (and-then (c .before .before .before .before .before .before .before .write-sign .ensures) (c .before .before .write-part2 .ensures)))
+  write-pair-returns c =
+      let at-rank-below = c .before .before .before .before in
+      let at-write-sign = at-rank-below .before .before .before in
+      let at-write-part = at-write-sign .before .before .before .before in
+      let at-rank-before = at-write-part .before .before in
+      like (pair-parts _ _ _ _ _ _ (at-rank-before .rank-before .ensures) (at-rank-below .rank-below .ensures)) (and-then (at-write-part .write-part .ensures) (and-then (at-write-sign .write-sign .ensures) (c .before .before .write-part2 .ensures)))
 
   write-part-node-at-requires : write-part-lts.Need-node-at-requires part-calls part-at write-part.Post
-  write-part-node-at-requires c κs = omega (arith, c .before .before .before .before .pre .1 .0 .stands .inside)
+  write-part-node-at-requires c κs =
+      let start = c .before .before .before .before in
+      omega (arith, start .pre .1 .0 .stands .inside)
 
   write-part-rank-of-requires : write-part-lts.Need-rank-of-requires part-calls part-at write-part.Post
   write-part-rank-of-requires c κs = search needs
 
   write-part-write-paren-requires : write-part-lts.Need-write-paren-requires part-calls part-at write-part.Post
-  write-part-write-paren-requires c κs = counted-first _ (counted-like (c .before .before .before .before .before .before .before .pre .1 .1) (part-of (c .before .before .before .before .before .before .before .pre .1 .0) (c .before .before .node-at .ensures) _ _ (c .before .rank-of .ensures)))
+  write-part-write-paren-requires c κs =
+      let start = c .before .before .before .before .before .before .before in
+      counted-first _ (counted-like (start .pre .1 .1) (part-of (start .pre .1 .0) (c .before .before .node-at .ensures) _ _ (c .before .rank-of .ensures)))
 
   write-part-write-bare-requires : write-part-lts.Need-write-bare-requires part-calls part-at write-part.Post
-  write-part-write-bare-requires c κs = (omega (arith, weight-is (c .before .before .before .before .before .before .before .before .before .before .before .pre .1 .0) (c .before .before .before .before .before .before .node-at .ensures)), (named-parts (c .before .before .before .before .before .before .before .before .before .before .before .pre .1 .0) (c .before .before .before .before .before .before .node-at .ensures), counted-first _ (counted-rest (counted-like (c .before .before .before .before .before .before .before .before .before .before .before .pre .1 .1) (part-of (c .before .before .before .before .before .before .before .before .before .before .before .pre .1 .0) (c .before .before .before .before .before .before .node-at .ensures) _ _ (c .before .before .before .before .before .rank-of .ensures))) (c .before .before .before .write-paren .ensures))))
+  write-part-write-bare-requires c κs =
+      let at-rank-of = c .before .before .before .before .before in
+      let at-node-at = at-rank-of .before in
+      let start = at-node-at .before .before .before .before .before in
+      (omega (arith, weight-is (start .pre .1 .0) (at-node-at .node-at .ensures)), (named-parts (start .pre .1 .0) (at-node-at .node-at .ensures), counted-first _ (counted-rest (counted-like (start .pre .1 .1) (part-of (start .pre .1 .0) (at-node-at .node-at .ensures) _ _ (at-rank-of .rank-of .ensures))) (c .before .before .before .write-paren .ensures))))
 
   write-part-write-paren-requires-2 : write-part-lts.Need-write-paren-requires-2 part-calls part-at write-part.Post
-  write-part-write-paren-requires-2 c κs = counted-rest (counted-rest (counted-like (c .before .before .before .before .before .before .before .before .before .before .before .before .before .before .before .pre .1 .1) (part-of (c .before .before .before .before .before .before .before .before .before .before .before .before .before .before .before .pre .1 .0) (c .before .before .before .before .before .before .before .before .before .before .node-at .ensures) _ _ (c .before .before .before .before .before .before .before .before .before .rank-of .ensures))) (c .before .before .before .before .before .before .before .write-paren .ensures)) (c .before .before .before .write-bare .ensures)
+  write-part-write-paren-requires-2 c κs =
+      let at-write-paren = c .before .before .before .before .before .before .before in
+      let at-rank-of = at-write-paren .before .before in
+      let at-node-at = at-rank-of .before in
+      let start = at-node-at .before .before .before .before .before in
+      counted-rest (counted-rest (counted-like (start .pre .1 .1) (part-of (start .pre .1 .0) (at-node-at .node-at .ensures) _ _ (at-rank-of .rank-of .ensures))) (at-write-paren .write-paren .ensures)) (c .before .before .before .write-bare .ensures)
 
   write-part-same-length : write-part-lts.Need-same-length part-calls part-at write-part.Post
   write-part-same-length c = search needs
 
   write-part-returns : write-part-lts.Need-returns part-calls part-at write-part.Post
-  write-part-returns c = like (part-of (c .before .before .before .before .before .before .before .before .before .before .before .before .before .before .before .before .before .before .pre .1 .0) (c .before .before .before .before .before .before .before .before .before .before .before .before .before .node-at .ensures) _ _ (c .before .before .before .before .before .before .before .before .before .before .before .before .rank-of .ensures)) (and-then (c .before .before .before .before .before .before .before .before .before .before .write-paren .ensures) (and-then (c .before .before .before .before .before .before .write-bare .ensures) (c .before .before .write-paren2 .ensures)))
+  write-part-returns c =
+      let at-write-bare = c .before .before .before .before .before .before in
+      let at-write-paren = at-write-bare .before .before .before .before in
+      let at-rank-of = at-write-paren .before .before in
+      let at-node-at = at-rank-of .before in
+      let start = at-node-at .before .before .before .before .before in
+      like (part-of (start .pre .1 .0) (at-node-at .node-at .ensures) _ _ (at-rank-of .rank-of .ensures)) (and-then (at-write-paren .write-paren .ensures) (and-then (at-write-bare .write-bare .ensures) (c .before .before .write-paren2 .ensures)))
 
   write-timed-write-part-requires : write-timed-lts.Need-write-part-requires timed-calls timed-at write-timed.Post
-  write-timed-write-part-requires c κs = (omega arith, (c .before .before .before .before .before .pre .1 .0, counted-first _ (counted-like (c .before .before .before .before .before .pre .1 .1) (time-parts _ _ _ _ _ _ _ refl refl))))
+  write-timed-write-part-requires c κs =
+      let start = c .before .before .before .before .before in
+      (omega arith, (start .pre .1 .0, counted-first _ (counted-like (start .pre .1 .1) (time-parts _ _ _ _ _ _ _ refl refl))))
 
   write-timed-time-sign-requires : write-timed-lts.Need-time-sign-requires timed-calls timed-at write-timed.Post
   write-timed-time-sign-requires c κs = search needs
 
   write-timed-push-requires : write-timed-lts.Need-push-requires timed-calls timed-at write-timed.Post
-  write-timed-push-requires c κs = counted-first _ (counted-rest (counted-like (c .before .before .before .before .before .before .before .before .before .before .pre .1 .1) (time-parts _ _ _ _ _ _ _ refl (c .before .time-sign .ensures))) (c .before .before .before .before .write-part .ensures))
+  write-timed-push-requires c κs =
+      let at-write-part = c .before .before .before .before in
+      let start = at-write-part .before .before .before .before .before .before in
+      counted-first _ (counted-rest (counted-like (start .pre .1 .1) (time-parts _ _ _ _ _ _ _ refl (c .before .time-sign .ensures))) (at-write-part .write-part .ensures))
 
   write-timed-write-interval-requires : write-timed-lts.Need-write-interval-requires timed-calls timed-at write-timed.Post
-  write-timed-write-interval-requires c κs = counted-rest (counted-rest (counted-like (c .before .before .before .before .before .before .before .before .before .before .before .before .before .before .pre .1 .1) (time-parts _ _ _ _ _ _ _ refl (c .before .before .before .before .before .time-sign .ensures))) (c .before .before .before .before .before .before .before .before .write-part .ensures)) (c .before .before .before .push .ensures)
+  write-timed-write-interval-requires c κs =
+      let at-time-sign = c .before .before .before .before .before in
+      let at-write-part = at-time-sign .before .before .before in
+      let start = at-write-part .before .before .before .before .before .before in
+      counted-rest (counted-rest (counted-like (start .pre .1 .1) (time-parts _ _ _ _ _ _ _ refl (at-time-sign .time-sign .ensures))) (at-write-part .write-part .ensures)) (c .before .before .before .push .ensures)
 
   write-timed-same-length : write-timed-lts.Need-same-length timed-calls timed-at write-timed.Post
   write-timed-same-length c = search needs
 
   write-timed-returns : write-timed-lts.Need-returns timed-calls timed-at write-timed.Post
-  write-timed-returns c = like (time-parts _ _ _ _ _ _ _ refl (c .before .before .before .before .before .before .before .before .time-sign .ensures)) (and-then (c .before .before .before .before .before .before .before .before .before .before .before .write-part .ensures) (and-then (c .before .before .before .before .before .before .push .ensures) (c .before .before .write-interval .ensures)))
+  write-timed-returns c =
+      let at-push = c .before .before .before .before .before .before in
+      let at-time-sign = at-push .before .before in
+      let at-write-part = at-time-sign .before .before .before in
+      like (time-parts _ _ _ _ _ _ _ refl (at-time-sign .time-sign .ensures)) (and-then (at-write-part .write-part .ensures) (and-then (at-push .push .ensures) (c .before .before .write-interval .ensures)))
 
 pub +write-bare+write-keep+write-pair+write-part+write-timed-spec : {M : Type 1} → statement M
 +write-bare+write-keep+write-pair+write-part+write-timed-spec =

@@ -7,7 +7,9 @@ use Rattle.write_formula.proofs.write_formula.Statement.{statement}
 use Rattle.write_formula.proofs.write_formula.Tie as tie
 
 write-part-requires : tie.Need-write-part-requires
-write-part-requires c κs = ((c .before .before .before .before .before .pre .0), counted-like (c .before .before .before .before .before .pre .1) (printed-parts _ _ _ refl))
+write-part-requires c κs =
+    let start = c .before .before .before .before .before in
+    ((start .pre .0), counted-like (start .pre .1) (printed-parts _ _ _ refl))
 
 same-length : tie.Need-same-length
 same-length c = search needs

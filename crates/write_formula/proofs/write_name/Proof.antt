@@ -20,13 +20,17 @@ cast-at : tie.Need-cast-at
 cast-at c = fits-widen tt (c .shared-slice-known3 .given _)
 
 write-word-requires : tie.Need-write-word-requires
-write-word-requires c κs = counted-like (c .before .before .before .before .before .pre .1) (name-spelled (now (c .before .before .before .before .before .args .s)) (now (c .before .before .before .before .before .args .names)) _ (c .before .before .before .before .before .pre .0))
+write-word-requires c κs =
+    let start = c .before .before .before .before .before in
+    counted-like (start .pre .1) (name-spelled (now (start .args .s)) (now (start .args .names)) _ (start .pre .0))
 
 same-length : tie.Need-same-length
 same-length c = search needs
 
 returns : tie.Need-returns
-returns c = like (name-spelled (now (c .before .before .before .before .before .before .before .before .args .s)) (now (c .before .before .before .before .before .before .before .before .args .names)) _ (c .before .before .before .before .before .before .before .before .pre .0)) (c .before .before .write-word .ensures)
+returns c =
+    let start = c .before .before .before .before .before .before .before .before in
+    like (name-spelled (now (start .args .s)) (now (start .args .names)) _ (start .pre .0)) (c .before .before .write-word .ensures)
 
 pub write-name-spec : {M : Type 1} → statement M
 write-name-spec =

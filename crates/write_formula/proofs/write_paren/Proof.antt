@@ -13,7 +13,10 @@ same-length : tie.Need-same-length
 same-length c = search needs
 
 returns : tie.Need-returns
-returns c = like (ap (λ b. parenText b (c .before .before .before .before .before .before .args .paren)) (c .before .before .before .before .if1 .taken)) (c .before .before .push .ensures)
+returns c =
+    let at-if1 = c .before .before .before .before in
+    let start = at-if1 .before .before in
+    like (ap (λ b. parenText b (start .args .paren)) (at-if1 .if1 .taken)) (c .before .before .push .ensures)
 
 returns-2 : tie.Need-returns-2
 returns-2 c = like (ap (λ b. parenText b (c .before .before .args .paren)) (c .if1 .left)) nothing
