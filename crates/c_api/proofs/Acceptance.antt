@@ -26,7 +26,7 @@ use Rattle.spec_operations.specs.Operations.Asks.{not-opened as not-asked, out-
 use Rattle.spec_moves.specs.Moves.{Moves}
 use Rattle.spec_moves.specs.Moves.Moves.{not-opened as no-sheet, not-read as no-readings, no-room, moved}
 use Rattle.spec_print.specs.RuleTexts.{printed}
-use Rattle.spec_print.specs.Printing.{withRoom, printedRule, printedOf, ruleAt, printing, lengthOf, Prints}
+use Rattle.spec_print.specs.Printing.{withRoom, printedRule, printedOf, ruleAt, printing, lengthOf, PrintsRule}
 use Rattle.spec_figures.specs.declared.Record.{Record}
 use Rattle.spec_figures.specs.Texts.{textsIn}
 use Rattle.spec_figures.specs.Figures.{Figures}
@@ -111,7 +111,7 @@ module _ (s : List ℕ) where
   printed-told rule room (accepted k) h = length-told (printedRule (namesIn s k) room (ruleAt (k .rules) rule)) (rule-told (namesIn s k) room (ruleAt (k .rules) rule))
   printed-told rule room (refused n p) h = h
 
-  pub print-told : (rule : ℕ) {O O′ : List ℕ} {x : Result ℕ} → Prints s rule O O′ x → Told x
+  pub print-told : (rule : ℕ) {O O′ : List ℕ} {x : Result ℕ} → PrintsRule s rule O O′ x → Told x
   unfolding printing
   print-told rule {O} a = subst Told (sym (a .answer)) (printed-told rule (length O) (sheetIn s) sheet-told)
 

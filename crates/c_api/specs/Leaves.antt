@@ -10,7 +10,7 @@ use Rattle.open_sheet.specs.Results.{Result, accepted, refused}
 use Rattle.spec_operations.specs.Gain.{Gain, gain}
 use Rattle.spec_operations.specs.Operations.{checked, Adds, Asks}
 use Rattle.spec_moves.specs.Moves.{Moves}
-use Rattle.spec_print.specs.Printing.{Prints}
+use Rattle.spec_print.specs.Printing.{PrintsRule}
 use Rattle.spec_figures.specs.declared.Record.{Record}
 use Rattle.spec_figures.specs.Figures.{Figures}
 use Rattle.op_figures.specs.Reports.{recordsAfter}
@@ -58,7 +58,7 @@ MoveLeaves spans s r O O′ place before l = (x : Result ℕ) × Moves spans s r
 
 -- A call that prints a rule back: O is the buffer before, O′ after.
 abbrev pub PrintLeaves : List ℕ → ℕ → List ℕ → List ℕ → ℕ → List ℕ → Left → Type 0
-PrintLeaves s rule O O′ place before l = (x : Result ℕ) × Prints s rule O O′ x × (l ≡ leaves oneValue place before x)
+PrintLeaves s rule O O′ place before l = (x : Result ℕ) × PrintsRule s rule O O′ x × (l ≡ leaves oneValue place before x)
 
 -- What figures writes besides the records: nothing.
 abbrev pub noValues : List Record → List ℕ

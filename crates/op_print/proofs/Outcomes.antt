@@ -45,7 +45,7 @@ use Rattle.op_check.specs.declared.Checking.{Checking}
 use Rattle.op_check.specs.declared.Checking.the-variants as checking
 use Rattle.op_check.specs.CheckingSays.{checkingSays}
 use Rattle.spec_print.specs.RuleTexts.{printed, IsRule}
-use Rattle.spec_print.specs.Printing.{withRoom, printedRule, printedOf, printing, ruleAt, Gives, Prints}
+use Rattle.spec_print.specs.Printing.{withRoom, printedRule, printedOf, printing, ruleAt, Gives, PrintsRule}
 use Rattle.spec_print.proofs.ReadBack.{at-most-twice}
 use Rattle.write_formula.specs.PartTexts.{NamedNode}
 use Rattle.op_print.specs.RuleLines.{lineOf, printedLine, LineAt, Accepted}
@@ -191,7 +191,7 @@ module _ {s T : List ℕ} (x : Accepted s) {r : Heading} {w n m p : ℕ} (y : He
   pub few-names : (length T ≡ indexNumbers) × (n ≤ mostSignals)
   few-names = let h = when-headed y e in (h .2 .room, h .2 .few)
 
-  pub past-last : {i : ℕ} → m ≤ i → (O : List ℕ) → Prints s i O O (refused 17 0)
+  pub past-last : {i : ℕ} → m ≤ i → (O : List ℕ) → PrintsRule s i O O (refused 17 0)
   past-last l O = gives-refused (no-rule s (x .sheet) (when-headed y e .0) l (length O)) O
 
   module _ {i at : ℕ} (l : i < m) (is-line : at ≡ lineOf s i p) where
@@ -201,7 +201,7 @@ module _ {s T : List ℕ} (x : Accepted s) {r : Heading} {w n m p : ℕ} (y : He
         let f = rule-found s (x .sheet) (h .0) l in
         rw is-line (record { within = f .inside; before = up-to (f .ahead) (firstPlaces n T) (head-past s (h .0) .before); index = h .2 .index })
 
-    pub gives-line : {O U : List ℕ} {a : Result ℕ} → Gives (printedLine (namesIn s (firstNames n T)) (length O) (ruleLine (namesIn s (firstNames n T)) s at)) O U a → Prints s i O U a
+    pub gives-line : {O U : List ℕ} {a : Result ℕ} → Gives (printedLine (namesIn s (firstNames n T)) (length O) (ruleLine (namesIn s (firstNames n T)) s at)) O U a → PrintsRule s i O U a
     gives-line {O} {U} {a} g =
         subst (λ R. Gives R O U a)
         (ap (λ z. printedLine (namesIn s (firstNames n T)) (length O) (ruleLine (namesIn s (firstNames n T)) s z)) is-line ∙ sym (rule-printed s (x .sheet) (when-headed y e .0) l (length O))) g

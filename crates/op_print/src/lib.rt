@@ -22,7 +22,7 @@ ghost use Rattle.read_index.specs.Index.{namesIn};
 ghost use Rattle.read_arena.specs.NodeRules.{writtenAt};
 ghost use Rattle.read_sheet.specs.Sheet.{ruleLine};
 ghost use Rattle.spec_print.specs.RuleTexts.{printed};
-ghost use Rattle.spec_print.specs.Printing.{withRoom, Gives, Prints};
+ghost use Rattle.spec_print.specs.Printing.{withRoom, Gives, PrintsRule};
 ghost use Rattle.write_formula.specs.PartTexts.{NamedNode};
 ghost use Rattle.spec_operations.specs.WritingSays.{writingSays};
 ghost use Rattle.op_print.specs.RuleLines.{lineOf, printedLine, LineAt, Accepted};
@@ -78,7 +78,7 @@ fn print_line(s: &[u8], names: &[u16], at: usize, out: &mut [u8]) -> Writing
 // Finds the rule in an accepted sheet, and prints it.
 fn print_checked(s: &[u8], rule: usize, out: &mut [u8]) -> Writing
     requires { ⌜ Accepted (now s) ⌝ }
-    ensures { λ r. ⌜ Prints (before s) rule (before out) (after out) (writingSays r) ⌝ }
+    ensures { λ r. ⌜ PrintsRule (before s) rule (before out) (after out) (writingSays r) ⌝ }
 {
     let mut names = [0u16; INDEX];
     let h = head(s, &mut names);
@@ -101,7 +101,7 @@ fn print_checked(s: &[u8], rule: usize, out: &mut [u8]) -> Writing
 
 // Prints a rule back.
 pub fn print_rule(s: &[u8], rule: usize, out: &mut [u8]) -> Writing
-    ensures { λ r. ⌜ Prints (before s) rule (before out) (after out) (writingSays r) ⌝ }
+    ensures { λ r. ⌜ PrintsRule (before s) rule (before out) (after out) (writingSays r) ⌝ }
 {
     let c = check(s);
     match c {

@@ -14,7 +14,7 @@ use Rattle.read_interval.specs.Interval.{signed, endAt, offsetsOf, endAfter, cl
 use Rattle.write_bytes.specs.Writes.{lastDigits, decimalText}
 use Rattle.spec_tilco.specs.Formula.{Written}
 use Rattle.read_parts.specs.FormulaText.{declared, times, timedPart, more, level, second, sinceUntil, nameOrKeep, plainPartIn, inside, plainPart, rule}
-use Rattle.spec_print.specs.RuleTexts.{endText, interval as intervalTokens, tokens, printed}
+use Rattle.spec_print.specs.RuleTexts.{endText, intervalTokens, tokens, printed}
 
 -- A rule as it is written, and as it is printed back.
 record Example : Type 0 where

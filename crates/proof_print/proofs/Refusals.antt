@@ -16,7 +16,7 @@ use Rattle.open_sheet.specs.SheetIn.{sheetIn, namesIn}
 use Rattle.proof_demands.specs.Refusals.{SheetAccepted}
 use Rattle.proof_demands.proofs.Refusals.{sheet-case, case-sheet, sheet-in, in-sheet-text}
 use Rattle.spec_print.specs.RuleTexts.{printed}
-use Rattle.spec_print.specs.Printing.{ruleAt, withRoom, printedRule, printedOf, printing, Gives, Prints}
+use Rattle.spec_print.specs.Printing.{ruleAt, withRoom, printedRule, printedOf, printing, Gives, PrintsRule}
 use Rattle.op_print.proofs.Rooms.{room-for, over-limit, over-room, gives-refused, gives-text}
 use Rattle.op_print.proofs.RulesFound.{rule-past-all, rule-absent}
 use Rattle.op_print.proofs.Outcomes.{sheet-refused}
@@ -37,7 +37,7 @@ module _ (s : List ℕ) (r : ℕ) where
   refused-by {O} (twenty {k} {f} x (inl l)) = of-text (length O) x ∙ over-limit (printed (namesIn s k) f) (length O) (subst (λ t. mostRuleBytes < length t) (x .text) l)
   refused-by {O} (twenty {k} {f} x (inr l)) = of-text (length O) x ∙ over-room (printed (namesIn s k) f) (length O) (subst (λ t. length O < length t) (x .text) l)
 
-  accepted-by : {O O′ : List ℕ} {n : ℕ} → PrintedIn s r O O′ n → Prints s r O O′ (accepted n)
+  accepted-by : {O O′ : List ℕ} {n : ℕ} → PrintedIn s r O O′ n → PrintsRule s r O O′ (accepted n)
   accepted-by {O} x =
       let e = ap (withRoom (length O)) (sym (x .is-text .text)) ∙ room-for (x .text) (length O) (x .in-limit) (x .in-room) in
       gives-text (of-text (length O) (x .is-text) ∙ e) O (x .answer) (x .buffer)
@@ -93,14 +93,14 @@ acceptance-of {s} {r} {O} (on {k} {f} {t} x l m) {O′} g =
 module _ (s : List ℕ) (r : ℕ) {O O′ : List ℕ} where
   -- "Each refusal is given exactly in its case. It returns number and place only, and every lent table and buffer keeps every word." Those of printing a rule:
   -- "after the sheet's own, 17 when the rule number, from 0, is outside its range, then 20, also for text over 256 bytes".
-  pub print-refusals : {n p : ℕ} → Prints s r O O′ (refused n p) ↔ (PrintRefused s r O n p × (O′ ≡ O))
+  pub print-refusals : {n p : ℕ} → PrintsRule s r O O′ (refused n p) ↔ (PrintRefused s r O n p × (O′ ≡ O))
   print-refusals {n} {p} = (
     λ g. refusal-of (which s r O) g,
-    λ x. subst (λ U. Prints s r O U (refused n p)) (sym (x .1)) (gives-refused (refused-by s r (x .0)) O),
+    λ x. subst (λ U. PrintsRule s r O U (refused n p)) (sym (x .1)) (gives-refused (refused-by s r (x .0)) O),
   )
 
   -- "A written text starts at its buffer's first place, its length is answered, and the rest of the buffer stays."
-  pub print-accepts : {n : ℕ} → Prints s r O O′ (accepted n) ↔ PrintedIn s r O O′ n
+  pub print-accepts : {n : ℕ} → PrintsRule s r O O′ (accepted n) ↔ PrintedIn s r O O′ n
   print-accepts = (λ g. acceptance-of (which s r O) g, λ x. accepted-by s r x)
 
 -- No input has two refusals: what is given in one case is given in no other.

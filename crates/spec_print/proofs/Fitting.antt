@@ -16,7 +16,7 @@ use Rattle.read_parts.specs.FormulaText.{signText}
 use Rattle.spec_grammar.specs.Grammar.{Part, formula, before, below, keepWord, timeSign, Name, Interval, Is, Declared, Legal}
 use Rattle.spec_grammar.specs.Grammar.Part.{plain, timed, level}
 use Rattle.spec_grammar.proofs.Walk.{deeper}
-use Rattle.spec_print.specs.RuleTexts.{rank, partOf, needed, interval, tokens, tokensIn}
+use Rattle.spec_print.specs.RuleTexts.{rank, partOf, needed, intervalTokens, tokens, tokensIn}
 use Rattle.spec_print.specs.Parentheses.{opened}
 use Rattle.spec_print.proofs.Counts.{one, long, opens, long-next, opens-next, long-append, opens-append, enclosed-long, enclosed-opens}
 use Rattle.spec_print.proofs.IntervalTexts.{interval-printed, legal-near, interval-some}
@@ -197,8 +197,8 @@ module _ (names : List (List ℕ)) where
       let p = interval-printed first more (n .0) (n .1) in
       let t = tokensIn names timed f in
       own refl (Is.time b (fitted x) (p .is) (p .legal))
-      (omega (arith, few-in x, p .none-opened, opens-append us (timeSign b ∷ ws), opens-next (timeSign b) ws, opens-append t (timeSign b ∷ interval first more), opens-next (timeSign b) (interval first more)))
-      (omega (arith, short-in x, p .short, interval-some i, long-append us (timeSign b ∷ ws), long-next (timeSign b) ws, long-append t (timeSign b ∷ interval first more), long-next (timeSign b) (interval first more)))
+      (omega (arith, few-in x, p .none-opened, opens-append us (timeSign b ∷ ws), opens-next (timeSign b) ws, opens-append t (timeSign b ∷ intervalTokens first more), opens-next (timeSign b) (intervalTokens first more)))
+      (omega (arith, short-in x, p .short, interval-some i, long-append us (timeSign b ∷ ws), long-next (timeSign b) ws, long-append t (timeSign b ∷ intervalTokens first more), long-next (timeSign b) (intervalTokens first more)))
 
   joined : {d : ℕ} {us ws : List (List ℕ)} {f g : Written} (o : Op) → Fits (before o) d us f → Fits (below o) d ws g → Fits (level o) d (us ++ (signText o ∷ ws)) (Written.pair o f g)
   unfolding tokens

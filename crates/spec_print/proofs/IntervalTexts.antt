@@ -16,7 +16,7 @@ use Rattle.write_bytes.specs.Writes.{decimalText}
 use Rattle.write_bytes.proofs.Decimals.{decimal-one, decimal-more}
 use Rattle.spec_grammar.specs.Tokens.{Numeral, End}
 use Rattle.spec_grammar.specs.Grammar.{Interval, Legal}
-use Rattle.spec_print.specs.RuleTexts.{endText, lastOf, interval}
+use Rattle.spec_print.specs.RuleTexts.{endText, lastOf, intervalTokens}
 use Rattle.spec_print.specs.Parentheses.{opened}
 use Rattle.spec_print.proofs.Counts.{long, opens, long-next, opens-next}
 
@@ -103,13 +103,13 @@ end-is v a e = subst (End (endText _)) e (a .is)
 
 -- The interval, and its offsets.
 pub record PrintedInterval (first more : ℕ) : Type 0 where
-  pub is : Interval (interval first more) (byte "[") (first + overOffset) (first + more + overOffset) (byte "]")
+  pub is : Interval (intervalTokens first more) (byte "[") (first + overOffset) (first + more + overOffset) (byte "]")
   pub legal : Legal (byte "[") (first + overOffset) (first + more + overOffset) (byte "]") first more
-  pub short : long (interval first more) ≤ 9
-  pub none-opened : opens (interval first more) ≡ 0
+  pub short : long (intervalTokens first more) ≤ 9
+  pub none-opened : opens (intervalTokens first more) ≡ 0
 
 pub interval-printed : (first more : ℕ) → 1 ≤ first → first + more ≤ mostOffset → PrintedInterval first more
-unfolding interval opened flatten
+unfolding intervalTokens opened flatten
 interval-printed first more l h =
     let a = end-printed first l (omega arith) in
     let b = end-printed (lastOf first more) (omega arith) (omega arith) in

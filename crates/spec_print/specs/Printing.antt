@@ -55,5 +55,5 @@ pub record Gives (R : Result (List ℕ)) (O O′ : List ℕ) (a : Result ℕ) : 
   pub leaves : O′ ≡ leftOf R O
 
 -- What printing rule r of a sheet promises.
-abbrev pub Prints : List ℕ → ℕ → List ℕ → List ℕ → Result ℕ → Type 0
-Prints s r O O′ a = Gives (printing s r (length O)) O O′ a
+abbrev pub PrintsRule : List ℕ → ℕ → List ℕ → List ℕ → Result ℕ → Type 0
+PrintsRule s r O O′ a = Gives (printing s r (length O)) O O′ a

@@ -15,7 +15,7 @@ use Rattle.read_parts.specs.FormulaText.{signText, rule}
 use Rattle.spec_grammar.specs.Grammar.{Part, formula, before, below, keepWord, timeSign}
 use Rattle.spec_grammar.specs.Grammar.Part.{plain, timed, level}
 
--- How far up the grammar a part stands: whatever may stand somewhere, each part that is no higher may.
+-- How far up the grammar a part stands. Where a part may stand, so may each part that stands no higher.
 abbrev pub rank : Part → ℕ
 rank plain = 0
 rank timed = 1
@@ -49,8 +49,8 @@ abbrev pub lastOf : ℕ → ℕ → ℕ
 lastOf first more = first + more
 
 -- An interval in square brackets, from its first offset to its last.
-unfoldable pub interval : ℕ → ℕ → List (List ℕ)
-interval first more = bytes "[" ∷ endText first ∷ bytes "," ∷ endText (lastOf first more) ∷ bytes "]" ∷ []
+unfoldable pub intervalTokens : ℕ → ℕ → List (List ℕ)
+intervalTokens first more = bytes "[" ∷ endText first ∷ bytes "," ∷ endText (lastOf first more) ∷ bytes "]" ∷ []
 
 -- The tokens of a formula, each part of it in parentheses only where the grammar needs them.
 unfoldable pub tokens : List (List ℕ) → Written → List (List ℕ)
@@ -58,7 +58,7 @@ tokens names (Written.name x) = getD names x [] ∷ []
 tokens names (Written.neg f) = bytes "!" ∷ enclosed (needed plain f) (tokens names f)
 tokens names (Written.pair o f g) =
     enclosed (needed (before o) f) (tokens names f) ++ (signText o ∷ enclosed (needed (below o) g) (tokens names g))
-tokens names (Written.time b first more f) = enclosed (needed timed f) (tokens names f) ++ (timeSign b ∷ interval first more)
+tokens names (Written.time b first more f) = enclosed (needed timed f) (tokens names f) ++ (timeSign b ∷ intervalTokens first more)
 tokens names (Written.keep b f g) =
     keepWord b ∷ bytes "(" ∷ (enclosed (needed formula f) (tokens names f) ++ (bytes "," ∷ (enclosed (needed formula g) (tokens names g) ++ (bytes ")" ∷ []))))
 

@@ -14,7 +14,7 @@ use Rattle.read_parts.specs.FormulaText.{signText}
 use Rattle.spec_grammar.specs.Grammar.{formula, before, below, keepWord, timeSign}
 use Rattle.spec_grammar.specs.Grammar.Part.{plain, timed}
 use Rattle.write_bytes.specs.Writes.{decimalText}
-use Rattle.spec_print.specs.RuleTexts.{rank, partOf, enclosed, endText, lastOf, interval, tokens, tokensIn, printed}
+use Rattle.spec_print.specs.RuleTexts.{rank, partOf, enclosed, endText, lastOf, intervalTokens, tokens, tokensIn, printed}
 use Rattle.spec_print.proofs.TokenTexts.{text-append}
 use Rattle.write_formula.specs.PartTexts.{bareText, partText, parenText}
 
@@ -30,8 +30,8 @@ unfolding endText
 plus-parts x h = rw (le-ltb x offsetZero h)
 
 pub interval-parts : (first more low high : ℕ) → low ≡ first → high ≡ lastOf first more
-    → flatten (interval first more) ≡ bytes "[" ++ (endText low ++ (bytes "," ++ (endText high ++ bytes "]")))
-unfolding interval flatten
+    → flatten (intervalTokens first more) ≡ bytes "[" ++ (endText low ++ (bytes "," ++ (endText high ++ bytes "]")))
+unfolding intervalTokens flatten
 interval-parts first more low high l h = rw (l, h)
 
 module _ (names : List (List ℕ)) where
@@ -51,9 +51,9 @@ module _ (names : List (List ℕ)) where
   pair-parts o f g l r a b = rw (a, b) (text-append (tokensIn names (before o) f) (signText o ∷ tokensIn names (below o) g))
 
   pub time-parts : (b : Bool) (first more : ℕ) (f : Written) (most : ℕ) (w : List ℕ) → most ≡ rank timed → w ≡ timeSign b
-      → bareText names (Written.time b first more f) ≡ partText names most f ++ (w ++ flatten (interval first more))
+      → bareText names (Written.time b first more f) ≡ partText names most f ++ (w ++ flatten (intervalTokens first more))
   unfolding bareText partText tokens flatten
-  time-parts b first more f most w a e = rw (a, e) (text-append (tokensIn names timed f) (timeSign b ∷ interval first more))
+  time-parts b first more f most w a e = rw (a, e) (text-append (tokensIn names timed f) (timeSign b ∷ intervalTokens first more))
 
   pub keep-parts : (b : Bool) (f g : Written) (l r : ℕ) → l ≡ rank formula → r ≡ rank formula
       → bareText names (Written.keep b f g) ≡ (keepWord b ++ bytes "(") ++ (partText names l f ++ (bytes "," ++ (partText names r g ++ bytes ")")))

@@ -25,7 +25,7 @@ ghost use Rattle.spec_tilco.specs.Formula.Written.{pair, time, keep};
 ghost use Rattle.spec_grammar.specs.Grammar.{before as partBefore, below, keepWord, timeSign};
 ghost use Rattle.spec_grammar.specs.Grammar.Part.{level};
 ghost use Rattle.write_bytes.specs.Writes.{Counted, Wrote};
-ghost use Rattle.spec_print.specs.RuleTexts.{rank, partOf, endText, interval, printed};
+ghost use Rattle.spec_print.specs.RuleTexts.{rank, partOf, endText, intervalTokens, printed};
 ghost use Rattle.write_formula.specs.PartTexts.{bareText, partText, parenText, NamedNode, NamedParts};
 
 // The ranks of a plain part, of a timed part and of a formula.
@@ -107,8 +107,8 @@ fn write_end(offset: usize, out: &mut [u8], used: usize) -> usize
 
 // An interval in square brackets.
 fn write_interval(first: u16, more: u16, out: &mut [u8], used: usize) -> usize
-    requires { ⌜ Counted used (flatten (interval first more)) ⌝ }
-    ensures { λ r. ⌜ Wrote (flatten (interval first more)) used (before out) (after out) r ⌝ }
+    requires { ⌜ Counted used (flatten (intervalTokens first more)) ⌝ }
+    ensures { λ r. ⌜ Wrote (flatten (intervalTokens first more)) used (before out) (after out) r ⌝ }
 {
     let low = first as usize;
     let high = low + more as usize;
