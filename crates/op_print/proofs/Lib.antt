@@ -1,4 +1,5 @@
 -- The laws, one idea a file.
 pub mod Rooms
 pub mod RulesFound
+pub mod RuleAgain
 pub mod Outcomes

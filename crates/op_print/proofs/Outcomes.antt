@@ -48,7 +48,7 @@ use Rattle.spec_print.specs.RuleTexts.{printed, IsRule}
 use Rattle.spec_print.specs.Printing.{withRoom, printedRule, printedOf, printing, ruleAt, Gives, PrintsRule}
 use Rattle.spec_print.proofs.ReadBack.{at-most-twice}
 use Rattle.write_formula.specs.PartTexts.{NamedNode}
-use Rattle.op_print.specs.RuleLines.{lineOf, printedLine, LineAt, Accepted}
+use Rattle.op_print.specs.RuleLines.{lineOf, printedLine, RuleAt, Accepted}
 use Rattle.op_print.proofs.Rooms.{gives-refused}
 use Rattle.op_print.proofs.RulesFound.{rule-past-all, rule-inside, Found, found}
 
@@ -195,11 +195,17 @@ module _ {s T : List ℕ} (x : Accepted s) {r : Heading} {w n m p : ℕ} (y : He
   past-last l O = gives-refused (no-rule s (x .sheet) (when-headed y e .0) l (length O)) O
 
   module _ {i at : ℕ} (l : i < m) (is-line : at ≡ lineOf s i p) where
-    pub line-ready : LineAt s (firstNames n T) at
-    line-ready =
+    pub rule-there : RuleAt s (firstNames n T) at
+    rule-there =
         let h = when-headed y e in
         let f = rule-found s (x .sheet) (h .0) l in
-        rw is-line (record { within = f .inside; before = up-to (f .ahead) (firstPlaces n T) (head-past s (h .0) .before); index = h .2 .index })
+        rw is-line
+        (record {
+          line = record { within = f .inside; before = up-to (f .ahead) (firstPlaces n T) (head-past s (h .0) .before); index = h .2 .index };
+          rule = f .rule;
+          end = f .end;
+          reads = f .reads;
+        })
 
     pub gives-line : {O U : List ℕ} {a : Result ℕ} → Gives (printedLine (namesIn s (firstNames n T)) (length O) (ruleLine (namesIn s (firstNames n T)) s at)) O U a → PrintsRule s i O U a
     gives-line {O} {U} {a} g =

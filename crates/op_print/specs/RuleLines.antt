@@ -8,10 +8,10 @@ use Rattle.read_bytes.specs.Read.{Read}
 use Rattle.read_bytes.specs.Read.Read.{got, refused as unread}
 use Rattle.read_bytes.specs.Bytes.{bytes}
 use Rattle.read_lines.specs.Lines.{lineEnd}
-use Rattle.read_index.specs.Index.{placesIn, IndexOf}
+use Rattle.read_index.specs.Index.{placesIn, namesIn, IndexOf}
 use Rattle.spec_tilco.specs.Formula.{Written}
 use Rattle.spec_tilco.specs.Lists.{All}
-use Rattle.read_sheet.specs.Sheet.{Contents}
+use Rattle.read_sheet.specs.Sheet.{ruleLine, Contents}
 use Rattle.open_sheet.specs.Results.{Result, accepted, refused}
 use Rattle.open_sheet.specs.SheetIn.{sheetIn}
 use Rattle.spec_print.specs.RuleTexts.{printed}
@@ -32,6 +32,13 @@ pub record LineAt (s T : List ℕ) (p : ℕ) : Type 0 where
   pub within : p ≤ length s
   pub before : All (λ v. v ≤ p) (placesIn T)
   pub index : IndexOf s T
+
+-- A rule was read there.
+pub record RuleAt (s T : List ℕ) (p : ℕ) : Type 0 where
+  pub line : LineAt s T p
+  pub rule : Written
+  pub end : ℕ
+  pub reads : ruleLine (namesIn s T) s p ≡ got rule end
 
 -- The sheet is accepted.
 pub record Accepted (s : List ℕ) : Type 0 where

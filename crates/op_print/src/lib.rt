@@ -1,14 +1,15 @@
 // print_rule: a rule's text as it was understood, or a refusal. Assumes nothing.
 use op_check::Checking;
 use op_check::check;
+use read_formula::formula;
 use read_head::Heading;
 use read_head::head;
 use read_index::INDEX;
 use read_index::LINKS;
 use read_lines::line_end;
 use read_parts::parts::Parsed;
-use read_sheet::rules::rule_line;
 use spec_limits::ARENA;
+use spec_limits::OPEN;
 use spec_limits::RULE_BYTES;
 use spec_operations::Writing;
 use write_bytes::push_text;
@@ -25,7 +26,7 @@ ghost use Rattle.spec_print.specs.RuleTexts.{printed};
 ghost use Rattle.spec_print.specs.Printing.{withRoom, Gives, PrintsRule};
 ghost use Rattle.write_formula.specs.PartTexts.{NamedNode};
 ghost use Rattle.spec_operations.specs.WritingSays.{writingSays};
-ghost use Rattle.op_print.specs.RuleLines.{lineOf, printedLine, LineAt, Accepted};
+ghost use Rattle.op_print.specs.RuleLines.{lineOf, printedLine, RuleAt, Accepted};
 
 // How many bytes `rule=` has.
 const KEY: usize = 5;
@@ -62,13 +63,15 @@ fn print_node(s: &[u8], names: &[u16], arena: &[u16], node: usize, out: &mut [u8
     Writing::Written(length)
 }
 
-// Reads the rule whose line is at `at`, and prints it.
+// Reads again the rule whose line is at `at`, and prints it.
 fn print_line(s: &[u8], names: &[u16], at: usize, out: &mut [u8]) -> Writing
-    requires { ⌜ LineAt (now s) (now names) at ⌝ }
+    requires { ⌜ RuleAt (now s) (now names) at ⌝ }
     ensures { λ r. ⌜ Gives (printedLine (namesIn (before s) (before names)) (length (before out)) (ruleLine (namesIn (before s) (before names)) (before s) at)) (before out) (after out) (writingSays r) ⌝ }
 {
     let mut arena = [0u16; ARENA];
-    let r = rule_line(s, names, &mut arena, at, 0);
+    let v = at + KEY;
+    let e = line_end(s, v);
+    let r = formula(&s[..e], names, &mut arena, v, 0, 0, OPEN);
     match r {
         Parsed::Got(_, nodes, _) => print_node(s, names, &arena, nodes - 1, out),
         Parsed::Refused(n, p) => Writing::Refused(n, p),

@@ -2,7 +2,7 @@
 use native.Mathlib.Omega.{arith}
 use lib.ListN.{length-take}
 use Rattle.open_sheet.proofs.Buffers.{fresh-names}
-use Rattle.op_print.proofs.Outcomes.{short-enough, few-rules, few-names, past-last, line-ready, gives-line, no-head}
+use Rattle.op_print.proofs.Outcomes.{short-enough, few-rules, few-names, past-last, rule-there, gives-line, no-head}
 use borrow.Author.Needs.{needs}
 use Rattle.op_print.proofs.print_checked.Statement.{statement}
 use Rattle.op_print.proofs.print_checked.Tie as tie
@@ -52,7 +52,7 @@ print-line-requires c κs =
     let at-h = c .before .before .before .before .before in
     let at-head = at-h .before .before .before in
     let start = at-head .before .before .before .before in
-    line-ready (start .pre) (at-head .head .ensures) (at-h .h .given .1) (omega arith) (c .before .before .line-of .ensures)
+    rule-there (start .pre) (at-head .head .ensures) (at-h .h .given .1) (omega arith) (c .before .before .line-of .ensures)
 
 enum-known-h-2 : tie.Need-enum-known-h-2
 enum-known-h-2 c = search needs
