@@ -1,6 +1,6 @@
 -- A rule that is read from its line can be printed; and each answer of printing the rule with a number.
 -- Assumes nothing. `s` is the sheet's text.
-use mathlib.Core.Path.{_≡_, refl, sym, ap, subst, _∙_}
+use mathlib.Core.Path.{_≡_, refl, sym, ap, ap₂, subst, _∙_}
 use mathlib.Core.Bool.{Bool, true, false}
 use mathlib.Core.List.{List}
 use mathlib.Core.Option.{some}
@@ -8,31 +8,30 @@ use Prim.Native.Nat.{ℕ, _+_, _-_, _*_, _<_, _≤_}
 use native.Mathlib.Decide.{decLe}
 use native.Mathlib.Omega.{arith}
 use lib.Dec.{leb, eqb}
-use lib.ListN.{length, take, length-drop}
-use lib.Seq.{length-take-le}
-use Rattle.spec_limits.specs.Limits.{mostBytes, mostRules, mostRuleBytes, mostSignals}
+use lib.ListN.{length, take, length-drop, getD}
+use lib.Seq.{length-take-le, getD-drop}
+use Rattle.spec_limits.specs.Limits.{mostBytes, mostRules, mostRuleBytes}
 use Rattle.read_bytes.specs.Read.{andThen}
 use Rattle.read_bytes.specs.Read.Read.{got, refused as unread}
 use Rattle.read_bytes.specs.Bytes.{bytes, pick, between}
-use Rattle.read_bytes.proofs.Answers.{not-both, same-value, through, came}
+use Rattle.read_bytes.proofs.Answers.{not-both, same-value, same-place, through, came}
 use Rattle.read_bytes.proofs.Tests.{between-is}
 use Rattle.read_names.specs.Spellings.{namesAt}
 use Rattle.read_names.proofs.Names.{names-many}
-use Rattle.read_index.specs.Index.{links, indexNumbers, nameCount, placesIn, namesIn, firstNames}
-use Rattle.read_lines.specs.Lines.{line}
+use Rattle.read_index.specs.Index.{links, nameCount, placesIn, namesIn, IndexOf}
+use Rattle.read_lines.specs.declared.Step.{Step}
+use Rattle.read_lines.specs.declared.Step.the-variants as step
+use Rattle.read_lines.specs.Lines.{says, lineEnd, line, rangedLine}
 use Rattle.read_lines.proofs.KeyedLines.{placed}
 use Rattle.read_lines.proofs.Stays.{stays-got}
 use Rattle.spec_tilco.specs.Formula.{Written, Named}
 use Rattle.read_arena.specs.NodeRules.{writtenAt, Arena}
 use Rattle.read_parts.specs.FormulaText.{rule}
-use Rattle.read_head.specs.declared.Heading.{Heading}
-use Rattle.read_head.specs.declared.Heading.the-variants as heading
-use Rattle.read_head.specs.SheetHead.{Head, head, firstPlaces, Headed}
+use Rattle.read_head.specs.SheetHead.{Head, headOf, head}
 use Rattle.read_sheet.specs.Sheet.{Contents, contents, ruleTo, ruleLine, rules, atEnd, sheetOf}
 use Rattle.read_sheet.specs.RuleAnswers.{RuleHeld}
 use Rattle.read_sheet.proofs.Formulas.{rule-reads}
-use Rattle.read_sheet.proofs.Wholes.{sheet-long, refused-head, sheet-head}
-use Rattle.read_sheet.proofs.Answers.{when-headed, when-no-head}
+use Rattle.read_sheet.proofs.Wholes.{sheet-long, sheet-head}
 use Rattle.read_sheet.proofs.Ruled.{rules-many}
 use Rattle.read_head.proofs.Heads.{head-past}
 use Rattle.read_head.proofs.Signals.{up-to}
@@ -40,16 +39,13 @@ use Rattle.open_sheet.specs.Results.{Result, accepted, refused}
 use Rattle.open_sheet.specs.SheetIn.{sheetIn}
 use Rattle.open_sheet.proofs.Sheets.{in-refused}
 use Rattle.open_table.proofs.Tables.{in-sheet, accepted-refused}
-use Rattle.spec_operations.specs.Operations.{counted, checked}
-use Rattle.op_check.specs.declared.Checking.{Checking}
-use Rattle.op_check.specs.declared.Checking.the-variants as checking
-use Rattle.op_check.specs.CheckingSays.{checkingSays}
 use Rattle.spec_print.specs.RuleTexts.{printed, IsRule}
 use Rattle.spec_print.specs.Printing.{withRoom, printedRule, printedOf, printing, ruleAt, Gives, PrintsRule}
 use Rattle.spec_print.proofs.ReadBack.{at-most-twice}
 use Rattle.write_formula.specs.PartTexts.{NamedNode}
-use Rattle.op_print.specs.RuleLines.{lineOf, printedLine, RuleAt, Accepted}
+use Rattle.op_print.specs.RuleLines.{lineOf, printedLine, RuleAt, Opened}
 use Rattle.op_print.proofs.Rooms.{gives-refused}
+use Rattle.op_print.proofs.RulesLine.{lastPlace, RulesLine, rules-line}
 use Rattle.op_print.proofs.RulesFound.{rule-past-all, rule-inside, Found, found}
 
 -- ---- a rule that is read from its line
@@ -122,10 +118,6 @@ after-head s {k} {q} {h} {p} e f = go (leb (length s) mostBytes) (rw f at e)
     go false y = absurd (not-both (sym y))
 
 module _ (s : List ℕ) {k : Contents} (e : sheetIn s ≡ accepted k) where
-  -- Its head is accepted,
-  pub head-accepted : {n p : ℕ} → length s ≤ mostBytes → head s ≡ unread n p → ⊥
-  head-accepted l f = accepted-refused (sym e ∙ in-refused s (refused-head s l f))
-
   module _ {h : Head} {p : ℕ} (f : head s ≡ got h p) where
     abbrev names : List (List ℕ)
     names = namesAt s (h .places)
@@ -159,62 +151,96 @@ sheet-refused s e r room = ap (printedOf s r room) e
 
 -- ---- what each step of the operation owes
 
--- What check answers of a sheet.
-of-count : (R : Result Contents) {n : ℕ} → counted R ≡ accepted n → (k : Contents) × (R ≡ accepted k)
-of-count (accepted k) e = (k, refl)
-of-count (refused n p) e = absurd (accepted-refused (sym e))
+-- What is known of an opened sheet's text: it has m rules, the first of which has its line at p.
+pub record Lines (s T : List ℕ) (m p : ℕ) : Type 0 where
+  pub contents : Contents
+  pub sheet : sheetIn s ≡ accepted contents
+  pub index : IndexOf s T
+  pub heading : head s ≡ got (headOf (contents .window) (placesIn T) m) p
+  pub short : length s ≤ mostBytes
 
-of-refusal : (R : Result Contents) {n p : ℕ} → counted R ≡ refused n p → R ≡ refused n p
-of-refusal (accepted k) e = absurd (accepted-refused e)
-of-refusal (refused n p) e = cc
+module _ {s T : List ℕ} (o : Opened s T) where
+  -- Its head.
+  opened-head : (m p : ℕ) × (head s ≡ got (headOf (o .contents .window) (placesIn T) m) p)
+  opened-head =
+      let h = sheet-head s (in-sheet s (o .sheet) .reads) in
+      (h .0, h .1, h .2 ∙ ap (λ ps. got (headOf (o .contents .window) ps (h .0)) (h .1)) (sym (o .names-are)))
 
-module _ (s : List ℕ) {c : Checking} (says : checkingSays c ≡ checked s) where
-  pub is-accepted : {n : ℕ} → c ≡ checking.Rows n → Accepted s
-  is-accepted e = let x = of-count (sheetIn s) (sym says ∙ ap checkingSays e) in record { contents = x .0; sheet = x .1 }
+  of-line : RulesLine s (placesIn T) (opened-head .0) (opened-head .1)
+  of-line = rules-line s (opened-head .2)
 
-  pub is-refused : {n p : ℕ} → c ≡ checking.Refused n p → sheetIn s ≡ refused n p
-  is-refused e = of-refusal (sheetIn s) (sym says ∙ ap checkingSays e)
+  -- There is a name, and its place is the last number of the index.
+  some-name : links < length T
+  some-name = omega (arith, of-line .some, length-drop links T)
 
--- An accepted sheet is not too long.
-pub short-enough : {s : List ℕ} → Accepted s → length s ≤ mostBytes
-short-enough {s} a = go (decLe (length s) mostBytes)
-  where
-    go : Dec (length s ≤ mostBytes) → length s ≤ mostBytes
-    go (yes l) = l
-    go (no l) = absurd (accepted-refused (sym (a .sheet) ∙ in-refused s (sheet-long s (omega arith))))
+  last-is : lastPlace (placesIn T) ≡ getD T (length T - 1) 0
+  last-is =
+      let l = length-drop links T in
+      let e : links + (length (placesIn T) - 1) ≡ length T - 1 = omega (arith, some-name) in
+      getD-drop links T (length (placesIn T) - 1) 0 ∙ ap (λ i. getD T i 0) e
 
--- The head was read, with n names in the index T, m rules, and the first one's line at p.
-module _ {s T : List ℕ} (x : Accepted s) {r : Heading} {w n m p : ℕ} (y : Headed s T r) (e : r ≡ heading.Lines w n m p) where
-  pub few-rules : (p ≤ length s) × (m ≤ mostRules)
-  few-rules = let h = when-headed y e in (head-past s (h .0) .inside, h .1 .rules-high)
+  pub short-text : length s ≤ mostBytes
+  short-text = go (decLe (length s) mostBytes)
+    where
+      go : Dec (length s ≤ mostBytes) → length s ≤ mostBytes
+      go (yes l) = l
+      go (no l) = absurd (accepted-refused (sym (o .sheet) ∙ in-refused s (sheet-long s (omega arith))))
 
-  pub few-names : (length T ≡ indexNumbers) × (n ≤ mostSignals)
-  few-names = let h = when-headed y e in (h .2 .room, h .2 .few)
+  -- The line after the last name's.
+  module _ {e : ℕ} (is-end : e ≡ lineEnd s (getD T (length T - 1) 0)) where
+    to-end : lineEnd s (lastPlace (placesIn T)) ≡ e
+    to-end = ap (lineEnd s) last-is ∙ sym is-end
+
+    pub line-inside : e < length s
+    line-inside = omega (arith, of-line .inside, to-end)
+
+    known : rangedLine s (e + 1) (bytes "rules=") 2 3 0 mostRules ≡ got (opened-head .0) (opened-head .1)
+    known = subst (λ i. rangedLine s (i + 1) (bytes "rules=") 2 3 0 mostRules ≡ got (opened-head .0) (opened-head .1)) to-end (of-line .reads)
+
+    -- What is read there.
+    module _ {c : Step} (says-is : says c ≡ rangedLine s (e + 1) (bytes "rules=") 2 3 0 mostRules) where
+      pub lines-are : {m p : ℕ} → c ≡ step.Got m p → Lines s T m p
+      lines-are {m} {p} g =
+          let r : got m p ≡ got (opened-head .0) (opened-head .1) = sym (ap says g) ∙ says-is ∙ known in
+          let x : opened-head .0 ≡ m = sym (same-value r) in
+          let y : opened-head .1 ≡ p = sym (same-place r) in
+          record {
+            contents = o .contents;
+            sheet = o .sheet;
+            index = o .index;
+            heading = opened-head .2 ∙ ap₂ (λ i j. got (headOf (o .contents .window) (placesIn T) i) j) x y;
+            short = short-text;
+          }
+
+      pub no-refusal : {n k : ℕ} → c ≡ step.Refused n k → ⊥
+      no-refusal g = not-both (sym known ∙ sym says-is ∙ ap says g)
+
+module _ {s T : List ℕ} {m p : ℕ} (x : Lines s T m p) where
+  pub first-inside : p ≤ length s
+  first-inside = head-past s (x .heading) .inside
+
+  pub few-rules : m ≤ mostRules
+  few-rules = head-past s (x .heading) .sizes .rules-high
 
   pub past-last : {i : ℕ} → m ≤ i → (O : List ℕ) → PrintsRule s i O O (refused 17 0)
-  past-last l O = gives-refused (no-rule s (x .sheet) (when-headed y e .0) l (length O)) O
+  past-last l O = gives-refused (no-rule s (x .sheet) (x .heading) l (length O)) O
 
   module _ {i at : ℕ} (l : i < m) (is-line : at ≡ lineOf s i p) where
-    pub rule-there : RuleAt s (firstNames n T) at
+    pub rule-there : RuleAt s T at
     rule-there =
-        let h = when-headed y e in
-        let f = rule-found s (x .sheet) (h .0) l in
+        let f = rule-found s (x .sheet) (x .heading) l in
         rw is-line
         (record {
-          line = record { within = f .inside; before = up-to (f .ahead) (firstPlaces n T) (head-past s (h .0) .before); index = h .2 .index };
+          line = record { within = f .inside; before = up-to (f .ahead) (placesIn T) (head-past s (x .heading) .before); index = x .index };
           rule = f .rule;
           end = f .end;
           reads = f .reads;
         })
 
-    pub gives-line : {O U : List ℕ} {a : Result ℕ} → Gives (printedLine (namesIn s (firstNames n T)) (length O) (ruleLine (namesIn s (firstNames n T)) s at)) O U a → PrintsRule s i O U a
+    pub gives-line : {O U : List ℕ} {a : Result ℕ} → Gives (printedLine (namesIn s T) (length O) (ruleLine (namesIn s T) s at)) O U a → PrintsRule s i O U a
     gives-line {O} {U} {a} g =
         subst (λ R. Gives R O U a)
-        (ap (λ z. printedLine (namesIn s (firstNames n T)) (length O) (ruleLine (namesIn s (firstNames n T)) s z)) is-line ∙ sym (rule-printed s (x .sheet) (when-headed y e .0) l (length O))) g
-
--- The head of an accepted sheet is not refused.
-pub no-head : {s T : List ℕ} {r : Heading} {k q : ℕ} → Accepted s → Headed s T r → r ≡ heading.Refused k q → ⊥
-no-head {s} x y e = head-accepted s (x .sheet) (short-enough x) (when-no-head y e)
+        (ap (λ z. printedLine (namesIn s T) (length O) (ruleLine (namesIn s T) s z)) is-line ∙ sym (rule-printed s (x .sheet) (x .heading) l (length O))) g
 
 -- ---- a sheet's rules are rules
 

@@ -1,16 +1,19 @@
 // print_rule: a rule's text as it was understood, or a refusal. Assumes nothing.
-use op_check::Checking;
-use op_check::check;
+use open_sheet::Opening;
+use open_sheet::open_sheet;
 use read_formula::formula;
-use read_head::Heading;
-use read_head::head;
 use read_index::INDEX;
 use read_index::LINKS;
+use read_lines::Step;
 use read_lines::line_end;
+use read_lines::ranged_line;
 use read_parts::parts::Parsed;
 use spec_limits::ARENA;
 use spec_limits::OPEN;
+use spec_limits::ROWS;
 use spec_limits::RULE_BYTES;
+use spec_limits::RULES;
+use spec_limits::TOPS;
 use spec_operations::Writing;
 use write_bytes::push_text;
 use write_formula::write_formula;
@@ -26,7 +29,7 @@ ghost use Rattle.spec_print.specs.RuleTexts.{printed};
 ghost use Rattle.spec_print.specs.Printing.{withRoom, Gives, PrintsRule};
 ghost use Rattle.write_formula.specs.PartTexts.{NamedNode};
 ghost use Rattle.spec_operations.specs.WritingSays.{writingSays};
-ghost use Rattle.op_print.specs.RuleLines.{lineOf, printedLine, RuleAt, Accepted};
+ghost use Rattle.op_print.specs.RuleLines.{lineOf, printedLine, RuleAt, Opened};
 
 // How many bytes `rule=` has.
 const KEY: usize = 5;
@@ -78,27 +81,23 @@ fn print_line(s: &[u8], names: &[u16], at: usize, out: &mut [u8]) -> Writing
     }
 }
 
-// Finds the rule in an accepted sheet, and prints it.
-fn print_checked(s: &[u8], rule: usize, out: &mut [u8]) -> Writing
-    requires { ⌜ Accepted (now s) ⌝ }
+// Finds the rule in an opened sheet, whose names are in the index, and prints it. The line `rules=` follows that of the last name.
+fn print_opened(s: &[u8], names: &[u16], rule: usize, out: &mut [u8]) -> Writing
+    requires { ⌜ Opened (now s) (now names) ⌝ }
     ensures { λ r. ⌜ PrintsRule (before s) rule (before out) (after out) (writingSays r) ⌝ }
 {
-    let mut names = [0u16; INDEX];
-    let h = head(s, &mut names);
-    match h {
-        Heading::Lines {
-            window: _,
-            signals,
-            rules,
-            first,
-        } => {
+    let last = names[names.len() - 1] as usize;
+    let line = line_end(s, last) + 1;
+    let c = ranged_line(s, line, b"rules=", 2, 3, 0, RULES);
+    match c {
+        Step::Got(rules, first) => {
             if rules <= rule {
                 return Writing::Refused(17, 0);
             }
             let at = line_of(s, rule, first);
-            print_line(s, &names[..LINKS + signals], at, out)
+            print_line(s, names, at, out)
         }
-        Heading::Refused(n, p) => Writing::Refused(n, p),
+        Step::Refused(n, p) => Writing::Refused(n, p),
     }
 }
 
@@ -106,9 +105,17 @@ fn print_checked(s: &[u8], rule: usize, out: &mut [u8]) -> Writing
 pub fn print_rule(s: &[u8], rule: usize, out: &mut [u8]) -> Writing
     ensures { λ r. ⌜ PrintsRule (before s) rule (before out) (after out) (writingSays r) ⌝ }
 {
-    let c = check(s);
-    match c {
-        Checking::Rows(_) => print_checked(s, rule, out),
-        Checking::Refused(n, p) => Writing::Refused(n, p),
+    let mut names = [0u16; INDEX];
+    let mut rows = [8u64; ROWS];
+    let mut tops = [0u16; TOPS];
+    let o = open_sheet(s, &mut names, &mut rows, &mut tops);
+    match o {
+        Opening::Sheet {
+            window: _,
+            signals,
+            tops: _,
+            count: _,
+        } => print_opened(s, &names[..LINKS + signals], rule, out),
+        Opening::Refused(n, p) => Writing::Refused(n, p),
     }
 }

@@ -1,21 +1,53 @@
 -- `print_rule` meets its contract. Assumes nothing.
-use Rattle.op_print.proofs.Rooms.{gives-refused}
-use Rattle.op_print.proofs.Outcomes.{is-accepted, is-refused, sheet-refused}
 use borrow.Author.Needs.{needs}
+use native.Mathlib.Omega.{arith}
+use lib.ListN.{length-take}
+use Rattle.open_sheet.proofs.Buffers.{fresh}
+use Rattle.open_table.proofs.Tables.{when-sheet, when-refused}
+use Rattle.op_print.proofs.Rooms.{gives-refused}
+use Rattle.op_print.proofs.Outcomes.{sheet-refused}
 use Rattle.op_print.proofs.print_rule.Statement.{statement}
 use Rattle.op_print.proofs.print_rule.Tie as tie
 
-check-requires : tie.Need-check-requires
-check-requires c κs = search needs
+slice-aggregate-open-sheet : tie.Need-slice-aggregate-open-sheet
+slice-aggregate-open-sheet c = search needs
 
-enum-told : tie.Need-enum-told
-enum-told c = search needs
+slice-aggregate-open-sheet-2 : tie.Need-slice-aggregate-open-sheet-2
+slice-aggregate-open-sheet-2 c = search needs
 
-print-checked-requires : tie.Need-print-checked-requires
-print-checked-requires c κs = is-accepted _ (c .before .before .before .check .ensures) (c .before .enum-told .given .1)
+slice-aggregate-open-sheet-3 : tie.Need-slice-aggregate-open-sheet-3
+slice-aggregate-open-sheet-3 c = search needs
 
-enum-known-c : tie.Need-enum-known-c
-enum-known-c c = search needs
+open-sheet-requires : tie.Need-open-sheet-requires
+open-sheet-requires c κs = fresh
+
+enum-known-o : tie.Need-enum-known-o
+enum-known-o c = search needs
+
+add-names : tie.Need-add-names
+add-names c =
+    let at-open-sheet = c .before .before .before .before .before .before in
+    let h = when-sheet (at-open-sheet .open-sheet .ensures) (c .before .o .given .1) in omega (arith, h .0 .few)
+
+array-share-prefix-names : tie.Need-array-share-prefix-names
+array-share-prefix-names c =
+    let at-open-sheet = c .before .before .before .before .before .before in
+    let h = when-sheet (at-open-sheet .open-sheet .ensures) (c .before .o .given .1) in omega (arith, h .0)
+
+slice-aggregate-print-opened : tie.Need-slice-aggregate-print-opened
+slice-aggregate-print-opened c =
+    let at-open-sheet = c .before .before .before .before .before .before .before in
+    let h = when-sheet (at-open-sheet .open-sheet .ensures) (c .before .before .o .given .1) in simp length-take (omega (arith, h .0))
+
+print-opened-requires : tie.Need-print-opened-requires
+print-opened-requires c κs =
+    let at-open-sheet = c .before .before .before .before .before .before .before .before in
+    let h = when-sheet (at-open-sheet .open-sheet .ensures) (c .before .before .before .o .given .1) in
+    let k = h .1 in
+    record { contents = k .contents; sheet = k .holds; names-are = k .names-are; index = h .0 .index }
+
+enum-known-o-2 : tie.Need-enum-known-o-2
+enum-known-o-2 c = search needs
 
 same-length : tie.Need-same-length
 same-length c = search needs
@@ -24,16 +56,24 @@ returns : tie.Need-returns
 returns c = search needs
 
 returns-2 : tie.Need-returns-2
-returns-2 c = gives-refused (sheet-refused _ (is-refused _ (c .before .before .before .check .ensures) (c .before .c .given .1)) _ _) _
+returns-2 c =
+    let at-open-sheet = c .before .before .before .before .before .before in
+    gives-refused (sheet-refused _ (when-refused (at-open-sheet .open-sheet .ensures) (c .before .o2 .given .1)) _ _) _
 
 pub print-rule-spec : {M : Type 1} → statement M
 print-rule-spec =
     tie.close
     (tie.spec
-    check-requires
-    enum-told
-    print-checked-requires
-    enum-known-c
+    slice-aggregate-open-sheet
+    slice-aggregate-open-sheet-2
+    slice-aggregate-open-sheet-3
+    open-sheet-requires
+    enum-known-o
+    add-names
+    array-share-prefix-names
+    slice-aggregate-print-opened
+    print-opened-requires
+    enum-known-o-2
     same-length
     returns
     returns-2)
