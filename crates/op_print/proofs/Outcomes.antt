@@ -43,7 +43,7 @@ use Rattle.spec_print.specs.RuleTexts.{printed, IsRule}
 use Rattle.spec_print.specs.Printing.{withRoom, printedRule, printedOf, printing, ruleAt, Gives, PrintsRule}
 use Rattle.spec_print.proofs.ReadBack.{at-most-twice}
 use Rattle.write_formula.specs.PartTexts.{NamedNode}
-use Rattle.op_print.specs.RuleLines.{lineOf, printedLine, RuleAt, Opened}
+use Rattle.op_print.specs.RuleLines.{lineOf, printedLine, RuleAt, OpenedNames}
 use Rattle.op_print.proofs.Rooms.{gives-refused}
 use Rattle.op_print.proofs.RulesLine.{lastPlace, RulesLine, rules-line}
 use Rattle.op_print.proofs.RulesFound.{rule-past-all, rule-inside, Found, found}
@@ -159,7 +159,7 @@ pub record Lines (s T : List ℕ) (m p : ℕ) : Type 0 where
   pub heading : head s ≡ got (headOf (contents .window) (placesIn T) m) p
   pub short : length s ≤ mostBytes
 
-module _ {s T : List ℕ} (o : Opened s T) where
+module _ {s T : List ℕ} (o : OpenedNames s T) where
   -- Its head.
   opened-head : (m p : ℕ) × (head s ≡ got (headOf (o .contents .window) (placesIn T) m) p)
   opened-head =

@@ -41,7 +41,7 @@ pub record RuleAt (s T : List ℕ) (p : ℕ) : Type 0 where
   pub reads : ruleLine (namesIn s T) s p ≡ got rule end
 
 -- The sheet is accepted, and T is the index of its names.
-pub record Opened (s T : List ℕ) : Type 0 where
+pub record OpenedNames (s T : List ℕ) : Type 0 where
   pub contents : Contents
   pub sheet : sheetIn s ≡ accepted contents
   pub names-are : placesIn T ≡ contents .places

@@ -29,7 +29,7 @@ ghost use Rattle.spec_print.specs.RuleTexts.{printed};
 ghost use Rattle.spec_print.specs.Printing.{withRoom, Gives, PrintsRule};
 ghost use Rattle.write_formula.specs.PartTexts.{NamedNode};
 ghost use Rattle.spec_operations.specs.WritingSays.{writingSays};
-ghost use Rattle.op_print.specs.RuleLines.{lineOf, printedLine, RuleAt, Opened};
+ghost use Rattle.op_print.specs.RuleLines.{lineOf, printedLine, RuleAt, OpenedNames};
 
 // How many bytes `rule=` has.
 const KEY: usize = 5;
@@ -83,7 +83,7 @@ fn print_line(s: &[u8], names: &[u16], at: usize, out: &mut [u8]) -> Writing
 
 // Finds the rule in an opened sheet, whose names are in the index, and prints it. The line `rules=` follows that of the last name.
 fn print_opened(s: &[u8], names: &[u16], rule: usize, out: &mut [u8]) -> Writing
-    requires { ⌜ Opened (now s) (now names) ⌝ }
+    requires { ⌜ OpenedNames (now s) (now names) ⌝ }
     ensures { λ r. ⌜ PrintsRule (before s) rule (before out) (after out) (writingSays r) ⌝ }
 {
     let last = names[names.len() - 1] as usize;

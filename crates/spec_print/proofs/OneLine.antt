@@ -11,7 +11,7 @@ use lib.ListN.{length}
 use Rattle.read_bytes.specs.Bytes.{byte, bytes, nameByte, oneOf, InLine}
 use Rattle.spec_tilco.specs.Formula.{Op, And, Or, Implies, Iff, Written}
 use Rattle.spec_tilco.specs.Lists.{All}
-use Rattle.read_parts.specs.FormulaText.{rule, signText}
+use Rattle.read_parts.specs.FormulaText.{signText}
 use Rattle.spec_grammar.specs.Tokens.{Each, Spelling, Token, Tokens, signs}
 use Rattle.spec_grammar.specs.Grammar.{Part, keepWord, timeSign, Is}
 use Rattle.spec_grammar.proofs.Standing.{next-is, word-each}
