@@ -1,4 +1,4 @@
--- A call answers 0 exactly if it is accepted: every refusal has a number from 1 to 21.
+-- A call answers 0 exactly if it is accepted: every refusal has a number from 1 to 23.
 -- Assumes nothing.
 use mathlib.Core.Path.{_≡_, refl, sym, subst}
 use mathlib.Core.Bool.{Bool, true, false, _&&_}
@@ -26,13 +26,19 @@ use Rattle.spec_operations.specs.Operations.Asks.{not-opened as not-asked, out-
 use Rattle.spec_moves.specs.Moves.{Moves}
 use Rattle.spec_moves.specs.Moves.Moves.{not-opened as no-sheet, not-read as no-readings, no-room, moved}
 use Rattle.spec_print.specs.RuleTexts.{printed}
-use Rattle.spec_print.specs.Printing.{withRoom, printedRule, printedOf, ruleAt, printing, lengthOf, PrintsRule}
+use Rattle.spec_operations.specs.TextAnswers.{lengthOf}
+use Rattle.spec_print.specs.Printing.{withRoom, printedRule, printedOf, ruleAt, printing, PrintsRule}
+use Rattle.spec_dump.specs.DumpTexts.{Event}
+use Rattle.spec_dump.specs.DumpLines.{events}
+use Rattle.spec_dump.specs.Dumps.{tableDump, WritesDump, readingsText, readingsOf, dumpOf, dumpReadings, ReadsDump}
+use Rattle.spec_dump.specs.Dumps as dump
+use Rattle.spec_dump.specs.Dumps.WritesDump.{not-opened as no-table, clashing, written}
 use Rattle.spec_figures.specs.declared.Record.{Record}
 use Rattle.spec_figures.specs.Texts.{textsIn}
 use Rattle.spec_figures.specs.Figures.{Figures}
 use Rattle.spec_figures.specs.Figures.Figures.{not-opened as unopened, not-the-table, not-the-records, not-the-lengths, not-read as no-texts, figured}
-use Rattle.c_api.specs.Leaves.{Left, left, leaves, oneValue, gainValues, answerValues, noValues, CheckLeaves, AddLeaves, AskLeaves, MoveLeaves, PrintLeaves, FigureLeaves}
-use Rattle.c_api.proofs.Numbers.{Listed, Numbered, sheet-numbered, readings-numbered, texts-numbered}
+use Rattle.c_api.specs.Leaves.{Left, left, leaves, oneValue, gainValues, answerValues, noValues, CheckLeaves, AddLeaves, AskLeaves, TextLeaves, MoveLeaves, PrintLeaves, WriteDumpLeaves, ReadDumpLeaves, FigureLeaves}
+use Rattle.c_api.proofs.Numbers.{Listed, Numbered, sheet-numbered, readings-numbered, texts-numbered, events-numbered}
 
 -- Accepted, or refused by a listed number.
 abbrev pub Told : {A : Type 0} → Result A → Type 0
@@ -115,6 +121,32 @@ module _ (s : List ℕ) where
   unfolding printing
   print-told rule {O} a = subst Told (sym (a .answer)) (printed-told rule (length O) (sheetIn s) sheet-told)
 
+  dump-room-told : (room : ℕ) (t : List ℕ) → Told (dump.withRoom room t)
+  unfolding dump.withRoom
+  dump-room-told room t = go (leb (length t) room)
+    where
+      go : (b : Bool) → Told (pick b (λ _. accepted t) (refused 20 0))
+      go true = tt
+      go false = tt
+
+  pub write-dump-told : {T O O′ : List ℕ} {x : Result ℕ} → WritesDump s T O O′ x → Told x
+  write-dump-told (no-table o e) = opens-told o
+  write-dump-told (clashing o c e) = tt
+  write-dump-told {O = O} (written {k} {f} o c a g) =
+      subst Told (sym (g .answer)) (length-told (dump.withRoom (length O) (tableDump s k f)) (dump-room-told (length O) (tableDump s k f)))
+
+  readings-told : (names : List (List ℕ)) (W room : ℕ) (R : Read (List Event)) → Numbered R → Told (readingsOf names W room R)
+  readings-told names W room (got es q) h = dump-room-told room (readingsText names W es)
+  readings-told names W room (unread n p) h = h
+
+  dump-told : (d : List ℕ) (room : ℕ) (R : Result Contents) → Told R → Told (dumpOf s d room R)
+  dump-told d room (accepted k) h = readings-told (namesIn s k) (k .window) room (events (namesIn s k) (k .window) d) (events-numbered (namesIn s k) (k .window) d)
+  dump-told d room (refused n p) h = h
+
+  pub read-dump-told : (d : List ℕ) {O O′ : List ℕ} {x : Result ℕ} → ReadsDump s d O O′ x → Told x
+  unfolding dumpReadings
+  read-dump-told d {O} a = subst Told (sym (a .answer)) (length-told (dumpOf s d (length O) (sheetIn s)) (dump-told d (length O) (sheetIn s) sheet-told))
+
   pub figure-told : {j ns T U : List ℕ} {m : ℕ} {x : Result (List Record)} → Figures s j ns T U m x → Told x
   figure-told (unopened e u) = subst Told e sheet-told
   figure-told (not-the-table e l u) = tt
@@ -139,11 +171,21 @@ module _ (s : List ℕ) (place : ℕ) (before : List ℕ) {l : Left} where
   pub ask-zero : {T : List ℕ} {signal tick : ℕ} (c : AskLeaves s T signal tick place before l) → (answerOf l ≡ 0) ↔ Accepted (c .0)
   ask-zero (x, a, e) = subst (λ (k : Left). (answerOf k ≡ 0) ↔ Accepted x) (sym e) (zero-tells answerValues place before x (ask-told s a))
 
+  -- Of a call that writes a text.
+  text-zero : {P : Result ℕ → Type 0} → ((x : Result ℕ) → P x → Told x) → (c : TextLeaves P place before l) → (answerOf l ≡ 0) ↔ Accepted (c .0)
+  text-zero told (x, a, e) = subst (λ (k : Left). (answerOf k ≡ 0) ↔ Accepted x) (sym e) (zero-tells oneValue place before x (told x a))
+
   pub move-zero : {spans : Bool} {r O O′ : List ℕ} (c : MoveLeaves spans s r O O′ place before l) → (answerOf l ≡ 0) ↔ Accepted (c .0)
-  move-zero (x, a, e) = subst (λ (k : Left). (answerOf k ≡ 0) ↔ Accepted x) (sym e) (zero-tells oneValue place before x (move-told s a))
+  move-zero c = text-zero (λ x a. move-told s a) c
 
   pub print-zero : (rule : ℕ) {O O′ : List ℕ} (c : PrintLeaves s rule O O′ place before l) → (answerOf l ≡ 0) ↔ Accepted (c .0)
-  print-zero rule (x, a, e) = subst (λ (k : Left). (answerOf k ≡ 0) ↔ Accepted x) (sym e) (zero-tells oneValue place before x (print-told s rule a))
+  print-zero rule c = text-zero (λ x a. print-told s rule a) c
+
+  pub write-dump-zero : {T O O′ : List ℕ} (c : WriteDumpLeaves s T O O′ place before l) → (answerOf l ≡ 0) ↔ Accepted (c .0)
+  write-dump-zero c = text-zero (λ x a. write-dump-told s a) c
+
+  pub read-dump-zero : (d : List ℕ) {O O′ : List ℕ} (c : ReadDumpLeaves s d O O′ place before l) → (answerOf l ≡ 0) ↔ Accepted (c .0)
+  read-dump-zero d c = text-zero (λ x a. read-dump-told s d a) c
 
   pub figure-zero : {j ns T U : List ℕ} {X X′ : List Record} (c : FigureLeaves s j ns T U X X′ place l) → (answerOf l ≡ 0) ↔ Accepted (c .0)
   figure-zero (x, a, f, e) = subst (λ (k : Left). (answerOf k ≡ 0) ↔ Accepted x) (sym e) (zero-tells noValues place [] x (figure-told s a))

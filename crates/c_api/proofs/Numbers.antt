@@ -1,6 +1,6 @@
--- Whatever is read, a sheet or readings, is read or refused by a number from 1 to 21.
+-- Whatever is read, a sheet, readings or a dump, is read or refused by a number from 1 to 23.
 -- Assumes nothing.
-use mathlib.Core.Bool.{Bool, true, false, _&&_}
+use mathlib.Core.Bool.{Bool, true, false, _&&_, _||_}
 use mathlib.Core.List.{List, [], _∷_, _++_}
 use mathlib.Core.Option.{Option, none, some}
 use Prim.Native.Nat.{ℕ, zero, suc, _+_, _-_}
@@ -18,7 +18,7 @@ use Rattle.read_bytes.specs.Read.Read.{got, refused}
 use Rattle.read_bytes.specs.Bytes.{byte, bytes, peek, pick, between, oneOf, classOf, starts}
 use Rattle.read_names.specs.Spellings.{spellingAt, spellingEnd, namesAt, findName, isSpelled, nameAt}
 use Rattle.read_bytes.specs.Numbers.{number}
-use Rattle.read_lines.specs.Lines.{lineEnd, line, wholeNumber, wholeName, numberLine, rangedLine, nameLine, inTurn, upTo}
+use Rattle.read_lines.specs.Lines.{lineEnd, keyedAt, line, wholeNumber, wholeName, numberLine, rangedLine, nameLine, inTurn, upTo}
 use Rattle.spec_tilco.specs.Formula.{Op, And, Or, Implies, Iff, Written}
 use Rattle.read_interval.specs.declared.Offsets.{Offsets}
 use Rattle.read_interval.specs.declared.Offsets.the-variants as offsets
@@ -30,10 +30,12 @@ use Rattle.read_reading.specs.Spans.{Span}
 use Rattle.read_reading.specs.OneEntry.{knownLine, tickLine, firstKey, toLine, lastTick, entry}
 use Rattle.read_readings.specs.Readings.{inSpans, entries, marked, readings}
 use Rattle.spec_figures.specs.Texts.{placedFrom, marksFrom}
+use Rattle.spec_dump.specs.DumpTexts.{Event, time, sign, varKey}
+use Rattle.spec_dump.specs.DumpLines.{oneOfTexts, thisLine, scales, units, timescaleLine, varForm, varName, namedVar, varLine, varLines, headEnd, headLines, signSaid, isSignLine, signLine, timeLine, asked, eventAt, timeAfter, signalAfter, eventsFrom, events}
 
 -- Is n a refusal's number?
 abbrev pub Listed : ℕ → Type 0
-Listed n = T (between 1 21 n)
+Listed n = T (between 1 23 n)
 
 -- Something is read, or it is refused by a listed number.
 abbrev pub Numbered : {A : Type 0} → Read A → Type 0
@@ -311,3 +313,75 @@ texts-numbered names W p (r ∷ rs) =
     let rest = marksFrom names W (p + length r) rs in
     then-numbered (placedFrom p (readings names W r)) (λ ms q. andThen rest (λ mss e. got (ms ∷ mss) e)) (placed-numbered p (readings names W r) (readings-numbered names W r))
     (λ ms q. then-numbered rest (λ mss e. got (ms ∷ mss) e) (texts-numbered names W (p + length r) rs) (λ mss e. tt))
+
+-- ---- a dump
+
+module _ (d : List ℕ) where
+  one-numbered : (p q : ℕ) (ws : List (List ℕ)) → Numbered (oneOfTexts d p q ws)
+  unfolding oneOfTexts
+  one-numbered p q [] = tt
+  one-numbered p q (w ∷ ws) = pick-numbered (keyedAt d q w) (got 0 (q + length w)) (oneOfTexts d p q ws) tt (one-numbered p q ws)
+
+  timescale-numbered : (p : ℕ) → Numbered (timescaleLine d p)
+  unfolding timescaleLine
+  timescale-numbered p =
+      then-numbered (oneOfTexts d p p (bytes "$timescale " ∷ [])) _ (one-numbered p p (bytes "$timescale " ∷ [])) (λ _ q.
+      then-numbered (oneOfTexts d p q scales) _ (one-numbered p q scales) (λ _ r. one-numbered p r units))
+
+  var-numbered : (names : List (List ℕ)) (x p : ℕ) → Numbered (varLine names d x p)
+  unfolding varLine varForm namedVar
+  var-numbered names x p =
+      let e = lineEnd d (p + 14) in
+      then-numbered (varForm d x p) (λ v i. namedVar (length names) x p v i (findName (varName d v i) names))
+      (pick-numbered (keyedAt d p (varKey x) && ltb e (length d) && leb (p + 19) e && starts d (e - 5) (bytes " $end")) (got (p + 14) e) (refused 22 p) tt tt)
+      (λ v i. named v i (findName (varName d v i) names))
+    where
+      named : (v i f : ℕ) → Numbered (namedVar (length names) x p v i f)
+      named v i f = pick-numbered (eqb f x) (got x (i + 1)) (pick (ltb f (length names)) (λ _. refused 22 p) (refused 12 v)) tt (pick-numbered (ltb f (length names)) (refused 22 p) (refused 12 v) tt tt)
+
+  vars-numbered : (names : List (List ℕ)) (n x p : ℕ) → Numbered (varLines names d n x p)
+  unfolding varLines
+  vars-numbered names zero x p = tt
+  vars-numbered names (suc n) x p = then-numbered (varLine names d x p) (λ _ q. varLines names d n (suc x) q) (var-numbered names x p) (λ _ q. vars-numbered names n (suc x) q)
+
+  end-numbered : (p : ℕ) → Numbered (headEnd d p)
+  unfolding headEnd
+  end-numbered p =
+      then-numbered (thisLine d p (bytes "$upscope $end\n")) _ (one-numbered p p (bytes "$upscope $end\n" ∷ [])) (λ _ q.
+      then-numbered (thisLine d q (bytes "$enddefinitions $end\n")) _ (one-numbered q q (bytes "$enddefinitions $end\n" ∷ [])) (λ _ r. one-numbered r r (bytes "#0\n" ∷ [])))
+
+  dump-head-numbered : (names : List (List ℕ)) → Numbered (headLines names d)
+  unfolding headLines
+  dump-head-numbered names =
+      then-numbered (timescaleLine d 0) _ (timescale-numbered 0) (λ _ p.
+      then-numbered (thisLine d p (bytes "$scope module sheet $end\n")) _ (one-numbered p p (bytes "$scope module sheet $end\n" ∷ [])) (λ _ q.
+      then-numbered (varLines names d (length names) 0 q) _ (vars-numbered names (length names) 0 q) (λ _ r. end-numbered r)))
+
+  sign-numbered : (lo hi p : ℕ) → Numbered (signLine d lo hi p)
+  unfolding signLine
+  sign-numbered lo hi p = pick-numbered (isSignLine d lo hi p) (got (sign (peek d (p + 1) - 33) (signSaid (peek d p))) (p + 3)) (refused 22 p) tt tt
+
+  time-numbered : (W u p : ℕ) → Numbered (timeLine W d u p)
+  unfolding timeLine
+  time-numbered W u p =
+      then-numbered (rangedLine d p (bytes "#") 22 13 0 (W - 1)) _ (ranged-numbered d p (bytes "#") 22 tt 13 0 (W - 1) tt)
+      (λ t q. pick-numbered (ltb u t) (got (time t) q) (refused 22 p) tt tt)
+
+  event-numbered : (W N u k p : ℕ) → Numbered (eventAt W N d u k p)
+  unfolding eventAt
+  event-numbered W N u k p =
+      pick-numbered (asked N u k) (signLine d k (suc k) p) (pick (starts d p (bytes "#")) (λ _. timeLine W d u p) (signLine d k N p)) (sign-numbered k (suc k) p)
+      (pick-numbered (starts d p (bytes "#")) (timeLine W d u p) (signLine d k N p) (time-numbered W u p) (sign-numbered k N p))
+
+  from-numbered : (W N n u k p : ℕ) → Numbered (eventsFrom W N d n u k p)
+  unfolding eventsFrom
+  from-numbered W N zero u k p = tt
+  from-numbered W N (suc n) u k p =
+      pick-numbered (ltb p (length d) || asked N u k) (andThen (eventAt W N d u k p) (λ e q. andThen (eventsFrom W N d n (timeAfter u e) (signalAfter e) q) (λ es r. got (e ∷ es) r))) (got [] p)
+      (then-numbered (eventAt W N d u k p) _ (event-numbered W N u k p) (λ e q.
+      then-numbered (eventsFrom W N d n (timeAfter u e) (signalAfter e) q) _ (from-numbered W N n (timeAfter u e) (signalAfter e) q) (λ es r. tt)))
+      tt
+
+pub events-numbered : (names : List (List ℕ)) (W : ℕ) (d : List ℕ) → Numbered (events names W d)
+unfolding events
+events-numbered names W d = then-numbered (headLines names d) _ (dump-head-numbered d names) (λ _ p. from-numbered d W (length names) (suc (length d)) 0 0 p)

@@ -1,5 +1,5 @@
 -- What a call from C leaves: the number that it answers, and what stands behind the pointers that it was lent.
--- Assumes nothing. `s` is the sheet's text, r the readings' text, T the table before and U after.
+-- Assumes nothing. `s` is the sheet's text, r the readings' text, T the table before and U after; O is the buffer of a text before, O′ after.
 use mathlib.Core.Path.{_≡_}
 use mathlib.Core.Bool.{Bool, true, false}
 use mathlib.Core.List.{List, [], _∷_}
@@ -11,6 +11,7 @@ use Rattle.spec_operations.specs.Gain.{Gain, gain}
 use Rattle.spec_operations.specs.Operations.{checked, Adds, Asks}
 use Rattle.spec_moves.specs.Moves.{Moves}
 use Rattle.spec_print.specs.Printing.{PrintsRule}
+use Rattle.spec_dump.specs.Dumps.{WritesDump, ReadsDump}
 use Rattle.spec_figures.specs.declared.Record.{Record}
 use Rattle.spec_figures.specs.Figures.{Figures}
 use Rattle.op_figures.specs.Reports.{recordsAfter}
@@ -24,7 +25,7 @@ abbrev pub leaves : {A : Type 0} → (A → List ℕ) → ℕ → List ℕ → R
 leaves values place before (accepted x) = left 0 place (values x)
 leaves values place before (refused n p) = left n p before
 
--- What check writes, the row count, and what a move or printing a rule writes, the text's length.
+-- What check writes, the row count, and what a call that writes a text does, its length.
 abbrev pub oneValue : ℕ → List ℕ
 oneValue n = n ∷ []
 
@@ -52,13 +53,25 @@ AddLeaves s r T U place before l = (x : Result Gain) × Adds s r T U x × (l ≡
 abbrev pub AskLeaves : List ℕ → List ℕ → ℕ → ℕ → ℕ → List ℕ → Left → Type 0
 AskLeaves s T signal tick place before l = (x : Result Answer) × Asks s T signal tick x × (l ≡ leaves answerValues place before x)
 
--- A call of a move, to spans or back to single readings: O is the buffer before, O′ after.
-abbrev pub MoveLeaves : Bool → List ℕ → List ℕ → List ℕ → List ℕ → ℕ → List ℕ → Left → Type 0
-MoveLeaves spans s r O O′ place before l = (x : Result ℕ) × Moves spans s r O O′ x × (l ≡ leaves oneValue place before x)
+-- A call that writes a text, and promises P of its answer.
+abbrev pub TextLeaves : (Result ℕ → Type 0) → ℕ → List ℕ → Left → Type 0
+TextLeaves P place before l = (x : Result ℕ) × P x × (l ≡ leaves oneValue place before x)
 
--- A call that prints a rule back: O is the buffer before, O′ after.
+-- A call of a move, to spans or back to single readings.
+abbrev pub MoveLeaves : Bool → List ℕ → List ℕ → List ℕ → List ℕ → ℕ → List ℕ → Left → Type 0
+MoveLeaves spans s r O O′ place before l = TextLeaves (Moves spans s r O O′) place before l
+
+-- A call that prints a rule back.
 abbrev pub PrintLeaves : List ℕ → ℕ → List ℕ → List ℕ → ℕ → List ℕ → Left → Type 0
-PrintLeaves s rule O O′ place before l = (x : Result ℕ) × PrintsRule s rule O O′ x × (l ≡ leaves oneValue place before x)
+PrintLeaves s rule O O′ place before l = TextLeaves (PrintsRule s rule O O′) place before l
+
+-- A call that writes a dump of a table,
+abbrev pub WriteDumpLeaves : List ℕ → List ℕ → List ℕ → List ℕ → ℕ → List ℕ → Left → Type 0
+WriteDumpLeaves s T O O′ place before l = TextLeaves (WritesDump s T O O′) place before l
+
+-- and one that reads a dump.
+abbrev pub ReadDumpLeaves : List ℕ → List ℕ → List ℕ → List ℕ → ℕ → List ℕ → Left → Type 0
+ReadDumpLeaves s dump O O′ place before l = TextLeaves (ReadsDump s dump O O′) place before l
 
 -- What figures writes besides the records: nothing.
 abbrev pub noValues : List Record → List ℕ

@@ -1,4 +1,4 @@
-// check, add, ask, the two moves, printing a rule and figures for C and for languages that call C; include/mikhakun.h declares them. They assume nothing of the texts, the tables, the buffers and the numbers.
+// check, add, ask, the two moves, printing a rule, dumps and figures for C and for languages that call C; include/mikhakun.h declares them. They assume nothing of the texts, the tables, the buffers and the numbers.
 // A caller lends memory of the length given behind each pointer, and no two of one call overlap.
 use op_add::Adding;
 use op_add::add;
@@ -6,6 +6,8 @@ use op_ask::Asking;
 use op_ask::ask;
 use op_check::Checking;
 use op_check::check;
+use op_dump::reading::read_dump;
+use op_dump::writing::write_dump;
 use op_figures::figures;
 use op_moves::moves::to_readings;
 use op_moves::moves::to_spans;
@@ -22,7 +24,7 @@ ghost use Rattle.spec_figures.specs.declared.Record.{Record};
 ghost use Rattle.figure_runs.specs.FigureWords.{outcomeOf};
 ghost use Rattle.table_marks.specs.Values.{valueSays};
 ghost use Rattle.spec_operations.specs.WritingSays.{writingSays};
-ghost use Rattle.c_api.specs.Leaves.{left, leaves, oneValue, answerValues, CheckLeaves, AddLeaves, AskLeaves, MoveLeaves, PrintLeaves, noValues, FigureLeaves};
+ghost use Rattle.c_api.specs.Leaves.{left, leaves, oneValue, answerValues, CheckLeaves, AddLeaves, AskLeaves, MoveLeaves, PrintLeaves, WriteDumpLeaves, ReadDumpLeaves, noValues, FigureLeaves};
 
 // Checks the sheet: 0 and the row count, or a refusal's number and its place.
 #[no_mangle]
@@ -163,6 +165,36 @@ pub extern "C" fn mikhakun_print_rule(
     ensures { λ r. ⌜ PrintLeaves (now (sheet .entry)) rule (now (out .entry)) (now (out .exit)) (now (place .entry)) (now (length .entry) ∷ []) (left r (now (place .exit)) (now (length .exit) ∷ [])) ⌝ }
 {
     let w = print_rule(sheet, rule as usize, out);
+    tell_writing(w, length, place)
+}
+
+// Writes a table as a dump.
+#[no_mangle]
+pub extern "C" fn mikhakun_write_dump(
+    sheet: &[u8],
+    table: &[u64],
+    out: &mut [u8],
+    length: &mut u64,
+    place: &mut u64,
+) -> u64
+    ensures { λ r. ⌜ WriteDumpLeaves (now (sheet .entry)) (now (table .entry)) (now (out .entry)) (now (out .exit)) (now (place .entry)) (now (length .entry) ∷ []) (left r (now (place .exit)) (now (length .exit) ∷ [])) ⌝ }
+{
+    let w = write_dump(sheet, table, out);
+    tell_writing(w, length, place)
+}
+
+// Writes the readings of a dump.
+#[no_mangle]
+pub extern "C" fn mikhakun_read_dump(
+    sheet: &[u8],
+    dump: &[u8],
+    out: &mut [u8],
+    length: &mut u64,
+    place: &mut u64,
+) -> u64
+    ensures { λ r. ⌜ ReadDumpLeaves (now (sheet .entry)) (now (dump .entry)) (now (out .entry)) (now (out .exit)) (now (place .entry)) (now (length .entry) ∷ []) (left r (now (place .exit)) (now (length .exit) ∷ [])) ⌝ }
+{
+    let w = read_dump(sheet, dump, out);
     tell_writing(w, length, place)
 }
 

@@ -1,17 +1,17 @@
 -- The words of a row from word q on: the ones in them, and the first marked tick.
 -- Assumes that a word is below 2 ^ 64.
-use mathlib.Core.Path.{_≡_, refl, sym, ap, _∙_, subst}
+use mathlib.Core.Path.{_≡_, sym, ap, _∙_, subst}
 use mathlib.Core.Bool.{true, false}
 use mathlib.Core.List.{List}
 use mathlib.Core.Logic.{⊎-elim}
-use Prim.Native.Nat.{ℕ, zero, suc, _+_, _-_, _*_, _%_, _/_, _^_, _<_, _≤_}
+use Prim.Native.Nat.{ℕ, suc, _+_, _-_, _*_, _^_, _<_, _≤_}
 use native.Mathlib.Omega.{arith}
 use lib.Bits.{bitOr, or-lt}
-use lib.Count.{ones, ones-le, trailingZeros, under}
+use lib.Count.{ones, ones-le, trailingZeros}
 use lib.ListN.{getD}
-use Rattle.spec_ticks.specs.Ticks.{bit, Has, block}
-use Rattle.spec_ticks.proofs.Bits.{lt-or-ge, bit-zero, bit-suc, has-below, no-ticks}
-use Rattle.spec_ticks.proofs.Counts.{first-has}
+use Rattle.spec_ticks.specs.Ticks.{Has, block}
+use Rattle.spec_ticks.proofs.Bits.{lt-or-ge, has-below, no-ticks}
+use Rattle.spec_ticks.proofs.Counts.{first-has, below-first}
 use Rattle.spec_tilco.specs.Inference.{mark}
 use Rattle.spec_tilco.specs.Table.{Stands}
 use Rattle.table_words.specs.WordTicks.{Ticks}
@@ -21,17 +21,6 @@ use Rattle.spec_figures.specs.Records.Earliest.{earliest, none}
 use Rattle.figure_run.specs.declared.counts.RowTicks.{RowTicks}
 use Rattle.figure_run.specs.RunCounts.{onesFrom, Marked, RowCounted}
 use Rattle.figure_run.proofs.Earliest.{earliest-same}
-
--- Below the first tick of a word there is none.
-below-first : (n w t : ℕ) → t < trailingZeros n w → bit w t ≡ 0
-unfolding trailingZeros
-below-first zero w t l = absurd (omega arith)
-below-first (suc n) w t l = go (λ u. below-first n (w / 2) u) (w % 2) refl t l
-  where
-    go : ((u : ℕ) → u < trailingZeros n (w / 2) → bit (w / 2) u ≡ 0) → (d : ℕ) → w % 2 ≡ d → (t : ℕ) → t < under d (trailingZeros n (w / 2)) → bit w t ≡ 0
-    go rest zero e zero l = bit-zero w ∙ e
-    go rest zero e (suc t) l = bit-suc w t ∙ rest t (omega arith)
-    go rest (suc d) e t l = absurd (omega arith)
 
 -- The row's marked ticks from word q on.
 abbrev pub MarkedFrom : ℕ → List ℕ → ℕ → ℕ → ℕ → Type 0

@@ -9,11 +9,12 @@ use native.Mathlib.Omega.{arith}
 use lib.ListN.{length, length-append}
 use Rattle.read_reading.specs.Spans.{Span, span}
 use Rattle.write_readings.specs.EntryTexts.{entryText, entriesText}
+use Rattle.write_readings.proofs.WholeTexts.{one-entry}
 use Rattle.join_spans.specs.Joining.{merged, singlesFrom, singles}
 use Rattle.join_spans.specs.Runs.{inRow, spansFrom, RunFrom}
 use Rattle.op_moves.specs.Measures.{Measures}
 use Rattle.op_moves.specs.MovedText.{runEntries, movedText}
-use Rattle.op_moves.proofs.RunTexts.{one-entry, runsText, moved-runs, next-run, no-run, next-single, no-single}
+use Rattle.op_moves.proofs.RunTexts.{runsText, moved-runs, next-run, no-run, next-single, no-single}
 
 -- What is known is measured, within any limit.
 pub known-length : {limit n u : ℕ} → n ≡ u → Measures limit n u

@@ -2,7 +2,7 @@
 -- Assumes nothing.
 use mathlib.Core.Path.{_≡_, refl, sym, ap, subst, _∙_}
 use mathlib.Core.Bool.{Bool, true, false}
-use mathlib.Core.List.{List, [], _∷_, _++_, append-nil, append-assoc, map, flatten}
+use mathlib.Core.List.{List, [], _∷_, _++_, map, flatten}
 use Prim.Native.Nat.{ℕ, suc, _+_, _-_, _*_, _<_, _≤_}
 use native.Mathlib.Omega.{arith}
 use lib.ListN.{length, getD}
@@ -12,28 +12,17 @@ use Rattle.write_bytes.specs.Writes.{Counted, Wrote}
 use Rattle.read_reading.specs.Spans.{Span, span}
 use Rattle.read_readings.specs.SpanNumbers.{rowSpans, spanOf}
 use Rattle.write_readings.specs.EntryTexts.{entryText, entriesText}
-use Rattle.write_readings.proofs.WholeTexts.{entries-more}
+use Rattle.write_readings.proofs.WholeTexts.{entries-more, one-entry, entries-append}
 use Rattle.join_spans.specs.Joining.{merged, singlesFrom, singles, allSingles, moveTo}
 use Rattle.join_spans.specs.Runs.{inRow, spansFrom, RunFrom}
 use Rattle.join_spans.proofs.RunSpans.{from-end}
 use Rattle.op_moves.specs.MovedText.{runEntries, movedText, Writable, CanWrite}
 
 module _ (spans : Bool) (names : List (List ℕ)) where
-  -- Entries one after the other.
-  entries-append : (es ds : List Span) → entriesText spans names (es ++ ds) ≡ entriesText spans names es ++ entriesText spans names ds
-  unfolding entriesText flatten
-  entries-append [] ds = refl
-  entries-append (e ∷ es) ds = ap (λ (t : List ℕ). entryText spans names e ++ t) (entries-append es ds) ∙ sym (append-assoc (entryText spans names e) (entriesText spans names es) (entriesText spans names ds))
-
   -- The text of joined spans.
   pub runsText : List Span → List ℕ
   runsText [] = []
   runsText (e ∷ es) = entriesText spans names (runEntries spans e) ++ runsText es
-
--- One entry alone.
-pub one-entry : (spans : Bool) (names : List (List ℕ)) (e : Span) → entriesText spans names (e ∷ []) ≡ entryText spans names e
-unfolding entriesText flatten
-one-entry spans names e = append-nil (entryText spans names e)
 
 -- A move's text is that of the joined spans.
 runs-of : (spans : Bool) (names : List (List ℕ)) (es : List Span) → entriesText spans names (flatten (map (runEntries spans) es)) ≡ runsText spans names es

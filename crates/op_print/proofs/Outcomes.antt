@@ -40,11 +40,12 @@ use Rattle.open_sheet.specs.SheetIn.{sheetIn}
 use Rattle.open_sheet.proofs.Sheets.{in-refused}
 use Rattle.open_table.proofs.Tables.{in-sheet, accepted-refused}
 use Rattle.spec_print.specs.RuleTexts.{printed, IsRule}
-use Rattle.spec_print.specs.Printing.{withRoom, printedRule, printedOf, printing, ruleAt, Gives, PrintsRule}
+use Rattle.spec_operations.specs.TextAnswers.{Gives}
+use Rattle.spec_print.specs.Printing.{withRoom, printedRule, printedOf, printing, ruleAt, PrintsRule}
 use Rattle.spec_print.proofs.ReadBack.{at-most-twice}
 use Rattle.write_formula.specs.PartTexts.{NamedNode}
 use Rattle.op_print.specs.RuleLines.{lineOf, printedLine, RuleAt, OpenedNames}
-use Rattle.op_print.proofs.Rooms.{gives-refused}
+use Rattle.spec_operations.proofs.TextAnswers.{gives-refused}
 use Rattle.op_print.proofs.RulesLine.{lastPlace, RulesLine, rules-line}
 use Rattle.op_print.proofs.RulesFound.{rule-past-all, rule-inside, Found, found}
 

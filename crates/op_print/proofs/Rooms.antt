@@ -13,7 +13,9 @@ use Rattle.spec_limits.specs.Limits.{mostRuleBytes}
 use Rattle.write_bytes.specs.Writes.{Wrote, Counted}
 use Rattle.write_bytes.proofs.Writing.{in-front}
 use Rattle.open_sheet.specs.Results.{Result, accepted, refused}
-use Rattle.spec_print.specs.Printing.{withRoom, lengthOf, leftOf, Gives}
+use Rattle.spec_operations.specs.TextAnswers.{Gives}
+use Rattle.spec_operations.proofs.TextAnswers.{gives-refused, gives-text}
+use Rattle.spec_print.specs.Printing.{withRoom}
 
 and-false : (b : Bool) → b && false ≡ false
 and-false true = refl
@@ -31,13 +33,6 @@ module _ (t : List ℕ) (room : ℕ) where
   pub over-room : room < length t → withRoom room t ≡ refused 20 0
   unfolding withRoom
   over-room a = rw (lt-leb (length t) room a, and-false (leb (length t) mostRuleBytes))
-
--- A refusal keeps the buffer, and a text that is accepted stands in it.
-pub gives-refused : {R : Result (List ℕ)} {n p : ℕ} → R ≡ refused n p → (O : List ℕ) → Gives R O O (refused n p)
-gives-refused e O = record { answer = sym (ap lengthOf e); leaves = sym (ap (λ x. leftOf x O) e) }
-
-pub gives-text : {R : Result (List ℕ)} {t : List ℕ} → R ≡ accepted t → (O : List ℕ) → {U : List ℕ} {u : ℕ} → u ≡ length t → U ≡ t ++ drop (length t) O → Gives R O U (accepted u)
-gives-text e O l h = record { answer = ap accepted l ∙ sym (ap lengthOf e); leaves = h ∙ sym (ap (λ x. leftOf x O) e) }
 
 -- The text was written into a buffer m of its own, as far as there was room there.
 module _ {t m m₁ : List ℕ} {u : ℕ} (w : Wrote t 0 m m₁ u) (O : List ℕ) where

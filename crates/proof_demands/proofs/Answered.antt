@@ -52,7 +52,7 @@ check-some s = go (sheetIn s) refl
 
 -- ---- the sheet and the table
 
-opens-some : (s T : List ℕ) → (r : Result Contents) × Opens s T r
+pub opens-some : (s T : List ℕ) → (r : Result Contents) × Opens s T r
 opens-some s T = go (sheetIn s) refl
   where
     fitting : (k : Contents) → sheetIn s ≡ accepted k → Dec (length T ≡ tableWords (meant k)) → (r : Result Contents) × Opens s T r
@@ -126,7 +126,7 @@ add-accepts s r T small = (λ x. of-answer (x .2), λ x. let y = add-some s r T 
 -- ---- ask
 
 module _ (s T : List ℕ) (x t : ℕ) where
-  asked-some : (n : ℕ) → (a : Answer) × Asked (Stands n T) x t a
+  pub asked-some : (n : ℕ) → (a : Answer) × Asked (Stands n T) x t a
   asked-some n = go (clash-told n T) (stands-told n T x t true) (stands-told n T x t false)
     where
       go : Dec (Clash (Stands n T)) → Dec (Stands n T (mark x t true)) → Dec (Stands n T (mark x t false)) → (a : Answer) × Asked (Stands n T) x t a

@@ -95,7 +95,7 @@ stands-low n N T e (mark r t v) i = go (decLt r N)
 
 -- ---- one mark put
 
-small-set : (U : List ℕ) (i w : ℕ) → i < length U → w < 2 ^ 64 → Small 64 U → Small 64 (set U i w)
+pub small-set : (U : List ℕ) (i w : ℕ) → i < length U → w < 2 ^ 64 → Small 64 U → Small 64 (set U i w)
 small-set U i w h l small j = go (ℕ-discrete j i)
   where
     go : Dec (j ≡ i) → getD (set U i w) j 0 < 2 ^ 64
@@ -137,7 +137,7 @@ put-one n U r t v h l small out = record {
 
 -- ---- until none is missing
 
-covers : (W : ℕ) → W ≤ words W * 64
+pub covers : (W : ℕ) → W ≤ words W * 64
 unfolding words
 covers W = omega arith
 

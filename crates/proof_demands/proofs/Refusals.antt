@@ -152,13 +152,13 @@ module _ (s : List ℕ) (k : Contents) (r : List ℕ) where
 -- ---- the sheet and the table
 
 module _ {s T : List ℕ} where
-  table-case : {n p : ℕ} → Opens s T (refused n p) → TableRefused s T n p
+  pub table-case : {n p : ℕ} → Opens s T (refused n p) → TableRefused s T n p
   table-case (not-the-sheet e) = of-the-sheet (sheet-case s e)
   table-case (not-the-length e l) = fifteen (sheet-in s e) l
   table-case (not-inside {k} e l i) =
       ⊎-elim (λ j. absurd (i j)) (λ o. sixteen (o .row) (o .tick) (o .value) (sheet-in s e) l (o .is .0) (o .is .1)) (inside-told (words (k .window)) T (k .window))
 
-  case-table : {n p : ℕ} → TableRefused s T n p → Opens s T (refused n p)
+  pub case-table : {n p : ℕ} → TableRefused s T n p → Opens s T (refused n p)
   case-table (of-the-sheet x) = not-the-sheet (case-sheet s x)
   case-table (fifteen e l) = not-the-length (in-sheet-text s e) l
   case-table (sixteen r t v e l i h) = not-inside (in-sheet-text s e) l (λ f. absurd (omega (arith, h, f r t v i)))

@@ -16,8 +16,10 @@ use Rattle.open_sheet.specs.SheetIn.{sheetIn, namesIn}
 use Rattle.proof_demands.specs.Refusals.{SheetAccepted}
 use Rattle.proof_demands.proofs.Refusals.{sheet-case, case-sheet, sheet-in, in-sheet-text}
 use Rattle.spec_print.specs.RuleTexts.{printed}
-use Rattle.spec_print.specs.Printing.{ruleAt, withRoom, printedRule, printedOf, printing, Gives, PrintsRule}
-use Rattle.op_print.proofs.Rooms.{room-for, over-limit, over-room, gives-refused, gives-text}
+use Rattle.spec_operations.specs.TextAnswers.{Gives}
+use Rattle.spec_print.specs.Printing.{ruleAt, withRoom, printedRule, printedOf, printing, PrintsRule}
+use Rattle.spec_operations.proofs.TextAnswers.{gives-refused, gives-text}
+use Rattle.op_print.proofs.Rooms.{room-for, over-limit, over-room}
 use Rattle.op_print.proofs.RulesFound.{rule-past-all, rule-absent}
 use Rattle.op_print.proofs.Outcomes.{sheet-refused}
 use Rattle.proof_print.specs.PrintCases.{RuleText, PrintRefused, PrintedIn}

@@ -1,8 +1,8 @@
-// Runs check, add, ask, the moves, printing a rule and figures on a table of cases and prints each case with its answer. Assumes nothing of the cases, which are on standard input.
+// Runs check, add, ask, the moves, printing a rule, dumps and figures on a table of cases and prints each case with its answer. Assumes nothing of the cases, which are on standard input.
 // A heading says what is run, then what it shows: `=== sheet` with the sheet for what follows; `=== table N` with the table for what follows,
 // of N words, all 0 but those of its lines `I W`; `=== check`; `=== add` with the readings; `=== ask X T`; `=== spans N` and `=== singles N` with the
 // readings, moved into a buffer of N bytes that is full of dots; `=== print R N`, which prints rule R back into such a buffer. `--- then` has the buffer's first byte
-// that was not written, if there is one.
+// that was not written, if there is one. `=== dump N` writes the table as a dump into such a buffer, and `=== undump N` reads the dump under it.
 // `=== figures M N ..:` with the joined readings texts, of N bytes each, for M records; the table is the work table.
 mod figures;
 mod numbers;
@@ -28,8 +28,10 @@ use run_cases::print_refusal;
 use run_cases::text_under;
 use spec_limits::LISTED_WORDS;
 use table_marks::Value;
+use texts::run_dump;
 use texts::run_moves;
 use texts::run_print;
+use texts::run_undump;
 use words::print_words;
 ghost use mathlib.Core.Path.{_≡_};
 ghost use Prim.Native.Nat.{_<_, _≤_};
@@ -142,6 +144,10 @@ fn run_operation(cases: &[u8], above: usize, at: usize, words: &mut [u64], used:
         run_figures(s, cases, at, &mut words[..used]);
     } else if starts_at(cases, at, b"=== print") {
         run_print(s, cases, at);
+    } else if starts_at(cases, at, b"=== dump") {
+        run_dump(s, cases, at, &words[..used]);
+    } else if starts_at(cases, at, b"=== undump") {
+        run_undump(s, cases, at);
     }
 }
 

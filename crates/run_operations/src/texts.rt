@@ -1,6 +1,8 @@
 // The operations that write a text, into a buffer full of dots, and the text that stands there then. Assumes nothing of the cases.
 use crate::numbers::decimal_at;
 use crate::numbers::word_after;
+use op_dump::reading::read_dump;
+use op_dump::writing::write_dump;
 use op_moves::moves::to_readings;
 use op_moves::moves::to_spans;
 use op_print::print_rule;
@@ -112,4 +114,36 @@ pub fn run_print(s: &[u8], cases: &[u8], at: usize)
     let room = room_at(cases, number);
     let mut space = dots();
     print_back(s, rule, &mut space[0..room]);
+}
+
+// Writes the dump of the table, and prints it.
+fn print_dump(s: &[u8], table: &[u64], out: &mut [u8]) {
+    let answer = write_dump(s, table, out);
+    print_written(answer, out, b"");
+}
+
+// Writes the table as a dump, into a buffer with the room that the heading at `at` names.
+pub fn run_dump(s: &[u8], cases: &[u8], at: usize, table: &[u64])
+    requires { ⌜ at < length (now cases) ⌝ }
+{
+    let room = room_at(cases, at + 4);
+    let mut space = dots();
+    print_dump(s, table, &mut space[0..room]);
+}
+
+// Reads a dump, and prints its readings.
+fn print_undump(s: &[u8], dump: &[u8], out: &mut [u8]) {
+    let answer = read_dump(s, dump, out);
+    print_written(answer, out, b"");
+}
+
+// Reads the dump under the heading at `at`, into a buffer with the room that the heading names.
+pub fn run_undump(s: &[u8], cases: &[u8], at: usize)
+    requires { ⌜ at < length (now cases) ⌝ }
+{
+    let mut buffer = io::large_buffer();
+    let n = text_under(cases, at, &mut buffer);
+    let room = room_at(cases, at + 4);
+    let mut space = dots();
+    print_undump(s, &buffer[..n], &mut space[0..room]);
 }

@@ -2,3 +2,4 @@
 pub mod Gain
 pub mod Operations
 pub mod WritingSays
+pub mod TextAnswers

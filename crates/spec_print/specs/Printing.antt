@@ -1,18 +1,18 @@
 -- What printing a rule back answers and leaves in the lent buffer (E3).
 -- Assumes nothing. `s` is the sheet's text, r the rule's number, O the buffer before and O′ after.
-use mathlib.Core.Path.{_≡_}
 use mathlib.Core.Bool.{_&&_}
-use mathlib.Core.List.{List, [], _∷_, _++_}
+use mathlib.Core.List.{List, [], _∷_}
 use mathlib.Core.Option.{Option, none, some}
 use Prim.Native.Nat.{ℕ, zero, suc}
 use lib.Dec.{leb}
-use lib.ListN.{length, drop}
+use lib.ListN.{length}
 use Rattle.spec_limits.specs.Limits.{mostRuleBytes}
 use Rattle.read_bytes.specs.Bytes.{pick}
 use Rattle.spec_tilco.specs.Formula.{Written}
 use Rattle.read_sheet.specs.Sheet.{Contents}
 use Rattle.open_sheet.specs.Results.{Result, accepted, refused}
 use Rattle.open_sheet.specs.SheetIn.{sheetIn, namesIn}
+use Rattle.spec_operations.specs.TextAnswers.{Gives}
 use Rattle.spec_print.specs.RuleTexts.{printed}
 
 -- The rule with a number, "from 0", if there is one.
@@ -38,21 +38,6 @@ printedOf s r room (refused n p) = refused n p
 -- The text of rule r as it is printed back into a buffer with so much room, or a refusal.
 unfoldable pub printing : List ℕ → ℕ → ℕ → Result (List ℕ)
 printing s r room = printedOf s r room (sheetIn s)
-
--- The answer of it: the text's length.
-abbrev pub lengthOf : Result (List ℕ) → Result ℕ
-lengthOf (accepted t) = accepted (length t)
-lengthOf (refused n p) = refused n p
-
--- What it leaves of the buffer: the text at its first place, and the rest of it as it was. A refusal keeps every byte.
-abbrev pub leftOf : Result (List ℕ) → List ℕ → List ℕ
-leftOf (accepted t) O = t ++ drop (length t) O
-leftOf (refused n p) O = O
-
--- What is promised where R is to be printed: its answer, and the buffer after it.
-pub record Gives (R : Result (List ℕ)) (O O′ : List ℕ) (a : Result ℕ) : Type 0 where
-  pub answer : a ≡ lengthOf R
-  pub leaves : O′ ≡ leftOf R O
 
 -- What printing rule r of a sheet promises.
 abbrev pub PrintsRule : List ℕ → ℕ → List ℕ → List ℕ → Result ℕ → Type 0

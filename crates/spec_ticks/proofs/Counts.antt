@@ -58,3 +58,14 @@ first-has (suc n) w p h = go (first-has n (w / 2)) (w % 2) refl
     go : (0 < w / 2 → w / 2 < 2 ^ n → Has (w / 2) (trailingZeros n (w / 2))) → (d : ℕ) → w % 2 ≡ d → Has w (under d (trailingZeros n (w / 2)))
     go rest zero e = bit-suc w (trailingZeros n (w / 2)) ∙ rest (omega arith) (shr-lt n 1 (subst (λ (y : ℕ). w < 2 ^ y) (sym (add-one n)) h))
     go rest (suc d) e = bit-zero w ∙ omega (arith, mod-lt w (zero-lt-suc 1))
+
+-- Below the first tick of a word there is none.
+pub below-first : (n w t : ℕ) → t < trailingZeros n w → bit w t ≡ 0
+unfolding trailingZeros
+below-first zero w t l = absurd (omega arith)
+below-first (suc n) w t l = go (λ u. below-first n (w / 2) u) (w % 2) refl t l
+  where
+    go : ((u : ℕ) → u < trailingZeros n (w / 2) → bit (w / 2) u ≡ 0) → (d : ℕ) → w % 2 ≡ d → (t : ℕ) → t < under d (trailingZeros n (w / 2)) → bit w t ≡ 0
+    go rest zero e zero l = bit-zero w ∙ e
+    go rest zero e (suc t) l = bit-suc w t ∙ rest t (omega arith)
+    go rest (suc d) e t l = absurd (omega arith)

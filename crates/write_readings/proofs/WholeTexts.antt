@@ -40,6 +40,17 @@ pub entries-more : (spans : Bool) (names : List (List ℕ)) (e : Span) (es : Lis
 unfolding entriesText flatten
 entries-more spans names e es = refl
 
+-- One entry alone, and entries one after the other.
+pub one-entry : (spans : Bool) (names : List (List ℕ)) (e : Span) → entriesText spans names (e ∷ []) ≡ entryText spans names e
+unfolding entriesText flatten
+one-entry spans names e = append-nil (entryText spans names e)
+
+pub entries-append : (spans : Bool) (names : List (List ℕ)) (es ds : List Span) → entriesText spans names (es ++ ds) ≡ entriesText spans names es ++ entriesText spans names ds
+unfolding entriesText flatten
+entries-append spans names [] ds = refl
+entries-append spans names (e ∷ es) ds =
+    ap (λ (t : List ℕ). entryText spans names e ++ t) (entries-append spans names es ds) ∙ sym (append-assoc (entryText spans names e) (entriesText spans names es) (entriesText spans names ds))
+
 -- An entry takes up places.
 entry-some : (spans : Bool) (names : List (List ℕ)) (e : Span) → 1 ≤ length (entryText spans names e)
 entry-some true names e = omega (arith, span-length names e)

@@ -4,7 +4,7 @@ use native.Mathlib.Omega.{arith}
 use lib.ListN.{length-take}
 use Rattle.open_sheet.proofs.Buffers.{fresh}
 use Rattle.open_table.proofs.Tables.{when-sheet, when-refused}
-use Rattle.op_print.proofs.Rooms.{gives-refused}
+use Rattle.spec_operations.proofs.TextAnswers.{gives-refused}
 use Rattle.op_print.proofs.Outcomes.{sheet-refused}
 use Rattle.op_print.proofs.print_rule.Statement.{statement}
 use Rattle.op_print.proofs.print_rule.Tie as tie

@@ -1,4 +1,5 @@
 -- `run_operation` meets its contract. Assumes nothing.
+use native.Mathlib.Omega.{arith}
 use borrow.Author.Needs.{needs}
 use Rattle.run_operations.proofs.run_operation.Statement.{statement}
 use Rattle.run_operations.proofs.run_operation.Tie as tie
@@ -102,6 +103,30 @@ starts-at-requires-7 c κs = search needs
 run-print-requires : tie.Need-run-print-requires
 run-print-requires c κs = c .before .before .before .before .before .before .before .before .before .before .before .before .before .before .before .before .before .before .before .before .before .before .before .before .before .before .before .before .pre .1
 
+slice-aggregate-starts-at-8 : tie.Need-slice-aggregate-starts-at-8
+slice-aggregate-starts-at-8 c = search needs
+
+starts-at-requires-8 : tie.Need-starts-at-requires-8
+starts-at-requires-8 c κs = omega (arith, c .before .before .before .before .before .before .before .before .before .before .before .before .before .before .before .before .before .before .before .before .before .before .before .before .before .before .before .before .before .pre .1)
+
+slice-reshare-prefix-run-dump : tie.Need-slice-reshare-prefix-run-dump
+slice-reshare-prefix-run-dump c = c .before .before .before .before .before .before .before .before .before .before .before .before .before .before .before .before .before .before .before .before .before .before .before .before .before .before .before .before .before .before .before .pre .2 .0
+
+slice-aggregate-run-dump : tie.Need-slice-aggregate-run-dump
+slice-aggregate-run-dump c = c .before .before .before .before .before .before .before .before .before .before .before .before .before .before .before .before .before .before .before .before .before .before .before .before .before .before .before .before .before .before .before .before .pre .2 .1
+
+run-dump-requires : tie.Need-run-dump-requires
+run-dump-requires c κs = c .before .before .before .before .before .before .before .before .before .before .before .before .before .before .before .before .before .before .before .before .before .before .before .before .before .before .before .before .before .before .before .before .pre .1
+
+slice-aggregate-starts-at-9 : tie.Need-slice-aggregate-starts-at-9
+slice-aggregate-starts-at-9 c = search needs
+
+starts-at-requires-9 : tie.Need-starts-at-requires-9
+starts-at-requires-9 c κs = omega (arith, c .before .before .before .before .before .before .before .before .before .before .before .before .before .before .before .before .before .before .before .before .before .before .before .before .before .before .before .before .before .before .before .before .pre .1)
+
+run-undump-requires : tie.Need-run-undump-requires
+run-undump-requires c κs = c .before .before .before .before .before .before .before .before .before .before .before .before .before .before .before .before .before .before .before .before .before .before .before .before .before .before .before .before .before .before .before .before .before .before .pre .1
+
 returns : tie.Need-returns
 returns c = search needs
 
@@ -132,8 +157,17 @@ returns-6 c = search needs
 returns-7 : tie.Need-returns-7
 returns-7 c = search needs
 
+same-length-4 : tie.Need-same-length-4
+same-length-4 c = search needs
+
 returns-8 : tie.Need-returns-8
 returns-8 c = search needs
+
+returns-9 : tie.Need-returns-9
+returns-9 c = search needs
+
+returns-10 : tie.Need-returns-10
+returns-10 c = search needs
 
 pub run-operation-spec : {M : Type 1} → statement M
 run-operation-spec =
@@ -172,6 +206,14 @@ run-operation-spec =
     slice-aggregate-starts-at-7
     starts-at-requires-7
     run-print-requires
+    slice-aggregate-starts-at-8
+    starts-at-requires-8
+    slice-reshare-prefix-run-dump
+    slice-aggregate-run-dump
+    run-dump-requires
+    slice-aggregate-starts-at-9
+    starts-at-requires-9
+    run-undump-requires
     returns
     same-length
     returns-2
@@ -182,4 +224,7 @@ run-operation-spec =
     same-length-3
     returns-6
     returns-7
-    returns-8)
+    same-length-4
+    returns-8
+    returns-9
+    returns-10)

@@ -1,0 +1,1 @@
+// Value change dumps: definitions and theorems, and no function.
