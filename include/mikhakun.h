@@ -1,5 +1,5 @@
-/* Mikhakun: check, add, ask, the moves between readings and spans, the figures of several readings texts, and a rule printed back, for C. Link
- * target/staticlib/libc_api.a, which `rt staticlib c_api` proves and builds (x86-64 Linux).
+/* Mikhakun: check, add, ask, the moves between readings and spans, the figures of several readings texts, a rule printed back, and value change dumps, for C.
+ * Link target/staticlib/libc_api.a, which `rt staticlib c_api` proves and builds (x86-64 Linux).
  *
  * Each call answers 0, or the number of a refusal. `place` is written at a refusal only, the other results at acceptance only.
  * A refusal changes no word of a table, no byte of a buffer and no record. Nothing is kept between calls but the table that you lend.
@@ -41,14 +41,14 @@
 extern "C" {
 #endif
 
-/* The numbers of refusal. A place is counted in bytes from 0: for 2 to 8 in the sheet, for 11 to 14 and 21 in the readings, and else it is 0. Of a line
- * it is the first byte, or the text's length where the line is missing; of a value, a name, an interval or a sign its first byte. mikhakun_figures counts
- * the place of 10 to 14 and 21 in the joined texts: for 10 it is the text's first byte, for 11 where a line is missing the text's end. No function here
- * answers 29: the program `settle` prints it, after 9, for a sheet whose table has over 8,192 words.
+/* The numbers of refusal. A place is counted in bytes from 0: for 2 to 8 in the sheet, for 11 to 14 and 21 in the readings, for 22, and for 12 and 13 of
+ * mikhakun_read_dump, in the dump, and else it is 0. Of a line it is the first byte, or the text's length where the line is missing; of a value, a name, an
+ * interval or a sign its first byte. mikhakun_figures counts the place of 10 to 14 and 21 in the joined texts: for 10 it is the text's first byte, for 11 where
+ * a line is missing the text's end. No function here answers 29: the program `settle` prints it, after 9, for a sheet whose table has over 8,192 words.
  *
  * A name is a lower-case letter and then lower-case letters or digits, 1 to 16 in all; since and until are reserved. The number at its end, if there
  * is one, has no leading zero unless it is 0 alone, and is at most 9,999. A name that breaks this can't be declared: aisle02 is 4 in a signal line,
- * 6 in a rule and 12 in readings. */
+ * 6 in a rule and 12 in readings and dumps. */
 enum {
     MIKHAKUN_SHEET_TOO_LONG = 1,     /* the sheet is over 32,768 bytes */
     MIKHAKUN_SHEET_LINE = 2,         /* a sheet line is missing, not of its form, out of order or without LF; or bytes follow the last line */
@@ -61,16 +61,18 @@ enum {
     MIKHAKUN_TOO_LARGE = 9,          /* the sheet has over 32 hidden signals or 1,024 rows */
     MIKHAKUN_READINGS_TOO_LONG = 10, /* the readings are over 32,768 bytes */
     MIKHAKUN_READINGS_LINE = 11,     /* a readings line is missing, not of its form, of the other form or without LF */
-    MIKHAKUN_UNKNOWN_NAME = 12,      /* a reading names no signal of the sheet: the value */
-    MIKHAKUN_OUTSIDE_WINDOW = 13,    /* a reading's tick is outside the window: the value */
+    MIKHAKUN_UNKNOWN_NAME = 12,      /* a reading, or a signal's line in a dump, names no signal of the sheet: the value, or what stands in the name's place */
+    MIKHAKUN_OUTSIDE_WINDOW = 13,    /* a reading's tick, or a dump's, is outside the window: the value, or the number after # */
     MIKHAKUN_NOT_0_OR_1 = 14,        /* a reading's value is a number other than 0 or 1: the value */
     MIKHAKUN_TABLE_LENGTH = 15,      /* the table's length is not 2 * rows * n */
     MIKHAKUN_TABLE_MARK = 16,        /* the table has a mark at a tick outside the window, in the last of a row's n true or n false words */
     MIKHAKUN_NO_SUCH_CELL = 17,      /* ask: the signal or the tick is outside its range; print_rule: the sheet has no rule of this number */
     MIKHAKUN_RECORD_COUNT = 18,      /* the list of records is not as long as the sheet has signals */
     MIKHAKUN_LENGTHS = 19,           /* there are over 64 lengths, or their sum is not the length of the joined texts */
-    MIKHAKUN_NO_ROOM = 20,           /* what is to be written is longer than the buffer, or over 32,768 bytes, or a rule over 256 */
-    MIKHAKUN_TO_BELOW_FROM = 21      /* a span's last tick is below its first: the value of `to=` */
+    MIKHAKUN_NO_ROOM = 20,           /* what is to be written is longer than the buffer, or moved readings over 32,768 bytes, or a rule over 256 */
+    MIKHAKUN_TO_BELOW_FROM = 21,     /* a span's last tick is below its first: the value of `to=` */
+    MIKHAKUN_DUMP_LINE = 22,         /* a dump line is missing, not one that may stand there, or without LF */
+    MIKHAKUN_CLASH = 23              /* the table to be written as a dump has a row that is both true and false at one tick */
 };
 
 /* The values that ask writes. */
@@ -169,6 +171,52 @@ uint64_t mikhakun_figures(const uint8_t *sheet, size_t sheet_len, const uint8_t 
  * than that is never needed. A long rule can have such a text, for square brackets may take a byte more than round ones: (9,11) becomes [10,10], (-11,-9)
  * becomes [-10,-10] and (-3,0) becomes [-2,-1]. */
 uint64_t mikhakun_print_rule(const uint8_t *sheet, size_t sheet_len, uint64_t rule, uint8_t *out, size_t room, uint64_t *length, uint64_t *place);
+
+/* Writes a table as a value change dump (VCD, IEEE 1364), for a trace viewer: these lines, each with its LF,
+ *
+ *     $timescale 1 s $end
+ *     $scope module sheet $end
+ *     $var wire 1 ! clear2 $end           one for each signal in sheet order, with its ID, the byte 33 + its number, and its name
+ *     $upscope $end
+ *     $enddefinitions $end
+ *     #0
+ *     x!                                  each signal's sign, 0, 1 or x for unsettled, and its ID
+ *     #3                                  each later tick at which signs change,
+ *     1!                                  and the signs that do, in sheet order
+ *
+ * The text starts at out's first byte, and its length is written; the rest of out stays. mikhakun_read_dump makes of it exactly the values that are settled.
+ *
+ * Refusals 1 to 9, 15, 16, 23, 20, in this order. 23 is for a table in which any row clashes, also one of a hidden signal or of a part of a rule. */
+uint64_t mikhakun_write_dump(const uint8_t *sheet, size_t sheet_len, const uint64_t *table, size_t words,
+                             uint8_t *out, size_t room, uint64_t *length, uint64_t *place);
+
+/* Room that is enough for every dump of a sheet with so many signals over this window: names of 16 bytes, and all signs new at each tick. */
+static inline uint64_t mikhakun_dump_room(uint64_t signals, uint64_t window)
+{
+    return 80 + 36 * signals + (6 + 3 * signals) * window;
+}
+
+/* Reads a dump and writes the readings that it says, one by one, by tick, then signal: one for each 0 and 1 at a tick. A sign holds until the signal's next or
+ * the window's end. The text starts at out's first byte, and its length is written; the rest of out stays. One of over 32,768 bytes is added in parts, cut
+ * between two readings.
+ *
+ * A dump has the lines that mikhakun_write_dump writes, and no others, but:
+ * - its timescale is 1, 10 or 100 and s, ms, us, ns, ps or fs, all of which mean the same here: a time is a tick;
+ * - the sign z counts as x;
+ * - a sign may be said again, and a time may have no sign.
+ * Times rise strictly, from #0 on. Signs at one time are in sheet order, none twice, and at #0 every signal has one. A dump may have any length.
+ *
+ * Refusals 1 to 9, then line by line 22 at the line's first byte, 12 and 13, last 20, in this order. 22 is for any other line, also a time that does not rise or
+ * is no number of one to five digits without a leading zero, a sign out of order or of no signal, another ID, and a declared name in another's place. 12 is for a
+ * signal's line that is right but for what stands between `$var wire 1 ID ` and ` $end`: it is no declared name. */
+uint64_t mikhakun_read_dump(const uint8_t *sheet, size_t sheet_len, const uint8_t *dump, size_t dump_len,
+                            uint8_t *out, size_t room, uint64_t *length, uint64_t *place);
+
+/* Room that is enough for the readings of every dump of such a sheet: one at each tick of each signal. */
+static inline uint64_t mikhakun_dump_readings_room(uint64_t signals, uint64_t window)
+{
+    return 40 * signals * window;
+}
 
 #ifdef __cplusplus
 }

@@ -138,6 +138,8 @@ impl<'a> Explanation<'a> {
 fn end_number_fault_at<'a>(refusal: Refusal, spot: &Spot<'a>) -> Option<(&'a str, &'static str)> {
     let rest = spot.rest();
     let name = match refusal.number() {
+        // In a dump the name's line goes on after it.
+        12 if spot.text == Text::Dump => rest.strip_suffix(b" $end").unwrap_or(rest),
         4 | 12 => rest,
         6 => &rest[..rest.iter().take_while(|byte| is_name_byte(byte)).count()],
         _ => return None,
@@ -154,11 +156,16 @@ fn sentence_at(refusal: Refusal, spot: &Spot<'_>) -> &'static str {
         return fault;
     }
     match refusal.number() {
-        2 | 11 if spot.past_the_text => "a line is missing here",
+        2 | 11 | 22 if spot.past_the_text => "a line is missing here",
         2 => "this line is not of its form, out of order or without LF, or it follows the last line",
         11 if is_of_the_other_form(spot) && spot.of_spans => "this is a line of single readings, in a text of spans",
         11 if is_of_the_other_form(spot) => "this is a line of spans, in a text of single readings",
         11 => "this line is not of its form or without LF",
+        22 if is_sign(spot.bytes) => "this sign is of no signal, out of sheet order, given twice, without LF, or in another line's place",
+        22 if spot.bytes.starts_with(b"#") => {
+            "this time does not rise, is no number of one to five digits, is without LF, or stands in another line's place"
+        }
+        22 => "this line is not the one that a dump has here, or it is without LF",
         3 if spot.bytes.starts_with(b"window=") => "the window is 1 to 4,096 ticks",
         3 if spot.bytes.starts_with(b"signals=") => "a sheet has 1 to 64 signals",
         3 if spot.bytes.starts_with(b"rules=") => "a sheet has 0 to 64 rules",
@@ -176,6 +183,11 @@ fn sentence_at(refusal: Refusal, spot: &Spot<'_>) -> &'static str {
 fn is_of_the_other_form(spot: &Spot<'_>) -> bool {
     let keys: &[&[u8]] = if spot.of_spans { &[b"at="] } else { &[b"from=", b"to="] };
     spot.line > 1 && keys.iter().any(|key| spot.bytes.starts_with(key))
+}
+
+/// Has the line the form of a signal's sign in a dump?
+fn is_sign(line: &[u8]) -> bool {
+    matches!(line, [b'0' | b'1' | b'x' | b'z', _])
 }
 
 /// Is the spot the first byte of a rule that has no byte, or over 256?

@@ -98,4 +98,26 @@ extern "C" {
         length: *mut u64,
         place: *mut u64,
     ) -> u64;
+
+    pub fn mikhakun_write_dump(
+        sheet: *const u8,
+        sheet_len: usize,
+        table: *const u64,
+        words: usize,
+        out: *mut u8,
+        room: usize,
+        length: *mut u64,
+        place: *mut u64,
+    ) -> u64;
+
+    pub fn mikhakun_read_dump(
+        sheet: *const u8,
+        sheet_len: usize,
+        dump: *const u8,
+        dump_len: usize,
+        out: *mut u8,
+        room: usize,
+        length: *mut u64,
+        place: *mut u64,
+    ) -> u64;
 }

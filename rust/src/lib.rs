@@ -2,8 +2,8 @@
 //!
 //! A sheet says what must be true of its signals, tick by tick. Given readings, [`add`] settles signals as true or false at ticks of the
 //! window; each value holds in every history that obeys the sheet and agrees with the readings. These are safe functions over the proved
-//! reader, a static library: [`check`], [`add`], [`ask`], two moves, [`figures`] and [`print_rule`] each take the sheet's text, and keep nothing between
-//! calls but the [`Table`] that they are lent.
+//! reader, a static library: [`check`], [`add`], [`ask`], two moves, [`figures`], [`print_rule`], [`write_dump`] and [`read_dump`] each take the sheet's text, and
+//! keep nothing between calls but the [`Table`] that they are lent.
 //!
 //! ```
 //! use mikhakun::{add, ask, check, Table, Value};
@@ -55,6 +55,20 @@
 //! # Ok::<(), mikhakun::Refusal>(())
 //! ```
 //!
+//! [`write_dump`] writes a table as a value change dump, which trace viewers show, and [`read_dump`] makes readings of such a dump:
+//!
+//! ```
+//! use mikhakun::{add, read_dump, write_dump, Table};
+//!
+//! let sheet = b"window=10\nsignals=1\nsignal=clear2\nrules=1\nrule=clear2=>clear2@[1,1]\n";
+//! let mut table = Table::for_sheet(sheet)?;
+//! add(sheet, b"at=8\nsignal=clear2\nvalue=1\n", &mut table)?;
+//! let dump = write_dump(sheet, &table)?;
+//! assert!(dump.ends_with(b"#0\nx!\n#8\n1!\n"));
+//! assert_eq!(read_dump(sheet, &dump)?, b"at=8\nsignal=clear2\nvalue=1\nat=9\nsignal=clear2\nvalue=1\n");
+//! # Ok::<(), mikhakun::Refusal>(())
+//! ```
+//!
 //! What is refused says why and where:
 //!
 //! ```
@@ -69,6 +83,7 @@
 //! );
 //! ```
 
+mod dumps;
 mod explanation;
 mod ffi;
 mod figures;
@@ -80,6 +95,7 @@ mod refusal;
 mod table;
 mod value;
 
+pub use dumps::{read_dump, read_dump_into, write_dump, write_dump_into, LONGEST_DUMP, LONGEST_DUMP_READINGS};
 pub use explanation::Explanation;
 pub use figures::{figures, figures_into, Record};
 pub use moves::{to_readings, to_readings_into, to_spans, to_spans_into, LONGEST_TEXT};

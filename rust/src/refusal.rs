@@ -4,11 +4,13 @@ use crate::moves::is_of_spans;
 use crate::Explanation;
 use std::fmt;
 
-/// Why a call was refused: a number, 1 to 21, and a place counted in bytes from 0.
+/// Why a call was refused: a number, 1 to 23, and a place counted in bytes from 0.
 #[derive(Clone, Copy, Debug, PartialEq, Eq, Hash)]
 pub struct Refusal {
     number: u64,
     place: usize,
+    /// Whether the place is in a dump, of a number that may also be of readings.
+    in_dump: bool,
 }
 
 /// The text that a refusal's place is in.
@@ -18,14 +20,21 @@ pub enum Text {
     Sheet,
     /// The readings.
     Readings,
+    /// The dump.
+    Dump,
 }
 
 impl Refusal {
     pub(crate) fn new(number: u64, place: usize) -> Self {
-        Refusal { number, place }
+        Refusal { number, place, in_dump: false }
     }
 
-    /// Its number, 1 to 21.
+    /// The same of a call that reads a dump: its 12 and 13 are placed there.
+    pub(crate) fn in_dump(self) -> Self {
+        Refusal { in_dump: matches!(self.number, 12 | 13), ..self }
+    }
+
+    /// Its number, 1 to 23.
     pub fn number(&self) -> u64 {
         self.number
     }
@@ -40,7 +49,9 @@ impl Refusal {
     pub fn text(&self) -> Option<Text> {
         match self.number {
             2..=8 => Some(Text::Sheet),
+            12 | 13 if self.in_dump => Some(Text::Dump),
             11..=14 | 21 => Some(Text::Readings),
+            22 => Some(Text::Dump),
             _ => None,
         }
     }
@@ -72,15 +83,18 @@ impl Refusal {
             17 => "the signal, the tick or the rule asked for is outside its range",
             18 => "the list of records is not as long as the sheet has signals",
             19 => "there are over 64 texts, or the sum of their lengths is not that of the joined texts",
-            20 => "what is to be written is longer than the buffer, or over 32,768 bytes, or a rule over 256",
+            20 => "what is to be written is longer than the buffer, or moved readings over 32,768 bytes, or a rule over 256",
             21 => "the span's to= is below its from=",
+            22 => "a dump line is missing, not one that may stand there, or without LF",
+            23 => "the table clashes: a row is both true and false at one tick",
             _ => "there is no refusal of this number",
         }
     }
 
     /// What is wrong, and the line and the byte where it is, in the texts that the refused call was given.
     ///
-    /// For a refusal of check, ask or print_rule the readings are empty. For one of figures see [`Refusal::explain_among`].
+    /// For a refusal of check, ask, print_rule or write_dump the readings are empty; for one of read_dump the dump stands in their place. For one of figures
+    /// see [`Refusal::explain_among`].
     ///
     /// ```
     /// let sheet = b"window=2\nsignals=1\nsignal=a\nrules=1\nrule=a@[0,64]\n";
@@ -107,7 +121,7 @@ impl Refusal {
     /// # Ok::<(), mikhakun::Refusal>(())
     /// ```
     pub fn among(&self, texts: &[&[u8]]) -> Option<(usize, Refusal)> {
-        if !matches!(self.number, 10..=14 | 21) {
+        if !matches!(self.number, 10..=14 | 21) || self.in_dump {
             return None;
         }
         let mut start = 0;
@@ -165,6 +179,7 @@ impl fmt::Display for Text {
         f.write_str(match self {
             Text::Sheet => "sheet",
             Text::Readings => "readings",
+            Text::Dump => "dump",
         })
     }
 }
@@ -176,9 +191,9 @@ mod tests {
     #[test]
     fn each_number_has_its_own_sentence() {
         let none = Refusal::new(0, 0).sentence();
-        let sentences: std::collections::HashSet<_> = (0..=21).map(|n| Refusal::new(n, 0).sentence()).collect();
-        assert_eq!(sentences.len(), 22);
-        for number in [22, 29, u64::MAX] {
+        let sentences: std::collections::HashSet<_> = (0..=23).map(|n| Refusal::new(n, 0).sentence()).collect();
+        assert_eq!(sentences.len(), 24);
+        for number in [24, 29, u64::MAX] {
             assert_eq!(Refusal::new(number, 0).sentence(), none);
         }
     }

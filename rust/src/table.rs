@@ -56,7 +56,7 @@ impl Table {
     }
 }
 
-/// Any words are a table; `add` and `ask` refuse it by 15 or 16 if it is not one of their sheet.
+/// Any words are a table; `add`, `ask` and `write_dump` refuse it by 15 or 16 if it is not one of their sheet.
 impl From<Vec<u64>> for Table {
     fn from(words: Vec<u64>) -> Self {
         Table { words }

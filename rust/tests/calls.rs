@@ -1,8 +1,7 @@
 //! The calls that the gate runs and compares, made once more through the static library: `crates/run_operations/stdout` has each call with its answer.
 
-use mikhakun::{
-    add, ask, check, figures_into, print_rule_into, to_readings, to_readings_into, to_spans, to_spans_into, Record, Refusal, Table,
-};
+use mikhakun::{add, ask, check, figures_into, print_rule_into, read_dump_into, write_dump_into, Record, Refusal, Table};
+use mikhakun::{to_readings, to_readings_into, to_spans, to_spans_into};
 
 /// A call, or a text or table for the calls that follow: the words of its heading, the lines under it, and the answer's lines, those of a written text among them.
 #[derive(Default)]
@@ -120,6 +119,16 @@ fn printed(entry: &Entry, sheet: &[u8]) -> Vec<String> {
     written(answer, &buffer)
 }
 
+/// The answer's lines to the table written as a dump, or a dump read, into a buffer full of dots.
+fn dumped(entry: &Entry, sheet: &[u8], table: &Table) -> Vec<String> {
+    let mut buffer = vec![b'.'; entry.number(1)];
+    let answer = match entry.kind() {
+        "dump" => write_dump_into(sheet, table, &mut buffer),
+        _ => read_dump_into(sheet, &entry.text(), &mut buffer),
+    };
+    written(answer, &buffer)
+}
+
 /// What was written into the buffer: the text, or its last 100 bytes if it has over 32,000, and the byte after it.
 fn written(answer: Result<usize, Refusal>, buffer: &[u8]) -> Vec<String> {
     let (mut lines, length) = match answer {
@@ -173,6 +182,7 @@ fn every_call_has_the_answer_of_the_gate() {
             "spans" | "singles" => moved(&entry, &sheet),
             "figures" => figured(&entry, &sheet, &mut table),
             "print" => printed(&entry, &sheet),
+            "dump" | "undump" => dumped(&entry, &sheet, &table),
             "ask" => vec![ask(&sheet, &table, entry.number(1), entry.number(2)).map_or_else(refused, |value| value.to_string())],
             other => panic!("a heading of no known kind: {other}"),
         };

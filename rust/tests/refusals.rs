@@ -1,7 +1,7 @@
 //! Each refusal number, with its place and what its explanation says.
 
-use mikhakun::{add, ask, check, figures, figures_into, print_rule, print_rule_into, Refusal, Table};
-use mikhakun::{to_readings, to_readings_into, to_spans, to_spans_into};
+use mikhakun::{add, ask, check, figures, figures_into, print_rule, print_rule_into, Refusal, Table, Text};
+use mikhakun::{read_dump, read_dump_into, to_readings, to_readings_into, to_spans, to_spans_into, write_dump, write_dump_into};
 
 const SHEET: &[u8] = b"window=10\nsignals=2\nsignal=clear2\nsignal=go10\nrules=1\nrule=clear2@[-3,0]=>go10\n";
 
@@ -20,6 +20,10 @@ fn refused_sheet(sheet: &[u8]) -> Refusal {
         assert_eq!(print_rule(sheet, rule), Err(refusal));
         assert_eq!(print_rule_into(sheet, rule, &mut []), Err(refusal));
     }
+    assert_eq!(write_dump(sheet, &Table::from(vec![u64::MAX; 3])), Err(refusal));
+    assert_eq!(write_dump_into(sheet, &table, &mut []), Err(refusal));
+    assert_eq!(read_dump(sheet, b"x"), Err(refusal));
+    assert_eq!(read_dump_into(sheet, b"x", &mut []), Err(refusal));
     refusal
 }
 
@@ -271,12 +275,95 @@ fn a_last_tick_below_the_first() {
 
 #[test]
 fn no_room() {
-    let sentence = "what is to be written is longer than the buffer, or over 32,768 bytes, or a rule over 256";
+    let sentence = "what is to be written is longer than the buffer, or moved readings over 32,768 bytes, or a rule over 256";
     placeless(to_spans_into(SHEET, b"at=1\nsignal=go10\nvalue=0\n", &mut [0; 31]).unwrap_err(), 20, sentence);
     placeless(to_readings_into(SHEET, b"at=1\nsignal=go10\nvalue=0\n", &mut [0; 24]).unwrap_err(), 20, sentence);
     placeless(print_rule_into(SHEET, 0, &mut [0; 18]).unwrap_err(), 20, sentence);
     let long = format!("{HEAD}a{}\n", "@(9,11)".repeat(32));
     placeless(print_rule(long.as_bytes(), 0).unwrap_err(), 20, sentence);
+    placeless(write_dump_into(SHEET, &Table::for_sheet(SHEET).unwrap(), &mut [0; 100]).unwrap_err(), 20, sentence);
+    placeless(read_dump_into(SHEET, DUMP.concat().as_bytes(), &mut [0; 24]).unwrap_err(), 20, sentence);
+}
+
+/// A dump for the sheet above, line by line.
+const DUMP: [&str; 11] = [
+    "$timescale 1 s $end\n",
+    "$scope module sheet $end\n",
+    "$var wire 1 ! clear2 $end\n",
+    "$var wire 1 \" go10 $end\n",
+    "$upscope $end\n",
+    "$enddefinitions $end\n",
+    "#0\n",
+    "x!\n",
+    "x\"\n",
+    "#9\n",
+    "1!\n",
+];
+
+/// The dump with these bytes in the place of a line, counted from 1, is refused by this number at a byte of that line; so it is explained.
+fn dump_case(number: u64, line: usize, other: &str, at: usize, sentence: &str) {
+    let (before, after) = (DUMP[..line - 1].concat(), DUMP[line..].concat());
+    let dump = format!("{before}{other}{after}");
+    let refusal = read_dump(SHEET, dump.as_bytes()).unwrap_err();
+    assert_eq!((refusal.number(), refusal.place(), refusal.text()), (number, before.len() + at, Some(Text::Dump)), "{dump}");
+    assert_eq!(read_dump_into(SHEET, dump.as_bytes(), &mut []), Err(refusal), "{dump}");
+    let (shown, caret) = (dump[before.len()..].split('\n').next().unwrap(), format!("    {:at$}^", ""));
+    let wanted = format!("dump, line {line}, column {}: {sentence} (refusal {number})\n    {shown}\n{caret}", at + 1);
+    assert_eq!(refusal.explain(SHEET, dump.as_bytes()).to_string(), wanted);
+    assert_eq!(refusal.among(&[dump.as_bytes()]), None);
+}
+
+#[test]
+fn a_dump_line() {
+    let other = "this line is not the one that a dump has here, or it is without LF";
+    let time = "this time does not rise, is no number of one to five digits, is without LF, or stands in another line's place";
+    let sign = "this sign is of no signal, out of sheet order, given twice, without LF, or in another line's place";
+    assert!(read_dump(SHEET, DUMP.concat().as_bytes()).is_ok());
+    for (line, wrong) in
+        [(1, "$timescale 2 s $end\n"), (2, "$scope module top $end\n"), (5, "$end\n"), (6, "\n"), (8, "2!\n"), (11, "$dumpvars\n")]
+    {
+        dump_case(22, line, wrong, 0, other);
+    }
+    dump_case(22, 3, "$var wire 1 \" go10 $end\n", 0, other);
+    dump_case(22, 3, "$var wire 1 ! go10 $end\n", 0, other);
+    dump_case(22, 3, "$var wire 1 ! clear2\n", 0, other);
+    for wrong in ["#0\n", "#09\n", "#100000\n", "#\n"] {
+        dump_case(22, 10, wrong, 0, time);
+    }
+    dump_case(22, 8, "#1\n", 0, time);
+    for wrong in ["1#\n", "z~\n"] {
+        dump_case(22, 11, wrong, 0, sign);
+    }
+    dump_case(22, 9, "x!\n", 0, sign);
+    let missing = DUMP[..8].concat();
+    let refusal = read_dump(SHEET, missing.as_bytes()).unwrap_err();
+    assert_eq!(refusal.place(), missing.len());
+    let told = refusal.explain(SHEET, missing.as_bytes()).to_string();
+    assert_eq!(told, "dump, line 9, column 1: a line is missing here (refusal 22)\n    \n    ^");
+    assert_eq!(refusal.to_string(), "dump, byte 136: a dump line is missing, not one that may stand there, or without LF (refusal 22)");
+}
+
+#[test]
+fn a_name_or_a_tick_in_a_dump() {
+    dump_case(12, 3, "$var wire 1 ! clear3 $end\n", 14, "no signal of the sheet has this name");
+    dump_case(12, 3, "$var wire 1 !  $end\n", 14, "no signal of the sheet has this name");
+    dump_case(12, 4, "$var wire 1 \" go010 $end\n", 14, "go010: a number at the end of a name has no leading zero");
+    dump_case(12, 4, "$var wire 1 \" go10000 $end\n", 14, "go10000: a number at the end of a name is at most 9,999");
+    for time in ["#10\n", "#11\n", "#99999\n"] {
+        dump_case(13, 10, time, 1, "the tick is outside the window");
+    }
+    let late = DUMP.concat().replace("#9", "#10");
+    let refusal = read_dump(SHEET, late.as_bytes()).unwrap_err();
+    assert_eq!(refusal.to_string(), "dump, byte 140: the tick is outside the window (refusal 13)");
+}
+
+#[test]
+fn a_table_that_clashes() {
+    let mut table = Table::for_sheet(SHEET).unwrap();
+    add(SHEET, b"at=1\nsignal=go10\nvalue=0\nat=1\nsignal=go10\nvalue=1\n", &mut table).unwrap();
+    let clash = "the table clashes: a row is both true and false at one tick";
+    placeless(write_dump(SHEET, &table).unwrap_err(), 23, clash);
+    placeless(write_dump_into(SHEET, &table, &mut []).unwrap_err(), 23, clash);
 }
 
 #[test]
@@ -286,12 +373,14 @@ fn a_table() {
     let length = "the table's length is not that of the sheet's rows and window";
     placeless(add(SHEET, b"", &mut short).unwrap_err(), 15, length);
     placeless(ask(SHEET, &short, 0, 0).unwrap_err(), 15, length);
+    placeless(write_dump(SHEET, &short).unwrap_err(), 15, length);
     let mut words = vec![0; 2 * rows];
     words[3] = 1 << 10;
     let mut outside = Table::from(words);
     let mark = "the table has a mark at a tick outside the window";
     placeless(add(SHEET, b"", &mut outside).unwrap_err(), 16, mark);
     placeless(ask(SHEET, &outside, 0, 0).unwrap_err(), 16, mark);
+    placeless(write_dump(SHEET, &outside).unwrap_err(), 16, mark);
 }
 
 #[test]

@@ -60,6 +60,8 @@ fn of_folder(folder: &Path) -> Case {
         moves: vec![],
         figures: vec![],
         prints: vec![],
+        dumps_written: vec![],
+        dumps_read: vec![],
     }
 }
 

@@ -87,6 +87,26 @@ mod linked {
             length: *mut u64,
             place: *mut u64,
         ) -> u64;
+        fn mikhakun_write_dump(
+            sheet: *const u8,
+            sheet_len: usize,
+            table: *const u64,
+            words: usize,
+            out: *mut u8,
+            room: usize,
+            length: *mut u64,
+            place: *mut u64,
+        ) -> u64;
+        fn mikhakun_read_dump(
+            sheet: *const u8,
+            sheet_len: usize,
+            dump: *const u8,
+            dump_len: usize,
+            out: *mut u8,
+            room: usize,
+            length: *mut u64,
+            place: *mut u64,
+        ) -> u64;
     }
 
     pub const LINKED: bool = true;
@@ -201,6 +221,46 @@ mod linked {
             outputs: vec![length, place],
         }
     }
+
+    pub fn write_dump(sheet: &[u8], table: &[u64], out: &mut [u8]) -> Outcome {
+        let (mut length, mut place) = (UNWRITTEN, UNWRITTEN);
+        let answer = unsafe {
+            mikhakun_write_dump(
+                sheet.as_ptr(),
+                sheet.len(),
+                table.as_ptr(),
+                table.len(),
+                out.as_mut_ptr(),
+                out.len(),
+                &mut length,
+                &mut place,
+            )
+        };
+        Outcome {
+            answer,
+            outputs: vec![length, place],
+        }
+    }
+
+    pub fn read_dump(sheet: &[u8], dump: &[u8], out: &mut [u8]) -> Outcome {
+        let (mut length, mut place) = (UNWRITTEN, UNWRITTEN);
+        let answer = unsafe {
+            mikhakun_read_dump(
+                sheet.as_ptr(),
+                sheet.len(),
+                dump.as_ptr(),
+                dump.len(),
+                out.as_mut_ptr(),
+                out.len(),
+                &mut length,
+                &mut place,
+            )
+        };
+        Outcome {
+            answer,
+            outputs: vec![length, place],
+        }
+    }
 }
 
 #[cfg(not(library))]
@@ -234,6 +294,14 @@ mod linked {
     pub fn print_rule(_: &[u8], _: u64, _: &mut [u8]) -> Outcome {
         unreachable!("no library")
     }
+
+    pub fn write_dump(_: &[u8], _: &[u64], _: &mut [u8]) -> Outcome {
+        unreachable!("no library")
+    }
+
+    pub fn read_dump(_: &[u8], _: &[u8], _: &mut [u8]) -> Outcome {
+        unreachable!("no library")
+    }
 }
 
-pub use linked::{add, ask, check, figures, move_to, print_rule, LINKED};
+pub use linked::{add, ask, check, figures, move_to, print_rule, read_dump, write_dump, LINKED};

@@ -1,7 +1,8 @@
-//! The second program: `second compare [COUNT] [SEED]`, `second listings COUNT SEED COMMAND..`, `second settle FOLDER` and
-//! `second export COUNT SEED FOLDER..`.
+//! The second program: `second compare [COUNT] [SEED]`, `second listings COUNT SEED COMMAND..`, `second settle FOLDER`,
+//! `second export COUNT SEED FOLDER..`, `second dumps COUNT SEED FOLDER` and `second reread FOLDER`.
 
 mod compare;
+mod dumps;
 mod export;
 mod figures;
 mod generate;
@@ -16,6 +17,7 @@ mod print;
 mod rewriting;
 mod seen;
 mod seen_calls;
+mod seen_dumps;
 mod seen_figures;
 mod seen_print;
 mod seen_readings;
@@ -24,12 +26,14 @@ mod tally;
 #[cfg(test)]
 mod tests;
 mod text;
+mod traces;
 
 use std::path::Path;
 use std::process::ExitCode;
 
 const USAGE: &str = "usage: second compare [COUNT] [SEED] | second listings COUNT SEED COMMAND.. \
-                     | second settle FOLDER | second export COUNT SEED FOLDER..";
+                     | second settle FOLDER | second export COUNT SEED FOLDER.. \
+                     | second dumps COUNT SEED FOLDER | second reread FOLDER";
 
 fn main() -> ExitCode {
     let words: Vec<String> = std::env::args().skip(1).collect();
@@ -47,6 +51,10 @@ fn main() -> ExitCode {
         ["export", count, seed, ref folders @ ..] => {
             with_numbers(count, seed, |count, seed| export::run(count, seed, folders))
         }
+        ["dumps", count, seed, folder] => with_numbers(count, seed, |count, seed| {
+            traces::write(count, seed, Path::new(folder))
+        }),
+        ["reread", folder] => traces::reread(Path::new(folder)),
         _ => usage(),
     }
 }

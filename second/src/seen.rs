@@ -1,12 +1,14 @@
 //! What the cases of a comparison meet, each thing in enough of them: numbers answered, kinds of windows, names refused for their end number,
-//! and what texts of readings, calls of figures and calls that print a rule meet.
+//! and what texts of readings, calls of figures, calls that print a rule, and dumps meet.
 
 use crate::figures::Record;
+use crate::generate::dumps::{ReadDump, WriteDump};
 use crate::generate::figures::Figures;
 use crate::generate::moves::Move;
 use crate::generate::print::Print;
 use crate::generate::Call;
 use crate::library::Outcome;
+use crate::seen_dumps;
 use crate::seen_figures;
 use crate::seen_print;
 use crate::seen_readings;
@@ -23,8 +25,8 @@ const ENOUGH_CASES: u64 = 20_000;
 const ENOUGH_SEEN: u64 = 50;
 
 /// The numbers that a call may answer: 0 and the refusals.
-const NUMBERS: [u64; 22] = [
-    0, 1, 2, 3, 4, 5, 6, 7, 8, 9, 10, 11, 12, 13, 14, 15, 16, 17, 18, 19, 20, 21,
+const NUMBERS: [u64; 24] = [
+    0, 1, 2, 3, 4, 5, 6, 7, 8, 9, 10, 11, 12, 13, 14, 15, 16, 17, 18, 19, 20, 21, 22, 23,
 ];
 /// Kinds of windows, by the words that cover them.
 const WINDOWS: [(&str, RangeInclusive<usize>); 4] = [
@@ -51,6 +53,7 @@ pub struct Seen {
     readings: seen_readings::Seen,
     figures: seen_figures::Seen,
     prints: Tally,
+    dumps: seen_dumps::Seen,
 }
 
 /// What one case met: places in the lists above, and things that have their lists elsewhere.
@@ -62,6 +65,7 @@ pub struct Met {
     readings: seen_readings::Met,
     figures: seen_figures::Met,
     prints: BTreeSet<String>,
+    dumps: seen_dumps::Met,
 }
 
 impl Seen {
@@ -89,6 +93,7 @@ impl Seen {
             readings: seen_readings::Seen::none(least),
             figures: seen_figures::Seen::none(least),
             prints: seen_print::tally(least),
+            dumps: seen_dumps::Seen::none(least),
         }
     }
 
@@ -105,6 +110,7 @@ impl Seen {
         for thing in &case.prints {
             self.prints.met_thing(thing);
         }
+        self.dumps.count(case.dumps);
     }
 
     /// Prints the counts; answers how many things were met too seldom.
@@ -115,6 +121,7 @@ impl Seen {
             + self.readings.print()
             + self.figures.print()
             + self.prints.print()
+            + self.dumps.print()
     }
 }
 
@@ -156,6 +163,18 @@ impl Met {
     pub fn printed(&mut self, call: &Print, outcome: &Outcome) {
         self.number(outcome.answer);
         self.prints.extend(seen_print::met(call, outcome));
+    }
+
+    /// Takes in a call that writes a dump, and what it answered.
+    pub fn dump_written(&mut self, sheet: &[u8], call: &WriteDump, outcome: &Outcome) {
+        self.number(outcome.answer);
+        self.dumps.written(sheet, call, outcome);
+    }
+
+    /// Takes in a call that reads a dump, and what it answered.
+    pub fn dump_read(&mut self, sheet: &[u8], call: &ReadDump, outcome: &Outcome) {
+        self.number(outcome.answer);
+        self.dumps.read(sheet, call, outcome);
     }
 
     fn number(&mut self, number: u64) {

@@ -1,6 +1,6 @@
-/* Checks the shipped example, adds its readings, asks, moves them to spans and back, has the figures of several texts, prints rules back, and is refused,
- * through the static library; then the same over windows of several words; then names that end in a number. Prints what differs from what is wanted, and
- * 'N passed, M failed' at the end. */
+/* Checks the shipped example, adds its readings, asks, moves them to spans and back, has the figures of several texts, prints rules back, writes and reads dumps,
+ * and is refused, through the static library; then the same over windows of several words; then names that end in a number. Prints what differs from what is
+ * wanted, and 'N passed, M failed' at the end. */
 #include "mikhakun.h"
 
 #include <stdio.h>
@@ -369,6 +369,100 @@ static void refused_prints(void) {
     has_refused("a rule without room", printed(SHEET, 0, 0), MIKHAKUN_NO_ROOM, 0);
 }
 
+/* The dump of the example, up to its first time, and whole; and what it says. */
+#define VARS "$var wire 1 ! clear2 $end\n$var wire 1 \" go10 $end\n$var wire 1 # open10 $end\n"
+#define DUMP_HEAD "$timescale 1 s $end\n$scope module sheet $end\n" VARS "$upscope $end\n$enddefinitions $end\n"
+static const char DUMP[] = DUMP_HEAD "#0\nx!\nx\"\nx#\n#3\n1!\n#6\n1\"\n#7\nx!\nx\"\n#8\n1#\n#9\nx#\n";
+static const char SETTLED[] = "at=3\nsignal=clear2\nvalue=1\nat=4\nsignal=clear2\nvalue=1\nat=5\nsignal=clear2\nvalue=1\n"
+                              "at=6\nsignal=clear2\nvalue=1\nat=6\nsignal=go10\nvalue=1\nat=8\nsignal=open10\nvalue=1\n";
+
+static Written dumped(const char *sheet, const uint64_t *table, size_t words, size_t room) {
+    Written found = before_writing();
+    found.number = mikhakun_write_dump(bytes(sheet), strlen(sheet), table, words, out, room, &found.length, &found.place);
+    return found;
+}
+
+static Written undumped(const char *sheet, const char *dump, size_t room) {
+    Written found = before_writing();
+    found.number = mikhakun_read_dump(bytes(sheet), strlen(sheet), bytes(dump), strlen(dump), out, room, &found.length, &found.place);
+    return found;
+}
+
+/* The closed table as a dump, and the dump as readings, in room that is just enough and in all there is; refused with a byte less. */
+static void dumped_there_and_back(const uint64_t *closed) {
+    uint64_t empty[WORDS] = {0};
+    has_written("a dump", dumped(SHEET, closed, WORDS, strlen(DUMP)), DUMP);
+    has_written("a dump in all room", dumped(SHEET, closed, WORDS, MOST_ROOM), DUMP);
+    has_written("the dump of no marks", dumped(SHEET, empty, WORDS, MOST_ROOM), DUMP_HEAD "#0\nx!\nx\"\nx#\n");
+    has_refused("a dump and a byte too little", dumped(SHEET, closed, WORDS, strlen(DUMP) - 1), MIKHAKUN_NO_ROOM, 0);
+    has_written("a dump read", undumped(SHEET, DUMP, strlen(SETTLED)), SETTLED);
+    has_written("a dump read in all room", undumped(SHEET, DUMP, MOST_ROOM), SETTLED);
+    has_written("a dump of nothing read", undumped(SHEET, DUMP_HEAD "#0\nx!\nz\"\nx#\n", 0), "");
+    has_refused("a dump read and a byte too little", undumped(SHEET, DUMP, strlen(SETTLED) - 1), MIKHAKUN_NO_ROOM, 0);
+    same("room for a dump", strlen(DUMP) <= mikhakun_dump_room(SIGNALS, 10), 1);
+    same("room for its readings", strlen(SETTLED) <= mikhakun_dump_readings_room(SIGNALS, 10), 1);
+}
+
+/* Another timescale, z, signs said again, and times without a sign: the same readings. */
+static void dumps_of_other_writers(void) {
+    static const char again[] = "$timescale 100 ps $end\n$scope module sheet $end\n" VARS "$upscope $end\n$enddefinitions $end\n"
+                                "#0\nz!\nz\"\nx#\n#1\n#3\n1!\n#6\n1!\n1\"\n#7\nz!\nz\"\nz#\n#8\n1#\n#9\nz!\nx#\n";
+    has_written("a dump with z and signs said again", undumped(SHEET, again, MOST_ROOM), SETTLED);
+    has_written("signs up to the window's end", undumped(SHEET, DUMP_HEAD "#0\nx!\nx\"\nx#\n#8\n0\"\n", MOST_ROOM), "at=8\nsignal=go10\nvalue=0\nat=9\nsignal=go10\nvalue=0\n");
+}
+
+/* A table of a wrong length, with a mark past the window, and with a clash in a signal's row and in the last row. */
+static void refused_dumps(const uint64_t *closed) {
+    uint64_t table[WORDS];
+    static const char torn[] = "window=10\n";
+    memcpy(table, closed, sizeof table);
+    table[0] |= table[1] = (uint64_t)1 << 9;
+    has_refused("the dump of a clash", dumped(SHEET, table, WORDS, 0), MIKHAKUN_CLASH, 0);
+    table[1] |= (uint64_t)1 << 10;
+    has_refused("the dump of a mark past the window", dumped(SHEET, table, WORDS, 0), MIKHAKUN_TABLE_MARK, 0);
+    has_refused("the dump of a table too short", dumped(SHEET, table, WORDS - 1, 0), MIKHAKUN_TABLE_LENGTH, 0);
+    has_refused("a dump by a torn sheet", dumped(torn, table, WORDS - 1, 0), MIKHAKUN_SHEET_LINE, strlen(torn));
+    memcpy(table, closed, sizeof table);
+    table[WORDS - 2] |= 1;
+    table[WORDS - 1] |= 1;
+    has_refused("the dump of a clash in the last row", dumped(SHEET, table, WORDS, MOST_ROOM), MIKHAKUN_CLASH, 0);
+    has_refused("a dump read by a torn sheet", undumped(torn, "", 0), MIKHAKUN_SHEET_LINE, strlen(torn));
+}
+
+/* A dump's text, what number it is refused by, and before which part of it the place is. */
+static void refused_dump_lines(void) {
+    static const struct { const char *before, *rest; uint64_t number; } cases[] = {
+        {"", "", MIKHAKUN_DUMP_LINE},
+        {"", "$timescale 2 s $end\n", MIKHAKUN_DUMP_LINE},
+        {"$timescale 1 s $end\n", "$date\n", MIKHAKUN_DUMP_LINE},
+        {"$timescale 1 s $end\n$scope module sheet $end\n", "$var wire 1 \" clear2 $end\n", MIKHAKUN_DUMP_LINE},
+        {"$timescale 1 s $end\n$scope module sheet $end\n", "$var wire 1 ! go10 $end\n", MIKHAKUN_DUMP_LINE},
+        {"$timescale 1 s $end\n$scope module sheet $end\n", "$var wire 1 ! $end\n", MIKHAKUN_DUMP_LINE},
+        {"$timescale 1 s $end\n$scope module sheet $end\n$var wire 1 ! ", "clear02 $end\n", MIKHAKUN_UNKNOWN_NAME},
+        {"$timescale 1 s $end\n$scope module sheet $end\n$var wire 1 ! ", " $end\n", MIKHAKUN_UNKNOWN_NAME},
+        {DUMP_HEAD, "#1\n", MIKHAKUN_DUMP_LINE},
+        {DUMP_HEAD "#0\n", "#1\n", MIKHAKUN_DUMP_LINE},
+        {DUMP_HEAD "#0\nx!\n", "x#\n", MIKHAKUN_DUMP_LINE},
+        {DUMP_HEAD "#0\nx!\nx\"\n", "", MIKHAKUN_DUMP_LINE},
+        {DUMP_HEAD "#0\nx!\nx\"\n", "x#", MIKHAKUN_DUMP_LINE},
+        {DUMP_HEAD "#0\nx!\nx\"\nx#\n", "1!\n", MIKHAKUN_DUMP_LINE},
+        {DUMP_HEAD "#0\nx!\nx\"\nx#\n", "#0\n", MIKHAKUN_DUMP_LINE},
+        {DUMP_HEAD "#0\nx!\nx\"\nx#\n", "#01\n", MIKHAKUN_DUMP_LINE},
+        {DUMP_HEAD "#0\nx!\nx\"\nx#\n", "#100000\n", MIKHAKUN_DUMP_LINE},
+        {DUMP_HEAD "#0\nx!\nx\"\nx#\n#", "10\n", MIKHAKUN_OUTSIDE_WINDOW},
+        {DUMP_HEAD "#0\nx!\nx\"\nx#\n#", "99999\n", MIKHAKUN_OUTSIDE_WINDOW},
+        {DUMP_HEAD "#0\nx!\nx\"\nx#\n#5\n1\"\n", "1!\n", MIKHAKUN_DUMP_LINE},
+        {DUMP_HEAD "#0\nx!\nx\"\nx#\n#5\n1\"\n", "0\"\n", MIKHAKUN_DUMP_LINE},
+        {DUMP_HEAD "#0\nx!\nx\"\nx#\n#5\n", "1$\n", MIKHAKUN_DUMP_LINE},
+        {DUMP_HEAD "#0\nx!\nx\"\nx#\n#5\n", "\n", MIKHAKUN_DUMP_LINE},
+    };
+    for (size_t i = 0; i < sizeof cases / sizeof *cases; i++) {
+        char dump[sizeof DUMP + 50];
+        strcat(strcpy(dump, cases[i].before), cases[i].rest);
+        has_refused(dump, undumped(SHEET, dump, MOST_ROOM), cases[i].number, strlen(cases[i].before));
+    }
+}
+
 /* A sheet of such a window whose rule carries a mark of a to b a tick later, or one of b back, and its empty table. */
 typedef struct {
     char text[80];
@@ -417,10 +511,23 @@ static void table_refused(Wide *wide, uint64_t words, uint64_t number) {
     free(before);
 }
 
+/* The mark of b at tick 64, after that of a at 63, in a dump, and read back. */
+static void dumped_over_a_border(const Wide *wide) {
+    static const char dump[] = "$timescale 1 s $end\n$scope module sheet $end\n$var wire 1 ! a $end\n$var wire 1 \" b $end\n$upscope $end\n$enddefinitions $end\n"
+                               "#0\nx!\nx\"\n#63\n1!\n#64\nx!\n1\"\n#65\nx\"\n";
+    char wanted[sizeof dump];
+    strcpy(wanted, dump);
+    if (wide->window == 65)
+        wanted[strlen(dump) - strlen("#65\nx\"\n")] = '\0';
+    has_written("a dump over a border", dumped(wide->text, wide->table, wide->words, MOST_ROOM), wanted);
+    has_written("a dump over a border, read", undumped(wide->text, wanted, MOST_ROOM), "at=63\nsignal=a\nvalue=1\nat=64\nsignal=b\nvalue=1\n");
+}
+
 /* Marks over the first border of words, forward and back; a table as long as a narrow window's; a mark just past the window in a row's last false word. */
 static void wide_window(uint64_t window) {
     Wide wide = wide_sheet(window);
     carries(&wide, "at=63\nsignal=a\nvalue=1\n", 1, MIKHAKUN_TRUE, 64);
+    dumped_over_a_border(&wide);
     carries(&wide, "at=64\nsignal=b\nvalue=0\n", 0, MIKHAKUN_FALSE, 63);
     table_refused(&wide, 2 * wide.rows, MIKHAKUN_TABLE_LENGTH);
     if (window % 64 != 0) {
@@ -483,6 +590,10 @@ int main(void) {
     rules_printed();
     longest_printed();
     refused_prints();
+    dumped_there_and_back(table);
+    dumps_of_other_writers();
+    refused_dumps(table);
+    refused_dump_lines();
     clash_is_told(table);
     free(table);
     for (size_t i = 0; i < sizeof windows / sizeof *windows; i++)

@@ -1,6 +1,7 @@
-/* How much stack a call takes: check, add, ask, the moves, figures and print_rule run on a painted stack, on sheets whose one rule is as deep as a rule can be,
- * in many ways. What is added and moved is two equal spans; figures run that text once, and several times. The rules that took most are tried again over the
- * widest window, whose table is 64 times as long, and there one with the most rows, with the longest texts of both forms.
+/* How much stack a call takes: check, add, ask, the moves, figures, print_rule, write_dump and read_dump run on a painted stack, on sheets whose one rule is as
+ * deep as a rule can be, in many ways. What is added and moved is two equal spans; figures run that text once, and several times; the dump has another sign at
+ * each tick. The rules that took most are tried again over the widest window, whose table is 64 times as long, and there one with the most rows, with the longest
+ * texts of both forms.
  * Prints the most that each took, and 'N passed, M failed' at the end: a call passes if it never took more than include/mikhakun.h asks for, the rule
  * of the most rows if it has them. */
 #define _POSIX_C_SOURCE 200809L
@@ -12,7 +13,7 @@
 #include <ucontext.h>
 
 enum { ASKED = 72 * 1024, STACK = 2 * ASKED, PAINT = 0xA5, LONGEST_RULE = 256, MOST_OPEN = 32, MOST_ROWS = 1024, NARROW = 64, WIDEST = 4096,
-       LONGEST_TEXT = 32768, LONGEST_ENTRY = 40, SEVERAL = 3 };
+       LONGEST_TEXT = 32768, LONGEST_ENTRY = 40, SEVERAL = 3, DUMP_ROOM = 40000, READINGS_ROOM = LONGEST_ENTRY * WIDEST };
 
 /* What is put around a rule's core, over and over, the first of them nothing; what the core is; and what fills the rest of the rule behind it. */
 static const struct { const char *open, *close; } NESTS[] = {
@@ -35,6 +36,8 @@ static uint8_t texts[SEVERAL * LONGEST_TEXT];
 static uint64_t lengths[SEVERAL];
 static mikhakun_record record;
 static uint64_t table[2 * MOST_ROWS * (WIDEST / 64)], words, rows, place, fresh, clash, value, length, number;
+static uint64_t signs[2 * MOST_ROWS * (WIDEST / 64)], dump_len;
+static uint8_t dump[DUMP_ROOM], said[READINGS_ROOM];
 
 static void check(void) { number = mikhakun_check((uint8_t *)sheet, strlen(sheet), &rows, &place); }
 static void add(void) { number = mikhakun_add((uint8_t *)sheet, strlen(sheet), (uint8_t *)readings, readings_len, table, words, &fresh, &clash, &place); }
@@ -55,11 +58,21 @@ static void figures_of_one(void) { figures(1); }
 static void figures_of_several(void) { figures(SEVERAL); }
 static void print_rule(void) { number = mikhakun_print_rule((uint8_t *)sheet, strlen(sheet), 0, out, sizeof out, &length, &place); }
 
+/* The table that is written has the signal true at every even tick and false at every odd one: so its dump is as long as one can be, and nothing clashes. */
+static void write_dump(void)
+{
+    size_t row_words = mikhakun_window((uint8_t *)sheet) / 64;
+    memset(signs, 0x55, row_words * sizeof *signs);
+    memset(signs + row_words, 0xAA, row_words * sizeof *signs);
+    number = mikhakun_write_dump((uint8_t *)sheet, strlen(sheet), signs, words, dump, sizeof dump, &dump_len, &place);
+}
+static void read_dump(void) { number = mikhakun_read_dump((uint8_t *)sheet, strlen(sheet), dump, dump_len, said, sizeof said, &length, &place); }
+
 static struct { const char *name; void (*call)(void); size_t most; int window; char rule[LONGEST_RULE + 1]; } calls[] = {
     {.name = "check", .call = check}, {.name = "add", .call = add}, {.name = "ask", .call = ask},
     {.name = "to_spans", .call = to_spans}, {.name = "to_readings", .call = to_readings},
     {.name = "figures of a text", .call = figures_of_one}, {.name = "figures of several texts", .call = figures_of_several},
-    {.name = "print_rule", .call = print_rule},
+    {.name = "print_rule", .call = print_rule}, {.name = "write_dump", .call = write_dump}, {.name = "read_dump", .call = read_dump},
 };
 
 /* How many bytes a call takes of the stack, which is painted before it: from the top down to the last byte whose paint is gone. Paints it again. */

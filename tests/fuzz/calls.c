@@ -2,7 +2,8 @@
  * promises: what it may answer, what it writes and what it leaves. The first breach is told in a line and ends the program. What the moves must write is
  * made from what the readings add to a table without rules. The figures are those of the readings, of no text, and of the readings cut in two and whole; what
  * they must be is counted after adds of each text to an empty table. A rule's printed text must stay the same when it is printed again, be another rule or none
- * without a pair of its parentheses, and, alone in the sheet, make the same of a table as the rule that was written.
+ * without a pair of its parentheses, and, alone in the sheet, make the same of a table as the rule that was written. A table's dump is made here too, and so are
+ * the readings that it must be read back to; the readings are also read as a dump, and what an accepted one says must come back by way of a table.
  *
  * The input is the sheet's bytes, a zero byte, the readings' bytes, a zero byte, and then, each a byte: the signal asked for, which is the number of a rule to
  * be printed too, the tick in its word, that word, by how many words the table is too long, and three for each mark of the table that is lent: its word (two
@@ -22,18 +23,19 @@
 
 enum { PAGE = 4096, LONGEST_INPUT = 1 << 17, OFTEN_LENT = 2 * 1024 * 8, MOST_WORDS = 2 * 1024 * 64 + 255, STACK = (72 + 2) * 1024,
        LONGEST_TEXT = 32768, LONGEST_ENTRY = 64, MOST_ROOM = LONGEST_TEXT + LONGEST_ENTRY, MOST_SIGNALS = 64, MOST_SAID = 2 * MOST_SIGNALS * 64,
-       MOST_TEXTS = 64, OFTEN_RUN = 1024, MOST_RULES = 64, LONGEST_RULE = MIKHAKUN_RULE_BYTES };
+       MOST_TEXTS = 64, OFTEN_RUN = 1024, MOST_RULES = 64, LONGEST_RULE = MIKHAKUN_RULE_BYTES, OFTEN_DUMPED = 4096, MOST_DUMP = 900000, MOST_DUMPED = 10600000 };
 static const uint64_t UNWRITTEN = 0x5EC02D5EC02D5EC0;
 
 /* What the fuzzer is told beside the blocks of code that were reached: which answers were given, and how large the results were. */
 enum { CHECK = 0, ADD = 30, ASK = 60, TO_SPANS = 90, TO_READINGS = 120, FIGURES = 150, PRINT_RULE = 180, ROWS = 210, FRESH = 240, VALUE = 270, WRITTEN = 300,
-       PRINTED = 340, KINDS = 360 };
+       PRINTED = 340, WRITE_DUMP = 360, READ_DUMP = 390, DUMPED = 420, UNDUMPED = 440, KINDS = 460 };
 static uint8_t told[KINDS] __attribute__((section("__libfuzzer_extra_counters")));
 
 /* How many inputs there were, and in how many of them the sheet was accepted, the add, an add to a table of several words a row and value, the readings
  * (whatever the table), readings that were spans, figures of several texts, and figures of which some runs clashed and others did not. How many rules were
- * printed, of these not as they were written, and how many had a text over its limit. */
-static uint64_t inputs, sheets, adds, wide_adds, texts, span_texts, counted, part_clashed, printed, changed, too_long;
+ * printed, of these not as they were written, and how many had a text over its limit. How many tables were written as dumps, how many clashed, and how many dumps
+ * of the input were read, of these not as a table would be written. */
+static uint64_t inputs, sheets, adds, wide_adds, texts, span_texts, counted, part_clashed, printed, changed, too_long, dumps, clashing, dumps_read, other_dumps;
 
 void tell_counts(FILE *to)
 {
@@ -41,6 +43,7 @@ void tell_counts(FILE *to)
     fprintf(to, "with accepted readings, moved both ways: %lu, of these spans: %lu\n", texts, span_texts);
     fprintf(to, "with accepted figures of several texts: %lu, of these with some clashing: %lu\n", counted, part_clashed);
     fprintf(to, "rules printed: %lu, of these not as written: %lu; over 256 bytes: %lu\n", printed, changed, too_long);
+    fprintf(to, "tables written as dumps: %lu, and refused for a clash: %lu; dumps read: %lu, of these not as written: %lu\n", dumps, clashing, dumps_read, other_dumps);
 }
 
 static void must_hold(int holds, const char *what)
@@ -70,7 +73,7 @@ static void *lend(Area area, const void *from, size_t bytes, int low)
     return at;
 }
 
-static Area sheet_area, readings_area, moved_area, rule_area, out_area, table_area, texts_area, lengths_area, records_area, stack_area;
+static Area sheet_area, readings_area, moved_area, rule_area, out_area, table_area, texts_area, lengths_area, records_area, dump_area, stack_area;
 
 /* The input, taken apart. */
 typedef struct { const uint8_t *start; size_t len; } Text;
@@ -118,10 +121,22 @@ static struct { uint8_t bytes[2 * LONGEST_INPUT]; uint64_t lengths[MOST_TEXTS + 
 
 static int table_kept(void) { return memcmp(before, table, 8 * words) == 0; }
 
+/* The dump that is read. */
+static Text dump;
+
+/* Where a refusal of a dump may be placed: at a line or the text's end; after the key of a signal's line; after the sign of a time. */
+static int place_in_dump(uint64_t number, uint64_t place)
+{
+    if (number == 22) return place <= dump.len && (place == 0 || dump.start[place - 1] == '\n');
+    if (place >= dump.len) return 0;
+    return number == 13 ? place > 0 && dump.start[place - 1] == '#' : place >= 14 && memcmp(dump.start + place - 14, "$var wire 1 ", 12) == 0;
+}
+
 /* Where a refusal may be placed: in the sheet, in the readings or the joined texts, or at 0. A missing line is at the text's end. */
 static int place_allowed(int call, uint64_t number, uint64_t place)
 {
     size_t length = call == FIGURES ? joined.len : readings.len;
+    if (call == READ_DUMP && (number == 12 || number == 13 || number == 22)) return place_in_dump(number, place);
     if (number == 2) return place <= sheet.len;
     if (number >= 3 && number <= 8) return place < sheet.len;
     if (number == 11) return place <= length;
@@ -138,6 +153,8 @@ static int number_allowed(int call, uint64_t number)
     if (call == ASK) return of_table || number == 17;
     if (call == FIGURES) return of_readings || number == 15 || number == 18 || number == 19;
     if (call == PRINT_RULE) return number == 17 || number == 20;
+    if (call == WRITE_DUMP) return of_table || number == 20 || number == 23;
+    if (call == READ_DUMP) return number == 12 || number == 13 || number == 20 || number == 22;
     return (call == TO_SPANS || call == TO_READINGS) && (of_readings || number == 20);
 }
 
@@ -213,7 +230,7 @@ static Move *const to_form[FORMS] = { mikhakun_to_spans, mikhakun_to_readings };
 static int form_of_readings(void) { return readings.len > 0 && readings.start[0] == 'f' ? SPANS : SINGLE; }
 
 /* What the lent buffer holds before a call: bytes that no text has. */
-static uint8_t unwritten[MOST_ROOM], *out;
+static uint8_t unwritten[MOST_DUMPED], *out;
 
 /* A call writes the text, whose length it answers, and nothing else. */
 static void must_write_alone(Answer a, size_t room, size_t longest)
@@ -242,6 +259,33 @@ static Answer print_rule(uint64_t rule, size_t room)
     a.number = mikhakun_print_rule(lent_sheet, sheet.len, rule, out, room, &a.value, &a.place);
     must_be_whole(PRINT_RULE, a);
     must_write_alone(a, room, LONGEST_RULE);
+    return a;
+}
+
+/* The table as a dump, in a buffer of so many bytes. */
+static Answer write_dump(size_t room)
+{
+    Answer a = { 0, UNWRITTEN, UNWRITTEN, 0 };
+    out = lend(out_area, unwritten, room, low);
+    memcpy(before, table, 8 * words);
+    a.number = mikhakun_write_dump(lent_sheet, sheet.len, table, words, out, room, &a.value, &a.place);
+    must_be_whole(WRITE_DUMP, a);
+    must_write_alone(a, room, MOST_DUMP);
+    MUST(table_kept());
+    return a;
+}
+
+/* A dump read into a buffer of so many bytes. */
+static Answer read_dump(Text text, size_t room)
+{
+    Answer a = { 0, UNWRITTEN, UNWRITTEN, 0 };
+    const uint8_t *lent = lend(dump_area, text.start, text.len, low);
+    out = lend(out_area, unwritten, room, low);
+    dump = text;
+    a.number = mikhakun_read_dump(lent_sheet, sheet.len, lent, text.len, out, room, &a.value, &a.place);
+    must_be_whole(READ_DUMP, a);
+    must_write_alone(a, room, MOST_DUMPED);
+    MUST(memcmp(lent, text.start, text.len) == 0);
     return a;
 }
 
@@ -292,12 +336,13 @@ static int marked_outside(void)
 static uint64_t signal_asked(void) { return number_at(0); }
 static uint64_t tick_asked(void) { return number_at(1) + 64 * number_at(2); }
 
-/* A refused sheet, or a table of a wrong length: add and ask give that refusal. */
+/* A refused sheet, or a table of a wrong length: add, ask and write_dump give that refusal. */
 static void must_be_refused(uint64_t number, uint64_t place)
 {
-    Answer added = add(lent_readings, readings.len), asked = ask(signal_asked(), tick_asked());
+    Answer added = add(lent_readings, readings.len), asked = ask(signal_asked(), tick_asked()), written = write_dump(some_room);
     MUST(added.number == number && added.place == place);
     MUST(asked.number == number && asked.place == place);
+    MUST(written.number == number && written.place == place);
 }
 
 /* Ask tells what the table's words say. */
@@ -640,6 +685,172 @@ static void must_not_be_printed(uint64_t number, uint64_t place)
     MUST(a.number == number && a.place == place);
 }
 
+/* A dump and the readings that it says, made of a table's words. */
+static struct { char dump[MOST_DUMP], readings[MOST_DUMPED]; size_t dump_len, readings_len; } made;
+
+/* The sign of a signal at a tick. */
+static char sign_in(const uint64_t *marks, uint64_t signal, uint64_t tick)
+{
+    const uint64_t *word = marks + 2 * signal * row_words + tick / 64;
+    if (word[0] >> tick % 64 & 1) return '1';
+    return word[row_words] >> tick % 64 & 1 ? '0' : 'x';
+}
+
+/* Makes what a dump has for a tick: the signs that are new there, and a reading for each 0 and 1. */
+static void make_tick(const uint64_t *marks, uint64_t tick)
+{
+    char *at = made.dump + made.dump_len, *line = made.readings + made.readings_len;
+    int any = 0;
+    for (uint64_t signal = 0; signal < signals; signal++) {
+        char sign = sign_in(marks, signal, tick);
+        if (sign != 'x') line += sprintf(line, "at=%lu\nsignal=%.*s\nvalue=%c\n", tick, (int)names[signal].len, (const char *)names[signal].start, sign);
+        if (tick > 0 && sign == sign_in(marks, signal, tick - 1)) continue;
+        if (!any) at += sprintf(at, "#%lu\n", tick);
+        any = 1;
+        at += sprintf(at, "%c%c\n", sign, (int)(33 + signal));
+    }
+    made.dump_len = (size_t)(at - made.dump);
+    made.readings_len = (size_t)(line - made.readings);
+}
+
+/* Makes both of a table of which only the signals' rows count. */
+static void make_dump(const uint64_t *marks)
+{
+    char *at = made.dump + sprintf(made.dump, "$timescale 1 s $end\n$scope module sheet $end\n");
+    for (uint64_t signal = 0; signal < signals; signal++)
+        at += sprintf(at, "$var wire 1 %c %.*s $end\n", (int)(33 + signal), (int)names[signal].len, (const char *)names[signal].start);
+    at += sprintf(at, "$upscope $end\n$enddefinitions $end\n");
+    made.dump_len = (size_t)(at - made.dump);
+    made.readings_len = 0;
+    for (uint64_t tick = 0; tick < window; tick++) make_tick(marks, tick);
+    MUST(made.dump_len <= mikhakun_dump_room(signals, window) && made.readings_len <= mikhakun_dump_readings_room(signals, window));
+}
+
+/* The dump that was made, with another timescale and z for x, says the same. */
+static void other_words_must_be_read(void)
+{
+    static char other[MOST_DUMP];
+    static const char timescale[] = "$timescale 100 fs $end\n";
+    size_t first_line = strlen("$timescale 1 s $end\n"), length = strlen(timescale);
+    memcpy(other, timescale, length);
+    memcpy(other + length, made.dump + first_line, made.dump_len - first_line);
+    length += made.dump_len - first_line;
+    for (size_t at = 0; at + 2 < length; at++)
+        if (other[at] == '\n' && other[at + 1] == 'x') other[at + 1] = 'z';
+    Answer a = read_dump((Text){ (const uint8_t *)other, length }, made.readings_len);
+    MUST(a.number == 0 && a.value == made.readings_len && memcmp(out, made.readings, made.readings_len) == 0);
+}
+
+/* The dump that was made is read to the readings that were made, and to no others. */
+static void made_must_be_read(void)
+{
+    Text text = { (const uint8_t *)made.dump, made.dump_len };
+    Answer a = read_dump(text, made.readings_len + some_room);
+    MUST(a.number == 0 && a.value == made.readings_len && memcmp(out, made.readings, made.readings_len) == 0);
+    MUST(made.readings_len == 0 || read_dump(text, made.readings_len - 1).number == 20);
+    other_words_must_be_read();
+}
+
+/* After the first time of an accepted dump, times rise inside the window, and signs at one time go up. */
+static void must_be_in_order(Text text)
+{
+    const uint8_t *at = text.start, *end = text.start + text.len;
+    uint64_t time = 0, next = 0;
+    int started = 0;
+    for (; at < end; at = (const uint8_t *)memchr(at, '\n', (size_t)(end - at)) + 1) {
+        started |= at[0] == '#';
+        if (!started) continue;
+        if (at[0] == '#') {
+            uint64_t later = strtoul((const char *)at + 1, NULL, 10);
+            MUST((at[1] == '0' ? at[2] == '\n' && time == 0 : later > time) && later < window);
+            time = later;
+            next = 33;
+        } else {
+            MUST(strchr("01xz", at[0]) != NULL && at[1] >= next && at[1] < 33 + signals && at[2] == '\n');
+            next = at[1] + 1u;
+        }
+    }
+}
+
+/* The longest dumps take milliseconds, as the longest tables do. */
+static int is_dumped(void) { return signals * window <= OFTEN_DUMPED || any_length; }
+
+/* The table is written as the dump that is made of its words, which is read back; or it clashes. */
+static void must_be_dumped(void)
+{
+    if (clashes()) {
+        MUST(write_dump(some_room).number == 23);
+        clashing++;
+        return;
+    }
+    if (!is_dumped()) return;
+    make_dump(table);
+    Answer a = write_dump(made.dump_len + some_room);
+    MUST(a.number == 0 && a.value == made.dump_len && memcmp(out, made.dump, made.dump_len) == 0);
+    MUST(write_dump(made.dump_len - 1).number == 20);
+    made_must_be_read();
+    dumps++;
+    told[DUMPED + bits(made.dump_len)] = 1;
+}
+
+/* The number in a line after its key, if the line is that. Goes past it. */
+static int number_in(const char **at, const char *key, uint64_t *number)
+{
+    char *end;
+    if (strncmp(*at, key, strlen(key)) != 0) return 0;
+    *number = strtoul(*at + strlen(key), &end, 10);
+    *at = end + 1;
+    return *end == '\n';
+}
+
+/* Takes the marks of readings that read_dump wrote, which come by tick, then signal, each once. */
+static void mark_readings(const char *at, const char *end, uint64_t *marks)
+{
+    uint64_t tick, value, next = 0, signal;
+    while (at < end) {
+        MUST(number_in(&at, "at=", &tick) && tick < window && strncmp(at, "signal=", 7) == 0);
+        const char *name = at + 7, *lf = strchr(name, '\n');
+        for (signal = 0; signal < signals; signal++)
+            if (names[signal].len == (size_t)(lf - name) && memcmp(names[signal].start, name, names[signal].len) == 0) break;
+        at = lf + 1;
+        MUST(signal < signals && tick * signals + signal >= next && number_in(&at, "value=", &value) && value <= 1);
+        next = tick * signals + signal + 1;
+        marks[(2 * signal + (value == 0)) * row_words + tick / 64] |= (uint64_t)1 << tick % 64;
+    }
+    MUST(at == end);
+}
+
+/* The readings of the input, read as a dump: if it is one, the readings that it says are those of a table, and of that table's dump. */
+static void may_be_a_dump(void)
+{
+    static uint64_t marks[MOST_SAID];
+    static char text[MOST_DUMPED + 1];
+    Answer first = read_dump(readings, some_room);
+    if (first.number != 0 && first.number != 20) return;
+    must_be_in_order(readings);
+    if (!is_dumped()) return;
+    Answer a = read_dump(readings, mikhakun_dump_readings_room(signals, window));
+    MUST(a.number == 0 && (first.number == 20) == (a.value > some_room));
+    memcpy(text, out, a.value);
+    text[a.value] = '\0';
+    MUST(read_dump(readings, a.value).number == 0 && (a.value == 0 || read_dump(readings, a.value - 1).number == 20));
+    memset(marks, 0, 8 * 2 * signals * row_words);
+    mark_readings(text, text + a.value, marks);
+    make_dump(marks);
+    MUST(made.readings_len == a.value && memcmp(made.readings, text, a.value) == 0);
+    made_must_be_read();
+    dumps_read++;
+    other_dumps += made.dump_len != readings.len || memcmp(made.dump, readings.start, readings.len) != 0;
+    told[UNDUMPED + bits(a.value)] = 1;
+}
+
+/* A refused sheet: no dump is read. */
+static void must_not_be_read(uint64_t number, uint64_t place)
+{
+    Answer a = read_dump(readings, some_room);
+    MUST(a.number == number && a.place == place);
+}
+
 static void join_none(void) { joined.len = joined.runs = 0; }
 
 static void join(Text text)
@@ -787,6 +998,7 @@ static void accepted_sheet(uint64_t rows)
     read_rules();
     Answer moved = must_be_moved();
     some_must_be_printed();
+    may_be_a_dump();
     size_t length = mikhakun_words(rows, window), too_long = rest.len > 3 ? rest.start[3] : 0;
     MUST(length == 2 * rows * row_words);
     if (length > OFTEN_LENT && !any_length) return;
@@ -799,12 +1011,14 @@ static void accepted_sheet(uint64_t rows)
         return;
     }
     must_be_told();
+    must_be_dumped();
     Answer added = add(lent_readings, readings.len);
     MUST(added.number == moved.number && added.place == moved.place);
     if (added.number == 0) must_be_closed(added);
     adds += added.number == 0;
     wide_adds += added.number == 0 && row_words > 1;
     must_be_told();
+    if (added.number == 0) must_be_dumped();
 }
 
 static ucontext_t outside, inside;
@@ -821,6 +1035,7 @@ static void calls(void)
         must_not_be_counted(checked.number, checked.place);
         must_not_move(checked.number, checked.place);
         must_not_be_printed(checked.number, checked.place);
+        must_not_be_read(checked.number, checked.place);
     }
 }
 
@@ -832,7 +1047,8 @@ int LLVMFuzzerTestOneInput(const uint8_t *data, size_t size)
         readings_area = area(LONGEST_INPUT);
         moved_area = area(LONGEST_TEXT);
         rule_area = area(LONGEST_TEXT + LONGEST_RULE);
-        out_area = area(MOST_ROOM);
+        out_area = area(MOST_DUMPED);
+        dump_area = area(MOST_DUMP);
         memset(unwritten, 0xA5, sizeof unwritten);
         table_area = area(8 * MOST_WORDS);
         texts_area = area(2 * LONGEST_INPUT);

@@ -1,5 +1,6 @@
 //! The comparison: every call of every case is made on both sides; answers, outputs, tables, written texts and records must be the same.
 
+mod dumps;
 mod figures;
 mod moves;
 mod parts;
@@ -70,6 +71,12 @@ fn compare(case: &Case, seen: &mut Seen) -> Result<(), String> {
     }
     for call in &case.prints {
         print::compare(call, &mut met)?;
+    }
+    for call in &case.dumps_written {
+        dumps::compare_writing(&case.sheet, call, &mut met)?;
+    }
+    for call in &case.dumps_read {
+        dumps::compare_reading(&case.sheet, call, &mut met)?;
     }
     seen.count(met);
     Ok(())

@@ -4,6 +4,8 @@ mod borders;
 mod clumsy;
 mod damage;
 mod draft;
+mod dump_text;
+pub mod dumps;
 mod faults;
 pub mod figures;
 mod formula;
@@ -25,6 +27,7 @@ mod windows;
 
 use crate::operations::read;
 use crate::text::name::{self, Name};
+use dumps::{ReadDump, WriteDump};
 use figures::Figures;
 use moves::Move;
 use print::Print;
@@ -53,6 +56,10 @@ pub struct Case {
     pub figures: Vec<Figures>,
     /// Calls that take no table, some with a sheet of their own.
     pub prints: Vec<Print>,
+    /// Calls with tables of their own.
+    pub dumps_written: Vec<WriteDump>,
+    /// Calls that take no table.
+    pub dumps_read: Vec<ReadDump>,
 }
 
 /// What the rest of a case needs to know of its sheet; of a refused sheet it is made up.
@@ -64,7 +71,7 @@ pub struct Shape {
     rows: usize,
 }
 
-/// One case in forty has moves whose texts are as long as allowed, or longer.
+/// One case in forty has moves whose texts are as long as allowed, or longer, and long dumps.
 pub fn case(seed: u64, number: u64) -> Case {
     let mut random = Random::new(seed, number);
     if number % 40 == 0 {
@@ -79,6 +86,10 @@ pub fn case(seed: u64, number: u64) -> Case {
     let figures = (0..random.below(3)).map(|_| figures::any(&mut random, &shape));
     let figures = figures.collect();
     let prints = print::calls(&mut random, &sheet);
+    let dumps_written = (0..random.below(3)).map(|_| dumps::to_write(&mut random, &sheet, &shape));
+    let dumps_written = dumps_written.collect();
+    let dumps_read = (0..random.below(4)).map(|_| dumps::to_read(&mut random, &sheet, &shape));
+    let dumps_read = dumps_read.collect();
     Case {
         sheet,
         table,
@@ -86,6 +97,8 @@ pub fn case(seed: u64, number: u64) -> Case {
         moves,
         figures,
         prints,
+        dumps_written,
+        dumps_read,
     }
 }
 
@@ -95,12 +108,19 @@ fn full_case(random: &mut Random) -> Case {
     let moves = (0..4).map(|_| moves::full(random, &shape));
     let moves = moves.collect();
     Case {
-        sheet,
         table: vec![],
         calls: vec![],
         moves,
         figures: vec![figures::any(random, &shape)],
         prints: vec![],
+        dumps_written: vec![
+            dumps::to_write(random, &sheet, &shape),
+            dumps::busy_to_write(random, &sheet, &shape),
+        ],
+        dumps_read: (0..3)
+            .map(|_| dumps::to_read(random, &sheet, &shape))
+            .collect(),
+        sheet,
     }
 }
 

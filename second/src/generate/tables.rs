@@ -43,7 +43,7 @@ fn every_word(table: &mut [u64], window: usize, mut word_of: impl FnMut(u64) -> 
 }
 
 /// A mark past the window in the last word of a block, where the window does not fill that word.
-fn mark_outside(random: &mut Random, table: &mut [u64], rows: usize, window: usize) {
+pub fn mark_outside(random: &mut Random, table: &mut [u64], rows: usize, window: usize) {
     let first = window % WORD;
     if first == 0 {
         return;
@@ -55,7 +55,7 @@ fn mark_outside(random: &mut Random, table: &mut [u64], rows: usize, window: usi
 }
 
 /// A wrong length; now and then with marks as well.
-fn resize(random: &mut Random, table: &mut Vec<u64>, rows: usize) {
+pub fn resize(random: &mut Random, table: &mut Vec<u64>, rows: usize) {
     let length = wrong_length(random, table.len(), rows);
     table.resize(length, 0);
     if length > 0 && random.chance(30) {

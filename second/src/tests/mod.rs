@@ -1,8 +1,9 @@
 //! Unit tests: the proved cases, the refusal table, names, the lowering, the closing, tables of several words, spans, the moves, figures,
-//! printed rules and the generator; and how they write texts.
+//! printed rules, dumps and the generator; and how they write texts.
 
 mod borders;
 mod closing;
+mod dumps;
 mod figures;
 mod generator;
 mod listed;
