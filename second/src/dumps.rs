@@ -2,7 +2,7 @@
 
 use crate::infer::Marks;
 use crate::operations::read;
-use crate::table::{length, marks_of, write as write_words};
+use crate::table::{length, marks_of, write as write_table};
 use crate::text::lines::{number, Lines, Value};
 use crate::text::name::{find, Name};
 use crate::text::readings::Form;
@@ -11,18 +11,26 @@ use std::ops::Range;
 
 /// A signal's value at a tick; none where it is unsettled.
 pub type Sign = Option<bool>;
+
 /// The signs of each tick, from 0; at each tick those of the signals in sheet order.
 pub type Signs = Vec<Vec<Sign>>;
 
 /// The numbers and units of a timescale. The first of each is written, any is read.
 pub const SCALES: [&str; 3] = ["1", "10", "100"];
+
 pub const UNITS: [&str; 6] = ["s", "ms", "us", "ns", "ps", "fs"];
+
+/// The lines that are the same in every dump.
 const SCOPE: &str = "$scope module sheet $end";
 const UPSCOPE: &str = "$upscope $end";
-const END: &str = "$enddefinitions $end";
-const START: &str = "#0";
-/// What ends the line of a signal, after its name.
-const VAR_END: &str = " $end";
+const END_OF_DEFINITIONS: &str = "$enddefinitions $end";
+const FIRST_TIME: &str = "#0";
+
+/// What stands after the name in a signal's line.
+const AFTER_NAME: &str = " $end";
+
+/// The refusal of a line that is missing or not one of a dump's.
+const NO_LINE: u64 = 22;
 
 /// Writes the table's dump to the buffer's first bytes; answers how many these are.
 pub fn write_dump(sheet: &[u8], table: &[u64], out: &mut [u8]) -> Result<u64, Refusal> {
@@ -54,14 +62,11 @@ pub fn readings(sheet: &[u8], dump: &[u8]) -> Result<String, Refusal> {
 
 /// What the marks say of the first rows, which are those of the signals.
 pub fn signs_in(marks: &Marks, signals: usize, window: usize) -> Signs {
-    let sign = |signal: usize, tick: usize| {
-        let (held, failed) = (
-            marks.has(signal, tick, true),
-            marks.has(signal, tick, false),
-        );
-        (held || failed).then_some(held)
+    let sign = |signal, tick| {
+        let mut values = [true, false].into_iter();
+        values.find(|&value| marks.has(signal, tick, value))
     };
-    let at = |tick: usize| (0..signals).map(|signal| sign(signal, tick)).collect();
+    let at = |tick| (0..signals).map(|signal| sign(signal, tick)).collect();
     (0..window).map(at).collect()
 }
 
@@ -69,146 +74,148 @@ pub fn signs_in(marks: &Marks, signals: usize, window: usize) -> Signs {
 pub fn table_of(signs: &[Vec<Sign>], rows: usize) -> Vec<u64> {
     let window = signs.len();
     let mut marks = Marks::none(rows, window);
-    for (tick, now) in signs.iter().enumerate() {
-        for (signal, sign) in now.iter().enumerate() {
-            if let Some(value) = *sign {
-                marks.set(signal, tick, value);
-            }
-        }
+    for (tick, signal, value) in settled(signs) {
+        marks.set(signal, tick, value);
     }
     let mut table = vec![0; length(rows, window)];
-    write_words(&marks, window, &mut table);
+    write_table(&marks, window, &mut table);
     table
+}
+
+/// Each 0 and 1 as tick, signal and value, by tick, then signal.
+fn settled(signs: &[Vec<Sign>]) -> impl Iterator<Item = (usize, usize, bool)> + '_ {
+    signs.iter().enumerate().flat_map(|(tick, now)| {
+        let now = now.iter().enumerate();
+        now.filter_map(move |(signal, sign)| Some((tick, signal, (*sign)?)))
+    })
 }
 
 /// The first lines, all signs at tick 0, and at each later tick those that change.
 pub fn dump_text(names: &[Name], signs: &[Vec<Sign>]) -> String {
-    let mut text = timescale(SCALES[0], UNITS[0]) + "\n" + SCOPE + "\n";
-    for (signal, name) in names.iter().enumerate() {
-        text += &format!("{}{name}{VAR_END}\n", var_key(signal));
-    }
-    text += &format!("{UPSCOPE}\n{END}\n");
+    let mut text = head_text(names);
     for (tick, now) in signs.iter().enumerate() {
-        let changes = |&signal: &usize| tick == 0 || signs[tick - 1][signal] != now[signal];
-        let changed: Vec<usize> = (0..names.len()).filter(changes).collect();
-        if !changed.is_empty() {
-            text += &format!("#{tick}\n");
-        }
-        for signal in changed {
-            text += &format!("{}{}\n", letter(now[signal]), id(signal));
+        let is_said = |signal: &usize| tick == 0 || signs[tick - 1][*signal] != now[*signal];
+        let said = (0..names.len()).filter(is_said);
+        let lines = said.map(|signal| format!("{}{}\n", letter(now[signal]), id(signal)));
+        let lines: String = lines.collect();
+        if !lines.is_empty() {
+            text += &format!("#{tick}\n{lines}");
         }
     }
     text
+}
+
+/// The lines before the first time.
+fn head_text(names: &[Name]) -> String {
+    let timescale = timescale(SCALES[0], UNITS[0]);
+    let mut text = format!("{timescale}\n{SCOPE}\n");
+    for (signal, name) in names.iter().enumerate() {
+        text += &format!("{}{name}{AFTER_NAME}\n", var_key(signal));
+    }
+    text + &format!("{UPSCOPE}\n{END_OF_DEFINITIONS}\n")
 }
 
 /// A reading for each 0 and 1, by tick, then signal.
 pub fn readings_text(names: &[Name], signs: &[Vec<Sign>]) -> String {
-    let mut text = String::new();
-    for (tick, now) in signs.iter().enumerate() {
-        for (name, sign) in names.iter().zip(now) {
-            if let Some(value) = *sign {
-                text += &Form::Readings.lines((tick, tick), name, u8::from(value));
-            }
-        }
-    }
-    text
+    let reading = |(tick, signal, value): (usize, usize, bool)| {
+        Form::Readings.lines((tick, tick), &names[signal], u8::from(value))
+    };
+    settled(signs).map(reading).collect()
 }
 
 /// The signs that a dump says, line by line: each holds until the signal's next or the window's end.
 pub fn signs_of(dump: &[u8], window: usize, names: &[Name]) -> Result<Signs, Refusal> {
-    let mut lines = Lines::new(dump, 22);
+    let mut lines = Lines::new(dump, NO_LINE);
     read_head(&mut lines, names)?;
-    let mut first = vec![];
-    for signal in 0..names.len() {
-        let (_, sign) = sign_line(&lines.line("")?, signal..signal + 1)?;
-        first.push(sign);
-    }
-    let (mut signs, mut next) = (vec![first], names.len());
+    let mut now = read_first_signs(&mut lines, names.len())?;
+    // The signs of the ticks before `time`; those of its signals from `next` on may still be said.
+    let mut signs = vec![];
+    let (mut time, mut next) = (0, names.len());
     while !lines.at_end() {
         let line = lines.line("")?;
         if line.bytes.starts_with(b"#") {
-            let tick = time_line(&line, signs.len(), window)?;
-            hold(&mut signs, tick + 1);
+            time = later_time(&line, time, window)?;
             next = 0;
+            signs.resize(time, now.clone());
         } else {
-            let (signal, sign) = sign_line(&line, next..names.len())?;
-            let now = signs.len() - 1;
-            signs[now][signal] = sign;
+            let (signal, sign) = read_sign(&line, next..names.len())?;
+            now[signal] = sign;
             next = signal + 1;
         }
     }
-    hold(&mut signs, window);
+    signs.resize(window, now);
     Ok(signs)
 }
 
-/// The lines up to `#0`.
+/// The lines before the first time.
 fn read_head(lines: &mut Lines, names: &[Name]) -> Result<(), Refusal> {
-    take(lines, is_timescale)?;
-    take(lines, |line| line == SCOPE.as_bytes())?;
+    let of_scale = |scale| UNITS.map(|unit| timescale(scale, unit));
+    one_of(lines, &SCALES.map(of_scale).concat())?;
+    one_of(lines, &[SCOPE])?;
     for signal in 0..names.len() {
-        var_line(lines, signal, names)?;
+        read_var(lines, signal, names)?;
     }
-    take(lines, |line| line == UPSCOPE.as_bytes())?;
-    take(lines, |line| line == END.as_bytes())?;
-    take(lines, |line| line == START.as_bytes())
+    one_of(lines, &[UPSCOPE])?;
+    one_of(lines, &[END_OF_DEFINITIONS])
 }
 
-fn is_timescale(line: &[u8]) -> bool {
-    let with = |scale: &str, unit: &str| timescale(scale, unit).as_bytes() == line;
-    let mut scales = SCALES.iter();
-    scales.any(|scale| UNITS.iter().any(|unit| with(scale, unit)))
-}
-
-/// Takes a line of which this holds.
-fn take(lines: &mut Lines, holds: impl Fn(&[u8]) -> bool) -> Result<(), Refusal> {
+/// A line that is one of these.
+fn one_of<T: AsRef<[u8]>>(lines: &mut Lines, wanted: &[T]) -> Result<(), Refusal> {
     let line = lines.line("")?;
-    if holds(line.bytes) {
+    if wanted.iter().any(|wanted| wanted.as_ref() == line.bytes) {
         Ok(())
     } else {
-        refuse(22, line.place)
+        refuse(NO_LINE, line.place)
     }
 }
 
-/// Takes the line of a signal: its form, then what stands in the name's place.
-fn var_line(lines: &mut Lines, signal: usize, names: &[Name]) -> Result<(), Refusal> {
-    let (line, key) = (lines.line("")?, var_key(signal));
-    let after_key = line.bytes.strip_prefix(key.as_bytes());
-    let name = match after_key.and_then(|rest| rest.strip_suffix(VAR_END.as_bytes())) {
-        Some(name) => name,
-        None => return refuse(22, line.place),
+/// The line of the signal, with its own name.
+fn read_var(lines: &mut Lines, signal: usize, names: &[Name]) -> Result<(), Refusal> {
+    let key = var_key(signal);
+    let rest = lines.line(&key)?;
+    let start = rest.place - key.len();
+    let Some(name) = rest.bytes.strip_suffix(AFTER_NAME.as_bytes()) else {
+        return refuse(NO_LINE, start);
     };
     match find(name, names) {
         Some(found) if found == signal => Ok(()),
-        Some(_) => refuse(22, line.place),
-        None => refuse(12, line.place + key.len()),
+        Some(_) => refuse(NO_LINE, start),
+        None => refuse(12, rest.place),
     }
 }
 
-/// The sign in a line, and its signal, which has to be one of these.
-fn sign_line(line: &Value, allowed: Range<usize>) -> Result<(usize, Sign), Refusal> {
-    let found = match *line.bytes {
-        [letter, id_byte] => allowed
-            .into_iter()
-            .find(|&signal| id(signal) == char::from(id_byte))
-            .zip(sign_by(letter)),
-        _ => None,
-    };
-    found.map_or_else(|| refuse(22, line.place), Ok)
+/// The first time and, after it, a sign of every signal.
+fn read_first_signs(lines: &mut Lines, signals: usize) -> Result<Vec<Sign>, Refusal> {
+    one_of(lines, &[FIRST_TIME])?;
+    let mut signs = vec![];
+    for signal in 0..signals {
+        let (_, sign) = read_sign(&lines.line("")?, signal..signal + 1)?;
+        signs.push(sign);
+    }
+    Ok(signs)
 }
 
-/// The tick in a line that starts with `#`, which is `next` or later.
-fn time_line(line: &Value, next: usize, window: usize) -> Result<usize, Refusal> {
+/// The time that the line says, which comes after `time` and is in the window.
+fn later_time(line: &Value, time: usize, window: usize) -> Result<usize, Refusal> {
     match number(&line.bytes[1..]) {
-        Some(tick) if tick >= window as u64 => refuse(13, line.place + 1),
-        Some(tick) if tick >= next as u64 => Ok(tick as usize),
-        _ => refuse(22, line.place),
+        Some(later) if later >= window as u64 => refuse(13, line.place + 1),
+        Some(later) if later > time as u64 => Ok(later as usize),
+        _ => refuse(NO_LINE, line.place),
     }
 }
 
-/// Lets the last signs hold up to this tick, which is left out.
-fn hold(signs: &mut Signs, end: usize) {
-    let last = signs[signs.len() - 1].clone();
-    signs.resize(end, last);
+/// The sign that the line says of one of these signals.
+fn read_sign(line: &Value, mut signals: Range<usize>) -> Result<(usize, Sign), Refusal> {
+    let &[letter, byte] = line.bytes else {
+        return refuse(NO_LINE, line.place);
+    };
+    let signal = signals.find(|&signal| id(signal) == char::from(byte));
+    match (signal, letter) {
+        (Some(signal), b'0') => Ok((signal, Some(false))),
+        (Some(signal), b'1') => Ok((signal, Some(true))),
+        (Some(signal), b'x' | b'z') => Ok((signal, None)),
+        _ => refuse(NO_LINE, line.place),
+    }
 }
 
 pub fn timescale(scale: &str, unit: &str) -> String {
@@ -228,18 +235,8 @@ pub fn id(signal: usize) -> char {
 /// How a sign is written.
 pub fn letter(sign: Sign) -> char {
     match sign {
-        Some(true) => '1',
         Some(false) => '0',
+        Some(true) => '1',
         None => 'x',
-    }
-}
-
-/// The sign that a byte says, `z` as `x`; none if it is no sign.
-fn sign_by(letter: u8) -> Option<Sign> {
-    match letter {
-        b'1' => Some(Some(true)),
-        b'0' => Some(Some(false)),
-        b'x' | b'z' => Some(None),
-        _ => None,
     }
 }
