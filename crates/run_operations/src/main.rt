@@ -29,9 +29,7 @@ use run_cases::text_under;
 use spec_limits::LISTED_WORDS;
 use table_marks::Value;
 use texts::run_dump;
-use texts::run_moves;
-use texts::run_print;
-use texts::run_undump;
+use texts::run_text;
 use words::print_words;
 ghost use mathlib.Core.Path.{_≡_};
 ghost use Prim.Native.Nat.{_<_, _≤_};
@@ -136,18 +134,12 @@ fn run_operation(cases: &[u8], above: usize, at: usize, words: &mut [u64], used:
         run_add(s, cases, at, &mut words[..used]);
     } else if starts_at(cases, at, b"=== ask") {
         run_ask(s, cases, at + 8, &words[..used]);
-    } else if starts_at(cases, at, b"=== spans") {
-        run_moves(true, s, cases, at);
-    } else if starts_at(cases, at, b"=== singles") {
-        run_moves(false, s, cases, at);
     } else if starts_at(cases, at, b"=== figures") {
         run_figures(s, cases, at, &mut words[..used]);
-    } else if starts_at(cases, at, b"=== print") {
-        run_print(s, cases, at);
     } else if starts_at(cases, at, b"=== dump") {
         run_dump(s, cases, at, &words[..used]);
-    } else if starts_at(cases, at, b"=== undump") {
-        run_undump(s, cases, at);
+    } else {
+        run_text(s, cases, at);
     }
 }
 

@@ -6,6 +6,7 @@ use op_dump::writing::write_dump;
 use op_moves::moves::to_readings;
 use op_moves::moves::to_spans;
 use op_print::print_rule;
+use read_bytes::bytes::starts_at;
 use run_cases::print;
 use run_cases::print_number;
 use run_cases::print_refusal;
@@ -89,7 +90,7 @@ fn run_move(spans: bool, s: &[u8], readings: &[u8], out: &mut [u8]) {
 }
 
 // Moves the readings under the heading at `at`.
-pub fn run_moves(spans: bool, s: &[u8], cases: &[u8], at: usize)
+fn run_moves(spans: bool, s: &[u8], cases: &[u8], at: usize)
     requires { ⌜ at < length (now cases) ⌝ }
 {
     let mut buffer = io::large_buffer();
@@ -106,7 +107,7 @@ fn print_back(s: &[u8], rule: usize, out: &mut [u8]) {
 }
 
 // Prints back the rule that the heading at `at` names, into a buffer with the room that it names after it.
-pub fn run_print(s: &[u8], cases: &[u8], at: usize)
+fn run_print(s: &[u8], cases: &[u8], at: usize)
     requires { ⌜ at < length (now cases) ⌝ }
 {
     let number = word_after(cases, at + 4);
@@ -138,7 +139,7 @@ fn print_undump(s: &[u8], dump: &[u8], out: &mut [u8]) {
 }
 
 // Reads the dump under the heading at `at`, into a buffer with the room that the heading names.
-pub fn run_undump(s: &[u8], cases: &[u8], at: usize)
+fn run_undump(s: &[u8], cases: &[u8], at: usize)
     requires { ⌜ at < length (now cases) ⌝ }
 {
     let mut buffer = io::large_buffer();
@@ -146,4 +147,19 @@ pub fn run_undump(s: &[u8], cases: &[u8], at: usize)
     let room = room_at(cases, at + 4);
     let mut space = dots();
     print_undump(s, &buffer[..n], &mut space[0..room]);
+}
+
+// Runs the operation of the heading at `at`, if it names one that is lent no table.
+pub fn run_text(s: &[u8], cases: &[u8], at: usize)
+    requires { ⌜ at < length (now cases) ⌝ }
+{
+    if starts_at(cases, at, b"=== spans") {
+        run_moves(true, s, cases, at);
+    } else if starts_at(cases, at, b"=== singles") {
+        run_moves(false, s, cases, at);
+    } else if starts_at(cases, at, b"=== print") {
+        run_print(s, cases, at);
+    } else if starts_at(cases, at, b"=== undump") {
+        run_undump(s, cases, at);
+    }
 }
