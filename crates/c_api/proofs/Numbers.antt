@@ -30,7 +30,7 @@ use Rattle.read_reading.specs.Spans.{Span}
 use Rattle.read_reading.specs.OneEntry.{knownLine, tickLine, firstKey, toLine, lastTick, entry}
 use Rattle.read_readings.specs.Readings.{inSpans, entries, marked, readings}
 use Rattle.spec_figures.specs.Texts.{placedFrom, marksFrom}
-use Rattle.spec_dump.specs.DumpTexts.{Event, time, sign, varKey}
+use Rattle.spec_dump.specs.DumpTexts.{time, sign, varKey}
 use Rattle.spec_dump.specs.DumpLines.{oneOfTexts, thisLine, scales, units, timescaleLine, varForm, varName, namedVar, varLine, varLines, headEnd, headLines, signSaid, isSignLine, signLine, timeLine, asked, eventAt, timeAfter, signalAfter, eventsFrom, events}
 
 -- Is n a refusal's number?

@@ -1,15 +1,14 @@
 -- What the outcomes of reading and of writing a dump say, with the sheet at hand.
 -- Assumes what each law states. `s` is the sheet's text, d the dump, T the table, O the buffer before and U after.
-use mathlib.Core.Path.{_≡_, refl, sym, ap, subst, _∙_}
+use mathlib.Core.Path.{_≡_, refl, sym, subst, _∙_}
 use mathlib.Core.Bool.{Bool, true, false, true≢false}
 use mathlib.Core.List.{List}
 use mathlib.Core.Logic.{_↔_}
 use Prim.Native.Nat.{ℕ, suc, _<_, _≤_}
 use native.Mathlib.Omega.{arith}
 use lib.ListN.{length, length-drop}
-use Rattle.spec_limits.specs.Limits.{mostTicks, mostNameBytes}
+use Rattle.spec_limits.specs.Limits.{mostTicks}
 use Rattle.spec_tilco.specs.Inference.{Clash}
-use Rattle.spec_tilco.specs.Lists.{All}
 use Rattle.spec_tilco.specs.Table.{words, Stands, Asked}
 use Rattle.read_bytes.specs.Read.Read.{got, refused as unread}
 use Rattle.read_names.specs.Spellings.{namesAt}
@@ -17,7 +16,7 @@ use Rattle.read_names.proofs.Names.{names-many}
 use Rattle.read_index.specs.Index.{links, placesIn, nameCount, namesIn}
 use Rattle.read_head.proofs.DeclaredNames.{head-names}
 use Rattle.read_sheet.proofs.Wholes.{sheet-head}
-use Rattle.open_sheet.specs.Results.{Result, accepted, refused}
+use Rattle.open_sheet.specs.Results.{Result, refused}
 use Rattle.open_sheet.specs.SheetIn.{sheetIn}
 use Rattle.open_sheet.specs.OpenedSheet.{OpenedSheet}
 use Rattle.open_table.specs.OpenedTable.{OpenedTable}

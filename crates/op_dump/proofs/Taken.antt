@@ -10,11 +10,11 @@ use Rattle.read_bytes.proofs.Answers.{not-both, same-value}
 use Rattle.read_lines.specs.declared.Step.{Step}
 use Rattle.read_lines.specs.declared.Step.the-variants.{Got, Refused}
 use Rattle.write_bytes.specs.Writes.{Wrote}
-use Rattle.open_sheet.specs.Results.{Result, accepted, refused}
+use Rattle.open_sheet.specs.Results.{accepted, refused}
 use Rattle.spec_operations.specs.TextAnswers.{Gives}
 use Rattle.spec_operations.proofs.TextAnswers.{gives-refused}
 use Rattle.spec_dump.specs.DumpTexts.{Event}
-use Rattle.spec_dump.specs.Dumps.{withRoom, readingsText, readingsOf}
+use Rattle.spec_dump.specs.Dumps.{readingsText, readingsOf}
 use Rattle.dump_readings.specs.TakenEvents.{EventsTaken}
 use Rattle.dump_readings.specs.TakenEvents.EventsTaken.{all-taken, refused-at}
 use Rattle.op_dump.proofs.Measured.{too-long, all-fits}

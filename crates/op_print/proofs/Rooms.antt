@@ -1,8 +1,8 @@
 -- A text for which there is room, and one that is too long.
 -- Assumes nothing. t is the text, O the buffer.
-use mathlib.Core.Path.{_≡_, refl, sym, ap, subst, _∙_}
+use mathlib.Core.Path.{_≡_, refl, ap, subst}
 use mathlib.Core.Bool.{Bool, true, false, _&&_}
-use mathlib.Core.List.{List, _++_}
+use mathlib.Core.List.{List}
 use Prim.Native.Nat.{ℕ, _<_, _≤_}
 use native.Mathlib.Omega.{arith}
 use borrow.Author.Tests.{le-leb, lt-leb}
@@ -12,7 +12,7 @@ use lib.Seq.{take-at}
 use Rattle.spec_limits.specs.Limits.{mostRuleBytes}
 use Rattle.write_bytes.specs.Writes.{Wrote, Counted}
 use Rattle.write_bytes.proofs.Writing.{in-front}
-use Rattle.open_sheet.specs.Results.{Result, accepted, refused}
+use Rattle.open_sheet.specs.Results.{accepted, refused}
 use Rattle.spec_operations.specs.TextAnswers.{Gives}
 use Rattle.spec_operations.proofs.TextAnswers.{gives-refused, gives-text}
 use Rattle.spec_print.specs.Printing.{withRoom}

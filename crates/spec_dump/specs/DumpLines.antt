@@ -33,7 +33,8 @@ units = bytes "s $end\n" ∷ bytes "ms $end\n" ∷ bytes "us $end\n" ∷ bytes "
 unfoldable pub timescaleLine : List ℕ → ℕ → Read ℕ
 timescaleLine d p = andThen (oneOfTexts d p p (bytes "$timescale " ∷ [])) (λ _ q. andThen (oneOfTexts d p q scales) (λ _ r. oneOfTexts d p r units))
 
--- The line of signal x in its form, whatever stands in the name's place: that place, and the place of the LF. The name is what stands before ` $end`.
+-- The line of signal x in its form, whatever stands in the name's place: that place, and the place of the LF. The name is what stands between varKey, of 14 bytes, and
+-- ` $end`, of 5.
 unfoldable pub varForm : List ℕ → ℕ → ℕ → Read ℕ
 varForm d x p =
     pick
