@@ -174,13 +174,13 @@ fn read_var(lines: &mut Lines, signal: usize, names: &[Name]) -> Result<(), Refu
     let key = var_key(signal);
     let rest = lines.line(&key)?;
     let start = rest.place - key.len();
-    let Some(name) = rest.bytes.strip_suffix(AFTER_NAME.as_bytes()) else {
-        return refuse(NO_LINE, start);
-    };
-    match find(name, names) {
-        Some(found) if found == signal => Ok(()),
-        Some(_) => refuse(NO_LINE, start),
-        None => refuse(12, rest.place),
+    match rest.bytes.strip_suffix(AFTER_NAME.as_bytes()) {
+        None => refuse(NO_LINE, start),
+        Some(name) => match find(name, names) {
+            Some(found) if found == signal => Ok(()),
+            Some(_) => refuse(NO_LINE, start),
+            None => refuse(12, rest.place),
+        },
     }
 }
 
@@ -206,11 +206,14 @@ fn later_time(line: &Value, time: usize, window: usize) -> Result<usize, Refusal
 
 /// The sign that the line says of one of these signals.
 fn read_sign(line: &Value, mut signals: Range<usize>) -> Result<(usize, Sign), Refusal> {
-    let &[letter, byte] = line.bytes else {
-        return refuse(NO_LINE, line.place);
+    let said = match line.bytes {
+        [letter, byte] => (
+            signals.find(|&signal| id(signal) == char::from(*byte)),
+            *letter,
+        ),
+        _ => (None, b' '),
     };
-    let signal = signals.find(|&signal| id(signal) == char::from(byte));
-    match (signal, letter) {
+    match said {
         (Some(signal), b'0') => Ok((signal, Some(false))),
         (Some(signal), b'1') => Ok((signal, Some(true))),
         (Some(signal), b'x' | b'z') => Ok((signal, None)),
@@ -218,6 +221,7 @@ fn read_sign(line: &Value, mut signals: Range<usize>) -> Result<(usize, Sign), R
     }
 }
 
+/// The line of a timescale, without its LF.
 pub fn timescale(scale: &str, unit: &str) -> String {
     format!("$timescale {scale} {unit} $end")
 }
