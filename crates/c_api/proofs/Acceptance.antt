@@ -55,12 +55,13 @@ answerOf (left n place values) = n
 
 -- ---- every refusal has a listed number
 
+-- What passes a test is accepted, and else refused by a listed number.
+pick-told : {A : Type 0} (b : Bool) (x : A) (n p : ℕ) → Listed n → Told (pick b (λ _. accepted x) (refused n p))
+pick-told true x n p h = tt
+pick-told false x n p h = h
+
 sized-told : (R : Read Contents) → Numbered R → Told (sized R)
-sized-told (got k q) h = go (fits (meant k))
-  where
-    go : (b : Bool) → Told (pick b (λ _. accepted k) (refused 9 0))
-    go true = tt
-    go false = tt
+sized-told (got k q) h = pick-told (fits (meant k)) k 9 0 tt
 sized-told (unread n p) h = h
 
 counted-told : (R : Result Contents) → Told R → Told (counted R)
@@ -103,11 +104,7 @@ module _ (s : List ℕ) where
 
   room-told : (room : ℕ) (t : List ℕ) → Told (withRoom room t)
   unfolding withRoom
-  room-told room t = go (leb (length t) mostRuleBytes && leb (length t) room)
-    where
-      go : (b : Bool) → Told (pick b (λ _. accepted t) (refused 20 0))
-      go true = tt
-      go false = tt
+  room-told room t = pick-told (leb (length t) mostRuleBytes && leb (length t) room) t 20 0 tt
 
   rule-told : (names : List (List ℕ)) (room : ℕ) (o : Option Written) → Told (printedRule names room o)
   rule-told names room none = tt
@@ -123,11 +120,7 @@ module _ (s : List ℕ) where
 
   dump-room-told : (room : ℕ) (t : List ℕ) → Told (dump.withRoom room t)
   unfolding dump.withRoom
-  dump-room-told room t = go (leb (length t) room)
-    where
-      go : (b : Bool) → Told (pick b (λ _. accepted t) (refused 20 0))
-      go true = tt
-      go false = tt
+  dump-room-told room t = pick-told (leb (length t) room) t 20 0 tt
 
   pub write-dump-told : {T O O′ : List ℕ} {x : Result ℕ} → WritesDump s T O O′ x → Told x
   write-dump-told (no-table o e) = opens-told o
