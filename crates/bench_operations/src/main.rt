@@ -2,6 +2,8 @@
 // and readings.txt, as often as the first argument says. The second argument is read (the sheet's text), check (it is lowered too), take (the readings
 // are taken too), add, spans or singles (the readings are moved to spans, or to single readings). Prints what the last run answered, how many marks stand
 // in the table then, and the text that a move wrote.
+#![tactic(auto)]
+
 mod answers;
 mod moving;
 mod reading;

@@ -1,5 +1,7 @@
 // check, add, ask, the two moves, printing a rule, dumps, captions and figures for C and for languages that call C; include/mikhakun.h declares them. They assume nothing of the texts, the tables, the buffers and the numbers.
 // A caller lends memory of the length given behind each pointer, and no two of one call overlap.
+#![tactic(auto)]
+
 ghost use Rattle.std.specs.Prelude.{◌≡◌, true, false, List, [], ◌∷◌};
 ghost use Rattle.open_sheet.specs.Results.{Result};
 ghost use Rattle.spec_figures.specs.declared.Record.{Record};

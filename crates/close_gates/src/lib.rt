@@ -1,6 +1,8 @@
 // A visit to an item of a row that is no look: the row's rules at the ticks of one word, once through (they add nothing to it then), and every item that
 // rests on a word that they changed put on the list, but for the item itself. A row has `n` words for each value, 64 ticks in each; `q` is the number of a
 // word in a row. Assumes that the row codes are a program's, that the lists of parents are theirs, and that the table and the list of work have them.
+#![tactic(auto)]
+
 ghost use Rattle.std.specs.Prelude.{◌≡◌, ℕ, ◌%◌, ◌<◌, get_or};
 ghost use Rattle.spec_limits.specs.Limits.{code_kinds};
 ghost use Rattle.spec_tilco.specs.Inference.{not_of, gate};

@@ -1,6 +1,8 @@
 // A visit to a row that looks at another: its rules at the ticks of one word of its child, once through, and every item that rests on a word of the row
 // that they changed put on the list. What they give the child is gathered, for the caller to mark: many looks have one child.
 // Assumes that the row codes are a program's, that the lists of parents are theirs, and that the table and the list of work have them.
+#![tactic(auto)]
+
 ghost use Rattle.std.specs.Prelude.{◌≡◌, ◌+◌, ◌^◌, ◌<◌};
 ghost use Rattle.spec_tilco.specs.Table.{words};
 ghost use Rattle.table_words.specs.WordTicks.{HasRow};

@@ -1,6 +1,8 @@
 // The lists of parents: for each row the rows that have it for a child. Edge 2 r is row r's to its first child, 2 r + 1 to its second; `heads` has
 // the edge with which each row's list starts, and `nexts` the one after each edge. 0 ends a list: row 0 is a signal's, and has no edge.
 // Assumes that the row codes are a program's, of which there are at most `ROWS`.
+#![tactic(auto)]
+
 ghost use Rattle.std.specs.Prelude.{◌≡◌, ℕ, ◌+◌, ◌*◌, ◌<◌, ◌≤◌, length, get_or, set};
 ghost use Rattle.spec_limits.specs.Limits.{most_rows};
 ghost use Rattle.close_rules.specs.Codes.{Coded};

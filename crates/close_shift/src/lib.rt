@@ -1,4 +1,6 @@
 // The words of a look's row and of its child: moved against each other as far as they stay in the window, and joined. Assumes nothing of the table.
+#![tactic(auto)]
+
 ghost use Rattle.std.specs.Prelude.{◌≡◌, ◌*◌, ◌<◌};
 ghost use Rattle.std.specs.Int.Bits.{bit_or};
 ghost use Rattle.table_words.specs.WordTicks.{Ticks};

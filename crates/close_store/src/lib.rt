@@ -1,6 +1,8 @@
 // Ticks joined to a word of a row, and the items put on the list that rest on the word, if it changed. The item that is visited is none of them:
 // its visit settles it.
 // Assumes that the table, the lists of parents and the list of work have the row.
+#![tactic(auto)]
+
 ghost use Rattle.std.specs.Prelude.{true, ◌<◌};
 ghost use Rattle.table_words.specs.WordTicks.{HasRow, Sides, Bits, Reads, Joins};
 ghost use Rattle.close_parents.specs.Links.{Ended};

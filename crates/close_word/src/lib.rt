@@ -1,5 +1,7 @@
 // The items of one word of the list: each is visited and taken off, until none is left there. A row has `n` words for each value, 64 ticks in each.
 // Assumes that the row codes are a program's, that the table has them, and that no mark is outside the window.
+#![tactic(auto)]
+
 ghost use Rattle.std.specs.Prelude.{◌≡◌, ◌+◌, ◌-◌, ◌*◌, ◌/◌, ◌%◌, ◌^◌, ◌<◌, ◌≤◌, length, get_or, set};
 ghost use Rattle.spec_limits.specs.Limits.{code_kinds, code_numbers};
 ghost use Rattle.spec_ticks.specs.Ticks.{Has};

@@ -1,6 +1,7 @@
 // The signs of a table's rows, and the ticks at which they change, a word of 64 ticks at once. Assumes that the table has the rows.
+#![tactic(auto)]
+
 ghost use Rattle.std.specs.Prelude.{◌≡◌, ◌*◌, ◌<◌};
-ghost use Rattle.read_names.specs.Slices.{before};
 ghost use Rattle.table_words.specs.WordTicks.{HasRow, HasRows, Ticks};
 ghost use Rattle.dump_changes.specs.WordSigns.{row_sign, Differs, Changes};
 
@@ -10,7 +11,7 @@ use table_words::word_at;
 // The sign of a row at a tick.
 pub fn row_sign(table: &[u64], n: usize, row: usize, tick: usize) -> u8
     requires { (tick < n * 64) × HasRow n table.now row }
-    ensures { result ≡ row_sign n (before table) row tick }
+    ensures { result ≡ row_sign n table.now row tick }
 {
     if has_mark(table, n, row, tick, true) {
         return b'1';
@@ -25,7 +26,7 @@ pub fn row_sign(table: &[u64], n: usize, row: usize, tick: usize) -> u8
 // does not. Before the first tick of the window the signs are as there.
 fn row_changes(table: &[u64], n: usize, q: usize, row: usize) -> u64
     requires { (q < n) × HasRow n table.now row }
-    ensures { Ticks q result (λ t. Differs n (before table) t row) }
+    ensures { Ticks q result (λ t. Differs n table.now t row) }
 {
     let yes = word_at(table, n, q, row, true);
     let either = yes | word_at(table, n, q, row, false);
@@ -40,7 +41,7 @@ fn row_changes(table: &[u64], n: usize, q: usize, row: usize) -> u64
 // The ticks of word q at which the sign of one of the first k rows changes.
 pub fn word_changes(table: &[u64], n: usize, q: usize, k: usize) -> u64
     requires { (q < n) × HasRows n table.now k }
-    ensures { Ticks q result (Changes n (before table) k) }
+    ensures { Ticks q result (Changes n table.now k) }
 {
     let mut ticks: u64 = 0;
     let mut row = 0;

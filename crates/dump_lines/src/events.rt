@@ -1,7 +1,6 @@
 // The events of a dump after `#0`, one a line. Assumes nothing of the dump.
 ghost use Rattle.std.specs.Prelude.{◌≡◌, ◌≤◌, length};
 ghost use Rattle.spec_limits.specs.Limits.{most_signals};
-ghost use Rattle.read_names.specs.Slices.{before};
 ghost use Rattle.spec_dump.specs.DumpLines.{sign_line, time_line, asked, event_at};
 ghost use Rattle.dump_lines.specs.EventSays.{event_says};
 
@@ -19,7 +18,7 @@ pub enum EventRead {
 // The line at `p` with a sign of a signal from `lo` on and before `hi`. A signal that the sign `z` is given is unsettled.
 fn sign_line(d: &[u8], lo: usize, hi: usize, p: usize) -> EventRead
     requires { (p ≤ length d.now) × (lo ≤ most_signals) × (hi ≤ most_signals) }
-    ensures { event_says result ≡ sign_line (before d) lo hi p }
+    ensures { event_says result ≡ sign_line d.now lo hi p }
 {
     if d.len() < p + 3 {
         return EventRead::Refused(22, p);
@@ -46,7 +45,7 @@ fn sign_line(d: &[u8], lo: usize, hi: usize, p: usize) -> EventRead
 // The line at `p` with a time after `u`.
 fn time_line(window: usize, d: &[u8], u: usize, p: usize) -> EventRead
     requires { (1 ≤ window) × (p ≤ length d.now) }
-    ensures { event_says result ≡ time_line window (before d) u p }
+    ensures { event_says result ≡ time_line window d.now u p }
 {
     let l = ranged_line(d, p, b"#", 22, 13, 0, window - 1);
     match l {
@@ -71,7 +70,7 @@ pub fn sign_asked(count: usize, u: usize, k: usize) -> bool
 // The event at `p`, after the time `u`; `k` is the first signal that may follow at it.
 pub fn event_at(window: usize, count: usize, d: &[u8], u: usize, k: usize, p: usize) -> EventRead
     requires { (1 ≤ window) × (count ≤ most_signals) × (k ≤ most_signals) × (p ≤ length d.now) }
-    ensures { event_says result ≡ event_at window count (before d) u k p }
+    ensures { event_says result ≡ event_at window count d.now u k p }
 {
     if sign_asked(count, u, k) {
         return sign_line(d, k, k + 1, p);

@@ -2,7 +2,6 @@
 ghost use Rattle.std.specs.Prelude.{◌≡◌, [], ◌∷◌, ◌<◌, ◌≤◌, length};
 ghost use Rattle.spec_limits.specs.Limits.{most_signals};
 ghost use Rattle.read_lines.specs.Lines.{says};
-ghost use Rattle.read_names.specs.Slices.{before};
 ghost use Rattle.read_index.specs.Index.{name_count, names_in, IndexOf};
 ghost use Rattle.spec_dump.specs.DumpLines.{one_of_texts, scales, units, timescale_line, var_form, var_line, var_lines, head_end, head_lines};
 
@@ -12,7 +11,7 @@ use read_lines::{Step, keyed, line_end};
 // The text `w` at `q`, in the line at `p`: the place after it.
 fn text_at(d: &[u8], p: usize, q: usize, w: &[u8]) -> Step
     requires { q ≤ length d.now }
-    ensures { says result ≡ one_of_texts (before d) p q (before w ∷ []) }
+    ensures { says result ≡ one_of_texts d.now p q (w.now ∷ []) }
 {
     if keyed(d, q, w) {
         let next = q + w.len();
@@ -25,7 +24,7 @@ fn text_at(d: &[u8], p: usize, q: usize, w: &[u8]) -> Step
 // The number of a timescale at `q`.
 fn scale_at(d: &[u8], p: usize, q: usize) -> Step
     requires { q ≤ length d.now }
-    ensures { says result ≡ one_of_texts (before d) p q scales }
+    ensures { says result ≡ one_of_texts d.now p q scales }
 {
     if keyed(d, q, b"1 ") {
         return Step::Got(0, q + 2);
@@ -39,7 +38,7 @@ fn scale_at(d: &[u8], p: usize, q: usize) -> Step
 // Its unit, and the line's end.
 fn unit_at(d: &[u8], p: usize, q: usize) -> Step
     requires { q ≤ length d.now }
-    ensures { says result ≡ one_of_texts (before d) p q units }
+    ensures { says result ≡ one_of_texts d.now p q units }
 {
     if keyed(d, q, b"s $end\n") {
         return Step::Got(0, q + 7);
@@ -62,7 +61,7 @@ fn unit_at(d: &[u8], p: usize, q: usize) -> Step
 // The line of the timescale at `p`.
 fn timescale_line(d: &[u8], p: usize) -> Step
     requires { p ≤ length d.now }
-    ensures { says result ≡ timescale_line (before d) p }
+    ensures { says result ≡ timescale_line d.now p }
 {
     let a = text_at(d, p, p, b"$timescale ");
     let Step::Got(_, q) = a else {
@@ -78,7 +77,7 @@ fn timescale_line(d: &[u8], p: usize) -> Step
 // The line of signal `x` at `p` in its form: the name's place, and that of the LF.
 fn var_form(d: &[u8], x: usize, p: usize) -> Step
     requires { (x < most_signals) × (p ≤ length d.now) }
-    ensures { says result ≡ var_form (before d) x p }
+    ensures { says result ≡ var_form d.now x p }
 {
     if !keyed(d, p, b"$var wire 1 ") {
         return Step::Refused(22, p);
@@ -110,7 +109,7 @@ fn var_form(d: &[u8], x: usize, p: usize) -> Step
 // The line of signal `x` at `p`. What is found among the names is a name, and is not judged.
 fn var_line(s: &[u8], names: &[u16], d: &[u8], x: usize, p: usize) -> Step
     requires { IndexOf s.now names.now × (x < name_count names.now) × (p ≤ length d.now) }
-    ensures { says result ≡ var_line (names_in (before s) (before names)) (before d) x p }
+    ensures { says result ≡ var_line (names_in s.now names.now) d.now x p }
 {
     let l = var_form(d, x, p);
     let Step::Got(v, e) = l else {
@@ -135,7 +134,7 @@ fn var_line(s: &[u8], names: &[u16], d: &[u8], x: usize, p: usize) -> Step
 // The lines of all signals from `p` on.
 fn var_lines(s: &[u8], names: &[u16], d: &[u8], p: usize) -> Step
     requires { IndexOf s.now names.now × (p ≤ length d.now) }
-    ensures { says result ≡ var_lines (names_in (before s) (before names)) (before d) (name_count (before names)) 0 p }
+    ensures { says result ≡ var_lines (names_in s.now names.now) d.now (name_count names.now) 0 p }
 {
     let count = names.len() - LINKS;
     let mut x = 0;
@@ -154,7 +153,7 @@ fn var_lines(s: &[u8], names: &[u16], d: &[u8], p: usize) -> Step
 // The lines after those of the signals.
 fn head_end(d: &[u8], p: usize) -> Step
     requires { p ≤ length d.now }
-    ensures { says result ≡ head_end (before d) p }
+    ensures { says result ≡ head_end d.now p }
 {
     let a = text_at(d, p, p, b"$upscope $end\n");
     let Step::Got(_, q) = a else {
@@ -170,7 +169,7 @@ fn head_end(d: &[u8], p: usize) -> Step
 // The lines up to `#0`: the place after it.
 pub fn head_lines(s: &[u8], names: &[u16], d: &[u8]) -> Step
     requires { IndexOf s.now names.now }
-    ensures { says result ≡ head_lines (names_in (before s) (before names)) (before d) }
+    ensures { says result ≡ head_lines (names_in s.now names.now) d.now }
 {
     let a = timescale_line(d, 0);
     let Step::Got(_, p) = a else {

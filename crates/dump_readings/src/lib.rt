@@ -1,10 +1,12 @@
 // The readings that a dump's events say, written into a lent buffer. Assumes that the names are an index of the sheet text `s`, and that their window has ticks.
+#![tactic(auto)]
+
 ghost use Rattle.std.specs.Prelude.{◌≡◌, false, suc, ◌*◌, ◌<◌, ◌≤◌, length, replicate, ltb};
 ghost use Rattle.std.proofs.Math.Bool as Bool;
 ghost use Rattle.spec_limits.specs.Limits.{most_signals, most_ticks};
 ghost use Rattle.read_bytes.specs.Bytes.{byte};
 ghost use Rattle.read_names.specs.Spellings.{names_at};
-ghost use Rattle.read_names.specs.Slices.{before, after, names_of};
+ghost use Rattle.read_names.specs.Slices.{names_of};
 ghost use Rattle.read_index.specs.Index.{name_count, names_in, IndexOf};
 ghost use Rattle.write_bytes.specs.Writes.{Counted, Wrote};
 ghost use Rattle.write_readings.specs.EntryTexts.{entries_text};
@@ -29,7 +31,7 @@ fn write_sign(
     used: usize,
 ) -> usize
     requires { (signal < length places.now) × Counted used (entries_text false (names_at s.now places.now) (reading_of signal tick sign)) }
-    ensures { Wrote (entries_text false (names_of s places) (reading_of signal tick sign)) used (before out) (after out) result }
+    ensures { Wrote (entries_text false (names_of s places) (reading_of signal tick sign)) used out.old out.new result }
 {
     if sign == b'0' {
         return write_entry(false, s, places, signal, false, tick, tick, out, used);
@@ -50,7 +52,7 @@ fn write_tick(
     used: usize,
 ) -> usize
     requires { CanHold (names_at s.now places.now) signs.now × (tick < most_ticks) × (used ≤ most_tick_bytes * tick) }
-    ensures { Wrote (tick_text (names_of s places) (before signs) tick 0) used (before out) (after out) result }
+    ensures { Wrote (tick_text (names_of s places) signs.now tick 0) used out.old out.new result }
 {
     let mut at = used;
     let mut x = 0;
@@ -72,7 +74,7 @@ fn write_held(
     used: usize,
 ) -> usize
     requires { CanHold (names_at s.now places.now) signs.now × (first ≤ end) × (end ≤ most_ticks) × (used ≤ most_tick_bytes * first) }
-    ensures { Wrote (held_text (names_of s places) (before signs) first end) used (before out) (after out) result × (result ≤ most_tick_bytes * end) }
+    ensures { Wrote (held_text (names_of s places) signs.now first end) used out.old out.new result × (result ≤ most_tick_bytes * end) }
 {
     let mut at = used;
     let mut tick = first;
@@ -105,7 +107,7 @@ pub fn take_events(
     out: &mut [u8],
 ) -> Step
     requires { IndexOf s.now names.now × (1 ≤ window) × (window ≤ most_ticks) × (p ≤ length d.now) × (signs.old ≡ replicate most_signals (byte "x")) }
-    ensures { EventsTaken (events_from window (name_count (before names)) (before d) (suc (length (before d))) 0 0 p) (names_in (before s) (before names)) window (before out) (after out) result }
+    ensures { EventsTaken (events_from window (name_count names.now) d.now (suc (length d.now)) 0 0 p) (names_in s.now names.now) window out.old out.new result }
 {
     let places = &names[LINKS..];
     let count = places.len();

@@ -2,7 +2,6 @@
 // Assumes that the table has the signals' rows, in words that cover the window, and that the places of a text can be counted.
 ghost use Rattle.std.specs.Prelude.{◌<◌};
 ghost use Rattle.spec_limits.specs.Limits.{most_signals};
-ghost use Rattle.read_names.specs.Slices.{before, after};
 ghost use Rattle.write_bytes.specs.Writes.{Counted, Wrote};
 ghost use Rattle.spec_dump.specs.DumpTexts.{event_text};
 ghost use Rattle.spec_dump.specs.DumpTexts as line;
@@ -17,7 +16,7 @@ use write_lines::write_number_line;
 // The line of a signal's sign.
 fn write_sign(signal: usize, sign: u8, out: &mut [u8], used: usize) -> usize
     requires { (signal < most_signals) × Counted used (event_text (line.sign signal sign)) }
-    ensures { Wrote (event_text (line.sign signal sign)) used (before out) (after out) result }
+    ensures { Wrote (event_text (line.sign signal sign)) used out.old out.new result }
 {
     let id = push(sign, out, used);
     let end = push((33 + signal) as u8, out, id);
@@ -34,7 +33,7 @@ pub fn write_first(
     used: usize,
 ) -> usize
     requires { CanDump k window n table.now × Counted used (first_text k n table.now 0) }
-    ensures { Wrote (first_text k n (before table) 0) used (before out) (after out) result }
+    ensures { Wrote (first_text k n table.now 0) used out.old out.new result }
 {
     let mut at = used;
     let mut x = 0;
@@ -57,7 +56,7 @@ fn write_differing(
     used: usize,
 ) -> usize
     requires { CanDump k window n table.now × (tick < window) × Counted used (changes_text k n table.now tick 0) }
-    ensures { Wrote (changes_text k n (before table) tick 0) used (before out) (after out) result }
+    ensures { Wrote (changes_text k n table.now tick 0) used out.old out.new result }
 {
     let earlier = if tick == 0 { 0 } else { tick - 1 };
     let mut at = used;
@@ -84,7 +83,7 @@ fn write_tick(
     used: usize,
 ) -> usize
     requires { CanDump k window n table.now × (tick < window) × Changes n table.now k tick × Counted used (tick_text k n table.now tick) }
-    ensures { Wrote (tick_text k n (before table) tick) used (before out) (after out) result }
+    ensures { Wrote (tick_text k n table.now tick) used out.old out.new result }
 {
     let signs = write_number_line(b"#", tick, out, used);
     write_differing(table, n, k, window, tick, out, signs)
@@ -101,7 +100,7 @@ fn write_word(
     used: usize,
 ) -> usize
     requires { CanDump k window n table.now × (q < n) × Counted used (word_text k window n table.now q) }
-    ensures { Wrote (word_text k window n (before table) q) used (before out) (after out) result }
+    ensures { Wrote (word_text k window n table.now q) used out.old out.new result }
 {
     let mut left = word_changes(table, n, q, k) & window_word(window, q);
     let mut next = 64 * q;
@@ -126,7 +125,7 @@ pub fn write_changes(
     used: usize,
 ) -> usize
     requires { CanDump k window n table.now × Counted used (later_text k window n table.now 0) }
-    ensures { Wrote (later_text k window n (before table) 0) used (before out) (after out) result }
+    ensures { Wrote (later_text k window n table.now 0) used out.old out.new result }
 {
     let mut at = used;
     let mut q = 0;

@@ -2,7 +2,7 @@
 ghost use Rattle.std.specs.Prelude.{◌<◌, ◌≤◌, length};
 ghost use Rattle.spec_limits.specs.Limits.{most_signals};
 ghost use Rattle.read_names.specs.Spellings.{spelling_at, names_at};
-ghost use Rattle.read_names.specs.Slices.{before, after, names_of};
+ghost use Rattle.read_names.specs.Slices.{names_of};
 ghost use Rattle.write_bytes.specs.Writes.{Counted, Wrote};
 ghost use Rattle.spec_dump.specs.DumpTexts.{var_text, vars_text, head_text, dump_text};
 ghost use Rattle.spec_dump.specs.TableSigns.{sign_events};
@@ -16,7 +16,7 @@ use write_lines::write_word;
 // The line of signal `x`, whose name stands at `name` of the sheet text.
 fn write_var(s: &[u8], name: usize, x: usize, out: &mut [u8], used: usize) -> usize
     requires { (x < most_signals) × Counted used (var_text x (spelling_at s.now name)) }
-    ensures { Wrote (var_text x (spelling_at (before s) name)) used (before out) (after out) result }
+    ensures { Wrote (var_text x (spelling_at s.now name)) used out.old out.new result }
 {
     let id = push_text(b"$var wire 1 ", out, used);
     let space = push((33 + x) as u8, out, id);
@@ -28,7 +28,7 @@ fn write_var(s: &[u8], name: usize, x: usize, out: &mut [u8], used: usize) -> us
 // The lines of all signals.
 fn write_vars(s: &[u8], places: &[u16], out: &mut [u8], used: usize) -> usize
     requires { (length places.now ≤ most_signals) × Counted used (vars_text 0 (names_at s.now places.now)) }
-    ensures { Wrote (vars_text 0 (names_of s places)) used (before out) (after out) result }
+    ensures { Wrote (vars_text 0 (names_of s places)) used out.old out.new result }
 {
     let mut at = used;
     let mut x = 0;
@@ -42,7 +42,7 @@ fn write_vars(s: &[u8], places: &[u16], out: &mut [u8], used: usize) -> usize
 // The lines up to `#0`.
 fn write_head(s: &[u8], places: &[u16], out: &mut [u8], used: usize) -> usize
     requires { (length places.now ≤ most_signals) × Counted used (head_text (names_at s.now places.now)) }
-    ensures { Wrote (head_text (names_of s places)) used (before out) (after out) result }
+    ensures { Wrote (head_text (names_of s places)) used out.old out.new result }
 {
     let scope = push_text(b"$timescale 1 s $end\n", out, used);
     let vars = push_text(b"$scope module sheet $end\n", out, scope);
@@ -62,7 +62,7 @@ pub fn write_text(
     out: &mut [u8],
 ) -> usize
     requires { CanDump (length places.now) window n table.now × ShortNames (names_at s.now places.now) }
-    ensures { Wrote (dump_text (names_of s places) (sign_events (row_sign n (before table)) (length (before places)) window)) 0 (before out) (after out) result }
+    ensures { Wrote (dump_text (names_of s places) (sign_events (row_sign n table.now) (length places.now) window)) 0 out.old out.new result }
 {
     let k = places.len();
     let first = write_head(s, places, out, 0);

@@ -2,7 +2,6 @@
 // Assumes of the table what the crate does, and of each record that one more run can be counted in it.
 ghost use Rattle.std.specs.Prelude.{false, ◌≤◌};
 ghost use Rattle.table_marks.specs.Sizes.{most_words};
-ghost use Rattle.read_names.specs.Slices.{before, after};
 ghost use Rattle.table_words.specs.WordTicks.{HasRow};
 ghost use Rattle.figure_run.specs.RunCounts.{RowCounted, Countable, CountsRun, CanCount, RunCounted};
 
@@ -21,7 +20,7 @@ pub struct RowTicks {
 // A row's ticks: the ones in its words are counted, and trailing zeros give the first. From the last word down, so that the first tick is told last.
 fn row_ticks(table: &[u64], n: usize, row: usize) -> RowTicks
     requires { HasRow n table.now row × (n ≤ most_words) }
-    ensures { RowCounted n (before table) row result }
+    ensures { RowCounted n table.now row result }
 {
     let mut held = 0;
     let mut failed = 0;
@@ -48,7 +47,7 @@ fn row_ticks(table: &[u64], n: usize, row: usize) -> RowTicks
 // The record of a signal with one more run that does not clash.
 fn with_settled(r: Record, table: &[u64], n: usize, window: usize) -> Record
     requires { Countable r n window table.now false }
-    ensures { CountsRun n window (before table) r result }
+    ensures { CountsRun n window table.now r result }
 {
     let t = row_ticks(table, n, r.signal as usize);
     Record {
@@ -64,7 +63,7 @@ fn with_settled(r: Record, table: &[u64], n: usize, window: usize) -> Record
 // The record of a signal with one more run: "a run that clashes counts its whole window in a fourth column and nothing in the other three".
 fn with_run(r: Record, table: &[u64], n: usize, window: usize, clash: bool) -> Record
     requires { Countable r n window table.now clash }
-    ensures { CountsRun n window (before table) r result }
+    ensures { CountsRun n window table.now r result }
 {
     if clash {
         Record {
@@ -83,7 +82,7 @@ fn with_run(r: Record, table: &[u64], n: usize, window: usize, clash: bool) -> R
 // Counts the run in each of the first k records.
 pub fn count_run(words: &mut [u64], k: usize, table: &[u64], n: usize, window: usize, clash: bool)
     requires { CanCount k n window table.now clash words.old }
-    ensures { RunCounted k n window (before table) (before words) (after words) }
+    ensures { RunCounted k n window table.now words.old words.new }
 {
     let mut i = 0;
     while i < k {

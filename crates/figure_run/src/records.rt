@@ -1,6 +1,5 @@
 // Records as words, six each, for functions that are lent words. Assumes that there are words for each record.
 ghost use Rattle.std.specs.Prelude.{◌≡◌, ◌+◌, ◌*◌, ◌^◌, ◌<◌, ◌≤◌, length};
-ghost use Rattle.read_names.specs.Slices.{before, after};
 ghost use Rattle.figure_run.specs.RecordWords.{record_words, record_in, no_runs, PutsRecord, Started};
 
 use spec_figures::{NO_TICK, Record};
@@ -11,7 +10,7 @@ pub const RECORD_WORDS: usize = 6;
 // Record i.
 pub fn record_in(words: &[u64], i: usize) -> Record
     requires { (record_words * (i + 1) ≤ length words.now) × (record_words * (i + 1) < 2 ^ 64) }
-    ensures { result ≡ record_in (before words) i }
+    ensures { result ≡ record_in words.now i }
 {
     let at = RECORD_WORDS * i;
     Record {
@@ -27,7 +26,7 @@ pub fn record_in(words: &[u64], i: usize) -> Record
 // Puts record i.
 pub fn put_record(words: &mut [u64], i: usize, r: Record)
     requires { (record_words * (i + 1) ≤ length words.old) × (record_words * (i + 1) < 2 ^ 64) }
-    ensures { PutsRecord i r (before words) (after words) }
+    ensures { PutsRecord i r words.old words.new }
 {
     let at = RECORD_WORDS * i;
     words[at] = r.signal;
@@ -55,7 +54,7 @@ fn no_runs(signal: u64) -> Record
 // Puts the record of each of these signals before the first run.
 pub fn start_records(signals: &[u64], words: &mut [u64])
     requires { (record_words * length signals.now ≤ length words.old) × (record_words * length signals.now < 2 ^ 64) }
-    ensures { Started (before signals) (before words) (after words) }
+    ensures { Started signals.now words.old words.new }
 {
     let mut i = 0;
     while i < signals.len() {

@@ -2,7 +2,7 @@
 // Assumes that the lengths fit the texts, that the table has its length, and room for the most records.
 ghost use Rattle.std.specs.Prelude.{◌≤◌, length};
 ghost use Rattle.spec_limits.specs.Limits.{most_signals};
-ghost use Rattle.read_names.specs.Slices.{before, after, names_of};
+ghost use Rattle.read_names.specs.Slices.{names_of};
 ghost use Rattle.list_order.specs.Order.{in_order_lem, Orderable};
 ghost use Rattle.spec_figures.specs.Texts.{LengthsFit};
 ghost use Rattle.figure_runs.specs.Runs.{OpenedFor, LongFor, Runnable, OfSheet, RecordRoom, FreshRecords, NamesStand, TextsRun};
@@ -23,7 +23,7 @@ const NOTES: usize = 4096;
 // Puts a record for each signal, in the order of the names. The list `order` is as long as they are many.
 fn start_by_name(s: &[u8], places: &[u16], order: &mut [u64], words: &mut [u64])
     requires { Orderable s.now places.now order.old × (length places.now ≤ most_signals) × RecordRoom words.old }
-    ensures { FreshRecords (in_order_lem (names_of s places)) (after words) × RecordRoom (after words) }
+    ensures { FreshRecords (in_order_lem (names_of s places)) words.new × RecordRoom words.new }
 {
     signals_in_order(s, places, order);
     start_records(order, words);
@@ -32,7 +32,7 @@ fn start_by_name(s: &[u8], places: &[u16], order: &mut [u64], words: &mut [u64])
 // Puts a record for each signal, in the order of the names.
 fn start_in_order(s: &[u8], places: &[u16], words: &mut [u64])
     requires { NamesStand s.now places.now × RecordRoom words.old }
-    ensures { FreshRecords (in_order_lem (names_of s places)) (after words) × RecordRoom (after words) }
+    ensures { FreshRecords (in_order_lem (names_of s places)) words.new × RecordRoom words.new }
 {
     let mut order = [1u64; SIGNALS];
     let count = places.len();
@@ -54,7 +54,7 @@ fn check_and_run(
 ) -> Outcome
     requires runnable { Runnable s.now names.now rows.now tops.now z todo.old table.old }
     requires lengths_fit { LengthsFit lengths.now (length texts.now) × RecordRoom words.old }
-    ensures { OfSheet (before s) (λ k. TextsRun (before s) (before texts) (before lengths) (before table) (after table) (after words) k result) }
+    ensures { OfSheet s.now (λ k. TextsRun s.now texts.now lengths.now table.old table.new words.new k result) }
 {
     let mut noted = [1u32; NOTES];
     let mut kept = [1u64; RUNS];
@@ -89,7 +89,7 @@ pub fn run_opened(
 ) -> Outcome
     requires opened_for { OpenedFor s.now names.now rows.now tops.now z × LongFor z table.old }
     requires lengths_fit { LengthsFit lengths.now (length texts.now) × RecordRoom words.old }
-    ensures { OfSheet (before s) (λ k. TextsRun (before s) (before texts) (before lengths) (before table) (after table) (after words) k result) }
+    ensures { OfSheet s.now (λ k. TextsRun s.now texts.now lengths.now table.old table.new words.new k result) }
 {
     if table.len() <= SMALL {
         let mut todo = [0u64; SHORT];

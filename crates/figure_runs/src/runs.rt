@@ -4,7 +4,6 @@ ghost use Rattle.std.specs.Prelude.{◌≡◌, List, ℕ, length};
 ghost use Rattle.spec_ticks.specs.Ticks.{empty};
 ghost use Rattle.spec_tilco.specs.Inference.{Mark};
 ghost use Rattle.read_bytes.specs.Read.Read.{got};
-ghost use Rattle.read_names.specs.Slices.{before, after};
 ghost use Rattle.read_index.specs.Index.{names_in};
 ghost use Rattle.table_marks.specs.Puts.{Puts};
 ghost use Rattle.close_parents.specs.Links.{Linked};
@@ -31,7 +30,7 @@ pub struct Sizes {
 
 // Empties the table.
 fn clear(table: &mut [u64])
-    ensures { after table ≡ empty (length (before table)) }
+    ensures { table.new ≡ empty (length table.old) }
 {
     let mut i = 0;
     while i < table.len() {
@@ -51,7 +50,7 @@ fn put_text(
     table: &mut [u64],
 )
     requires { CanTake s.now names.now window n table.old × NotesAt (names_in s.now names.now) window text.now notes.now 0 (length notes.now) }
-    ensures { (ms : List Mark) (q : ℕ) → readings (names_in (before s) (before names)) window (before text) ≡ got ms q → Puts n ms (before table) (after table) }
+    ensures { (ms : List Mark) (q : ℕ) → readings (names_in s.now names.now) window text.now ≡ got ms q → Puts n ms table.old table.new }
 {
     if 0 < notes.len() {
         put_noted(notes, notes.len(), n, table);
@@ -77,7 +76,7 @@ fn run_text(
     requires runnable { Runnable s.now names.now rows.now tops.now z todo.old table.old × Linked z.count rows.now heads.now nexts.now }
     requires notes_at { NotesAt (names_in s.now names.now) z.window text.now notes.now 0 (length notes.now) }
     requires of_sheet { OfSheet s.now (λ k. (ms : List Mark) × Holds s.now text.now k ms) }
-    ensures { RunsText (before s) (before text) (after table) result }
+    ensures { RunsText s.now text.now table.new result }
 {
     clear(table);
     put_text(s, names, z.window, z.n, text, notes, table);
@@ -105,7 +104,7 @@ pub fn run_texts(
     words: &mut [u64],
 )
     requires { AllRunnable s.now names.now rows.now tops.now z texts.now lengths.now noted.now kept.now heads.now nexts.now todo.old table.old words.old }
-    ensures { OfSheet (before s) (λ k. (mss : List (List Mark)) → AllHold (before s) (before texts) (before lengths) k mss → RunsTexts (before s) mss (after table) (after words) k) }
+    ensures { OfSheet s.now (λ k. (mss : List (List Mark)) → AllHold s.now texts.now lengths.now k mss → RunsTexts s.now mss table.new words.new k) }
 {
     let signals = names.len() - LINKS;
     if lengths.len() == 0 {

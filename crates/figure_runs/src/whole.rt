@@ -1,5 +1,4 @@
 // The figures in plain words: the sheet is opened, and what is lent is compared with it. Assumes room for the most records.
-ghost use Rattle.read_names.specs.Slices.{before, after};
 ghost use Rattle.figure_runs.specs.Runs.{OpenedFor, RecordRoom};
 ghost use Rattle.figure_runs.specs.FigureWords.{FiguresInWords};
 
@@ -26,7 +25,7 @@ fn compare_and_run(
     words: &mut [u64],
 ) -> Outcome
     requires { OpenedFor s.now names.now rows.now tops.now z × RecordRoom words.old }
-    ensures { FiguresInWords (before s) (before texts) (before lengths) (before table) (after table) m (after words) result }
+    ensures { FiguresInWords s.now texts.now lengths.now table.old table.new m words.new result }
 {
     if table.len() != 2 * z.count * z.n {
         return Outcome::Refused(15, 0);
@@ -50,7 +49,7 @@ pub fn figures_in_words(
     words: &mut [u64],
 ) -> Outcome
     requires { RecordRoom words.old }
-    ensures { FiguresInWords (before s) (before texts) (before lengths) (before table) (after table) m (after words) result }
+    ensures { FiguresInWords s.now texts.now lengths.now table.old table.new m words.new result }
 {
     let mut names = [0u16; INDEX];
     let mut rows = [8u64; ROWS];

@@ -1,7 +1,8 @@
 // Readings texts joined in one slice: whether their lengths fit it, and their entries noted before the first run. Assumes nothing of the texts.
+#![tactic(auto)]
+
 ghost use Rattle.std.specs.Prelude.{◌≡◌, true, ◌↔◌, ◌≤◌, length};
 ghost use Rattle.spec_limits.specs.Limits.{most_readings};
-ghost use Rattle.read_names.specs.Slices.{before, after};
 ghost use Rattle.read_index.specs.Index.{names_in};
 ghost use Rattle.read_readings.specs.SpanNumbers.{CanNote};
 ghost use Rattle.spec_figures.specs.Texts.{LengthsFit};
@@ -13,7 +14,7 @@ use spec_limits::{READINGS, RUNS};
 
 // Do the lengths fit a slice of m bytes? Each is taken off what is left, so that no sum wraps.
 pub fn lengths_fit(lengths: &[u64], m: usize) -> bool
-    ensures { (result ≡ true) ↔ LengthsFit (before lengths) m }
+    ensures { (result ≡ true) ↔ LengthsFit lengths.now m }
 {
     if RUNS < lengths.len() {
         return false;
@@ -51,7 +52,7 @@ pub fn note_texts(
 ) -> Outcome
     requires can_note { CanNote s.now names.now window noted.old × LengthsFit lengths.now (length texts.now) }
     requires lengths_in_bounds { length lengths.now ≤ length kept.old }
-    ensures { TextsNoted (names_in (before s) (before names)) window (before lengths) (before texts) (after noted) (after kept) result }
+    ensures { TextsNoted (names_in s.now names.now) window lengths.now texts.now noted.new kept.new result }
 {
     let mut at = 0;
     let mut used = 0;

@@ -1,4 +1,6 @@
 // Spans in ascending order, noted as numbers, joined where they overlap or touch. Assumes nothing of the numbers.
+#![tactic(auto)]
+
 ghost use Rattle.std.specs.Prelude.{◌≡◌, ◌<◌, ltb, length};
 ghost use Rattle.spec_limits.specs.Limits.{most_ticks};
 ghost use Rattle.read_bytes.specs.Bytes.{pick};

@@ -1,6 +1,7 @@
 // One add to a lent table, and its listing, with captions or without. Assumes nothing.
+#![tactic(auto)]
+
 ghost use Rattle.std.specs.Prelude.{◌≡◌};
-ghost use Rattle.read_names.specs.Slices.{before, after};
 ghost use Rattle.read_index.specs.Index.{places_in, name_count, IndexOf};
 ghost use Rattle.read_captions.specs.Captions.{no_captions};
 ghost use Rattle.read_captions.specs.Parts.{shown_texts};
@@ -30,7 +31,7 @@ fn settle_table<'a>(
     out: &mut [u8],
 ) -> usize
     requires { Begun s.now places.now window count × Captioned s.now c.now places.now captions.now }
-    ensures { Written (ListsShown (shown_texts (before s) (before c) (before places) (before captions)) (before s) (before readings) (before table) (after table)) (before out) (after out) result }
+    ensures { Written (ListsShown (shown_texts s.now c.now places.now captions.now) s.now readings.now table.old table.new) out.old out.new result }
 {
     let a = add(s, readings, table);
     match a {
@@ -58,7 +59,7 @@ fn settle_opened<'a>(
     out: &mut [u8],
 ) -> usize
     requires { IndexOf s.now names.now × Begun s.now (places_in names.now) window count × (captions.old ≡ no_captions (name_count names.now)) }
-    ensures { Written (PrintsCaptioned (before s) (before readings) (before c) (before table) (after table)) (before out) (after out) result }
+    ensures { Written (PrintsCaptioned s.now readings.now c.now table.old table.new) out.old out.new result }
 {
     let l = note_captions(s, names, c, captions);
     match l {
@@ -92,7 +93,7 @@ pub fn settle_captioned<'a>(
     table: &mut [u64],
     out: &mut [u8],
 ) -> usize
-    ensures { Written (PrintsCaptioned (before s) (before readings) (before c) (before table) (after table)) (before out) (after out) result }
+    ensures { Written (PrintsCaptioned s.now readings.now c.now table.old table.new) out.old out.new result }
 {
     let mut names = [0u16; INDEX];
     let mut rows = [8u64; ROWS];
@@ -124,7 +125,7 @@ pub fn settle_captioned<'a>(
 
 // What settle prints for a sheet and readings: the listing without a caption.
 pub fn settle(s: &[u8], readings: &[u8], table: &mut [u64], out: &mut [u8]) -> usize
-    ensures { Written (Prints (before s) (before readings) (before table) (after table)) (before out) (after out) result }
+    ensures { Written (Prints s.now readings.now table.old table.new) out.old out.new result }
 {
     settle_captioned(s, readings, &s[..0], table, out)
 }

@@ -1,5 +1,7 @@
 // The marks of signals, one sign a tick. The table has the signals' rows, its words cover the window, `clash` is told rightly, and the places of
 // a text can be counted, whatever the marks are.
+#![tactic(auto)]
+
 ghost use Rattle.std.specs.Prelude.{◌≡◌, ℕ, ◌+◌, ◌<◌, length};
 ghost use Rattle.read_bytes.specs.Bytes.{bytes};
 ghost use Rattle.read_captions.specs.Parts.{shown_texts, Showable};

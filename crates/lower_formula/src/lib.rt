@@ -1,5 +1,7 @@
 // The rows of a formula in a sense, children before parents and left before right. `node` and its like are places in the arena, `used`
 // the rows in use. The functions call one another in a cycle, and the formula's size falls.
+#![tactic(auto)]
+
 ghost use Rattle.std.specs.Prelude.{◌≡◌};
 ghost use Rattle.spec_tilco.specs.Formula.{Iff};
 ghost use Rattle.spec_tilco.specs.Lowering.{join as join_of, timed as timedOf, turn};

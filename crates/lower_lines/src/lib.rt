@@ -1,5 +1,7 @@
 // The lines of a sheet's rules, each read into one arena and lowered with the defining rules of its hidden signals before the next is read.
 // Assumes that the head was accepted. `names` is the index of the names in the sheet text `s`.
+#![tactic(auto)]
+
 ghost use Rattle.std.specs.Prelude.{◌+◌, ◌≤◌};
 ghost use Rattle.spec_limits.specs.Limits.{most_hidden};
 ghost use Rattle.read_index.specs.Index.{name_count};

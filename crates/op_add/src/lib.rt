@@ -1,4 +1,6 @@
 // add: the readings are taken into the lent table, and the table is closed. Assumes nothing.
+#![tactic(auto)]
+
 ghost use Rattle.std.specs.Prelude.{length};
 ghost use Rattle.op_add.specs.AddingSays.{adding_says};
 ghost use Rattle.op_add.specs.WorkLists.{ListFor};

@@ -1,4 +1,6 @@
 // ask: what the lent table says of a signal at a tick. Assumes nothing.
+#![tactic(auto)]
+
 ghost use Rattle.op_ask.specs.AskingSays.{asking_says};
 ghost use Rattle.spec_operations.specs.Operations.{Asks};
 

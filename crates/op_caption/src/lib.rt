@@ -1,7 +1,8 @@
 // caption: the part of the captions or of the sheet that is shown of a signal; and the same as a place and a length, or its refusal. Assumes nothing.
+#![tactic(auto)]
+
 ghost use Rattle.std.specs.Prelude.{◌≡◌, ◌≤◌, length};
 ghost use Rattle.spec_tilco.specs.Lists.{All};
-ghost use Rattle.read_names.specs.Slices.{before};
 ghost use Rattle.read_index.specs.Index.{places_in, name_count, names_in, IndexOf};
 ghost use Rattle.read_captions.specs.Captions.{no_captions, captions_in};
 ghost use Rattle.spec_caption.specs.Captioning.{part_by, caption_part, ShowsCaption};
@@ -29,7 +30,7 @@ fn part_noted(
     signal: usize,
 ) -> Captioning
     requires { IndexOf s.now names.now × All (λ p. p ≤ length s.now) (places_in names.now) × (captions.old ≡ no_captions (name_count names.now)) }
-    ensures { captioning_says result ≡ part_by (before s) (before c) (places_in (before names)) signal (captions_in (names_in (before s) (before names)) (before c)) }
+    ensures { captioning_says result ≡ part_by s.now c.now (places_in names.now) signal (captions_in (names_in s.now names.now) c.now) }
 {
     let l = note_captions(s, names, c, captions);
     match l {
@@ -48,7 +49,7 @@ fn part_noted(
 
 // Which text is shown of a signal, where the part starts and how long it is; or the refusal.
 pub fn caption_part(s: &[u8], c: &[u8], signal: usize) -> Captioning
-    ensures { captioning_says result ≡ caption_part (before s) (before c) signal }
+    ensures { captioning_says result ≡ caption_part s.now c.now signal }
 {
     let mut names = [0u16; INDEX];
     let mut rows = [8u64; ROWS];
@@ -77,7 +78,7 @@ pub fn caption_part(s: &[u8], c: &[u8], signal: usize) -> Captioning
 // What is shown of a signal: its caption, a part of the captions' text, where its name has a line there, and else its name, a part of the sheet.
 // No byte where `caption_part` gives a refusal.
 pub fn caption<'a>(sheet: &'a [u8], captions: &'a [u8], signal: usize) -> &'a [u8]
-    ensures { ShowsCaption sheet.entry captions.entry result (caption_part (before sheet) (before captions) signal) }
+    ensures { ShowsCaption sheet.entry captions.entry result (caption_part sheet.now captions.now signal) }
 {
     let a = caption_part(sheet, captions, signal);
     match a {

@@ -1,4 +1,6 @@
 // check: the sheet's row count, or a refusal. Assumes nothing.
+#![tactic(auto)]
+
 ghost use Rattle.std.specs.Prelude.{◌≡◌};
 ghost use Rattle.op_check.specs.CheckingSays.{checking_says};
 ghost use Rattle.spec_operations.specs.Operations.{checked};

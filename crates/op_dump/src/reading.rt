@@ -1,7 +1,6 @@
 // A dump read as readings: the sheet's refusals, the dump's line by line, then 20. Assumes nothing.
 ghost use Rattle.std.specs.Prelude.{suc, ◌≤◌, length};
 ghost use Rattle.spec_limits.specs.Limits.{most_ticks};
-ghost use Rattle.read_names.specs.Slices.{before, after};
 ghost use Rattle.read_index.specs.Index.{name_count, names_in, IndexOf};
 ghost use Rattle.spec_operations.specs.WritingSays.{writing_says};
 ghost use Rattle.spec_operations.specs.TextAnswers.{Gives};
@@ -26,7 +25,7 @@ fn read_events(
     out: &mut [u8],
 ) -> Writing
     requires { IndexOf s.now names.now × (1 ≤ window) × (window ≤ most_ticks) × (p ≤ length d.now) }
-    ensures { Gives (readings_of (names_in (before s) (before names)) window (length (before out)) (events_from window (name_count (before names)) (before d) (suc (length (before d))) 0 0 p)) (before out) (after out) (writing_says result) }
+    ensures { Gives (readings_of (names_in s.now names.now) window (length out.old) (events_from window (name_count names.now) d.now (suc (length d.now)) 0 0 p)) out.old out.new (writing_says result) }
 {
     let mut none = [0u8; 0];
     let mut signs = [b'x'; SIGNALS];
@@ -47,7 +46,7 @@ fn read_events(
 // Reads the dump of an opened sheet.
 fn read_opened(s: &[u8], names: &[u16], window: usize, d: &[u8], out: &mut [u8]) -> Writing
     requires { IndexOf s.now names.now × (1 ≤ window) × (window ≤ most_ticks) }
-    ensures { Gives (readings_of (names_in (before s) (before names)) window (length (before out)) (events (names_in (before s) (before names)) window (before d))) (before out) (after out) (writing_says result) }
+    ensures { Gives (readings_of (names_in s.now names.now) window (length out.old) (events (names_in s.now names.now) window d.now)) out.old out.new (writing_says result) }
 {
     let h = head_lines(s, names, d);
     match h {
@@ -58,7 +57,7 @@ fn read_opened(s: &[u8], names: &[u16], window: usize, d: &[u8], out: &mut [u8])
 
 // Writes the readings of a dump.
 pub fn read_dump(s: &[u8], d: &[u8], out: &mut [u8]) -> Writing
-    ensures { ReadsDump (before s) (before d) (before out) (after out) (writing_says result) }
+    ensures { ReadsDump s.now d.now out.old out.new (writing_says result) }
 {
     let mut names = [0u16; INDEX];
     let mut rows = [8u64; ROWS];

@@ -1,7 +1,7 @@
 // A table written as a dump: the sheet's and the table's refusals, then 23 for a clash, then 20. Assumes nothing.
 ghost use Rattle.std.specs.Prelude.{length};
 ghost use Rattle.read_names.specs.Spellings.{names_at};
-ghost use Rattle.read_names.specs.Slices.{before, after, names_of};
+ghost use Rattle.read_names.specs.Slices.{names_of};
 ghost use Rattle.spec_operations.specs.WritingSays.{writing_says};
 ghost use Rattle.spec_operations.specs.TextAnswers.{Gives};
 ghost use Rattle.spec_dump.specs.DumpTexts.{dump_text};
@@ -29,7 +29,7 @@ fn write_measured(
     out: &mut [u8],
 ) -> Writing
     requires { CanDump (length places.now) window n table.now × ShortNames (names_at s.now places.now) }
-    ensures { Gives (with_room (length (before out)) (dump_text (names_of s places) (sign_events (row_sign n (before table)) (length (before places)) window))) (before out) (after out) (writing_says result) }
+    ensures { Gives (with_room (length out.old) (dump_text (names_of s places) (sign_events (row_sign n table.now) (length places.now) window))) out.old out.new (writing_says result) }
 {
     let mut none = [0u8; 0];
     let long = write_text(s, places, table, n, window, &mut none);
@@ -42,7 +42,7 @@ fn write_measured(
 
 // Writes the dump of the lent table.
 pub fn write_dump(s: &[u8], table: &[u64], out: &mut [u8]) -> Writing
-    ensures { WritesDump (before s) (before table) (before out) (after out) (writing_says result) }
+    ensures { WritesDump s.now table.now out.old out.new (writing_says result) }
 {
     let mut names = [0u16; INDEX];
     let mut rows = [8u64; ROWS];

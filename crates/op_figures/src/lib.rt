@@ -1,5 +1,7 @@
 // figures: several readings texts run against one sheet, and a record for each signal. Assumes nothing.
 // A function that is lent a slice of records is proved by a walk of its own; so these are few and short, and figure_runs does the work in plain words.
+#![tactic(auto)]
+
 ghost use Rattle.std.specs.Prelude.{◌≡◌, ◌*◌, ◌^◌, ◌<◌, ◌≤◌, length};
 ghost use Rattle.figure_run.specs.RecordWords.{record_words, records_in};
 ghost use Rattle.figure_runs.specs.Runs.{RecordRoom};

@@ -1,7 +1,7 @@
 // The two moves: the sheet's and the text's refusals, then 20, or the text written. Assumes nothing.
 ghost use Rattle.std.specs.Prelude.{true, false};
 ghost use Rattle.read_names.specs.Spellings.{names_at};
-ghost use Rattle.read_names.specs.Slices.{before, after, names_of};
+ghost use Rattle.read_names.specs.Slices.{names_of};
 ghost use Rattle.spec_moves.specs.Moves.{Moves};
 ghost use Rattle.op_moves.specs.MovedText.{CanWrite, WritesMoved};
 ghost use Rattle.read_index.specs.Index.{places_in, IndexOf};
@@ -22,7 +22,7 @@ use spec_operations::Writing;
 // Writes the text of the move, if it is short enough and there is room for it. It is measured first, so that a refusal writes nothing.
 fn write_noted(spans: bool, s: &[u8], places: &[u16], noted: &mut [u32], out: &mut [u8]) -> Writing
     requires { CanWrite (names_at s.now places.now) noted.old }
-    ensures { WritesMoved spans (names_of s places) (before noted) (before out) (after out) (writing_says result) }
+    ensures { WritesMoved spans (names_of s places) noted.old out.old out.new (writing_says result) }
 {
     sort_below(noted, 2 * ROW_SPANS * places.len());
     let length = moved_length(spans, s, places, noted);
@@ -46,7 +46,7 @@ fn move_opened(
     out: &mut [u8],
 ) -> Writing
     requires { Opened s.now (places_in names.now) window × IndexOf s.now names.now }
-    ensures { Moves spans (before s) (before readings) (before out) (after out) (writing_says result) }
+    ensures { Moves spans s.now readings.now out.old out.new (writing_says result) }
 {
     let mut noted = [1u32; READINGS];
     let c = note_entries(s, names, window, readings, &mut noted);
@@ -58,7 +58,7 @@ fn move_opened(
 
 // Opens the sheet, and moves the readings.
 fn move_readings(spans: bool, s: &[u8], readings: &[u8], out: &mut [u8]) -> Writing
-    ensures { Moves spans (before s) (before readings) (before out) (after out) (writing_says result) }
+    ensures { Moves spans s.now readings.now out.old out.new (writing_says result) }
 {
     let mut names = [0u16; INDEX];
     let mut rows = [8u64; ROWS];
@@ -77,14 +77,14 @@ fn move_readings(spans: bool, s: &[u8], readings: &[u8], out: &mut [u8]) -> Writ
 
 // Writes the readings as spans.
 pub fn to_spans(s: &[u8], readings: &[u8], out: &mut [u8]) -> Writing
-    ensures { Moves true (before s) (before readings) (before out) (after out) (writing_says result) }
+    ensures { Moves true s.now readings.now out.old out.new (writing_says result) }
 {
     move_readings(true, s, readings, out)
 }
 
 // Writes the readings one by one.
 pub fn to_readings(s: &[u8], readings: &[u8], out: &mut [u8]) -> Writing
-    ensures { Moves false (before s) (before readings) (before out) (after out) (writing_says result) }
+    ensures { Moves false s.now readings.now out.old out.new (writing_says result) }
 {
     move_readings(false, s, readings, out)
 }

@@ -2,7 +2,7 @@
 // of the text can be counted.
 ghost use Rattle.std.specs.Prelude.{false};
 ghost use Rattle.read_names.specs.Spellings.{names_at};
-ghost use Rattle.read_names.specs.Slices.{before, after, names_of};
+ghost use Rattle.read_names.specs.Slices.{names_of};
 ghost use Rattle.read_reading.specs.Spans.{span};
 ghost use Rattle.join_spans.specs.Joining.{singles};
 ghost use Rattle.join_spans.specs.Runs.{in_row};
@@ -25,7 +25,7 @@ fn write_singles(
     used: usize,
 ) -> usize
     requires { Writable (names_at s.now places.now) (span signal value first last) × Counted used (entries_text false (names_at s.now places.now) (singles (span signal value first last))) }
-    ensures { Wrote (entries_text false (names_of s places) (singles (span signal value first last))) used (before out) (after out) result }
+    ensures { Wrote (entries_text false (names_of s places) (singles (span signal value first last))) used out.old out.new result }
 {
     let mut at = used;
     let mut tick = first;
@@ -48,7 +48,7 @@ fn write_run(
     used: usize,
 ) -> usize
     requires { Writable (names_at s.now places.now) (in_row row first last) × Counted used (entries_text spans (names_at s.now places.now) (run_entries spans (in_row row first last))) }
-    ensures { Wrote (entries_text spans (names_of s places) (run_entries spans (in_row row first last))) used (before out) (after out) result }
+    ensures { Wrote (entries_text spans (names_of s places) (run_entries spans (in_row row first last))) used out.old out.new result }
 {
     let signal = row / 2;
     let value = row % 2 == 1;
@@ -62,7 +62,7 @@ fn write_run(
 // The text of the move: the joined spans of the numbers, one after the other.
 pub fn write_moved(spans: bool, s: &[u8], places: &[u16], noted: &[u32], out: &mut [u8]) -> usize
     requires { CanWrite (names_at s.now places.now) noted.now × Counted 0 (moved_text spans (names_at s.now places.now) noted.now) }
-    ensures { Wrote (moved_text spans (names_of s places) noted.now) 0 (before out) (after out) result }
+    ensures { Wrote (moved_text spans (names_of s places) noted.now) 0 out.old out.new result }
 {
     let mut at = 0;
     let mut i = 0;

@@ -1,7 +1,8 @@
 // print_rule: a rule's text as it was understood, or a refusal. Assumes nothing.
+#![tactic(auto)]
+
 ghost use Rattle.std.specs.Prelude.{◌≡◌, ◌*◌, ◌≤◌, length};
 ghost use Rattle.spec_limits.specs.Limits.{most_bytes, most_rules, most_rule_bytes};
-ghost use Rattle.read_names.specs.Slices.{before, after};
 ghost use Rattle.read_index.specs.Index.{names_in};
 ghost use Rattle.read_arena.specs.NodeRules.{written_at};
 ghost use Rattle.read_sheet.specs.Sheet.{rule_line};
@@ -28,7 +29,7 @@ const KEY: usize = 5;
 // The place of the line of a rule, where that of the first one is `first`.
 fn line_of(s: &[u8], rule: usize, first: usize) -> usize
     requires { (first ≤ length s.now) × (length s.now ≤ most_bytes) × (rule ≤ most_rules) }
-    ensures { result ≡ line_of (before s) rule first }
+    ensures { result ≡ line_of s.now rule first }
 {
     let mut left = rule;
     let mut at = first;
@@ -43,7 +44,7 @@ fn line_of(s: &[u8], rule: usize, first: usize) -> usize
 fn print_node(s: &[u8], names: &[u16], arena: &[u16], node: usize, out: &mut [u8]) -> Writing
     requires named_node { NamedNode names.now arena.now node }
     requires node_len_bound { length (printed (names_in s.now names.now) (written_at arena.now node)) ≤ 2 * most_rule_bytes }
-    ensures { Gives (with_room (length (before out)) (printed (names_in (before s) (before names)) (written_at (before arena) node))) (before out) (after out) (writing_says result) }
+    ensures { Gives (with_room (length out.old) (printed (names_in s.now names.now) (written_at arena.now node))) out.old out.new (writing_says result) }
 {
     let mut text = [0u8; RULE_BYTES];
     let length = write_formula(s, names, arena, node, &mut text, 0);
@@ -60,7 +61,7 @@ fn print_node(s: &[u8], names: &[u16], arena: &[u16], node: usize, out: &mut [u8
 // Reads again the rule whose line is at `at`, and prints it.
 fn print_line(s: &[u8], names: &[u16], at: usize, out: &mut [u8]) -> Writing
     requires { RuleAt s.now names.now at }
-    ensures { Gives (printed_line (names_in (before s) (before names)) (length (before out)) (rule_line (names_in (before s) (before names)) (before s) at)) (before out) (after out) (writing_says result) }
+    ensures { Gives (printed_line (names_in s.now names.now) (length out.old) (rule_line (names_in s.now names.now) s.now at)) out.old out.new (writing_says result) }
 {
     let mut arena = [0u16; ARENA];
     let v = at + KEY;
@@ -75,7 +76,7 @@ fn print_line(s: &[u8], names: &[u16], at: usize, out: &mut [u8]) -> Writing
 // Finds the rule in an opened sheet, whose names are in the index, and prints it. The line `rules=` follows that of the last name.
 fn print_opened(s: &[u8], names: &[u16], rule: usize, out: &mut [u8]) -> Writing
     requires { OpenedNames s.now names.now }
-    ensures { PrintsRule (before s) rule (before out) (after out) (writing_says result) }
+    ensures { PrintsRule s.now rule out.old out.new (writing_says result) }
 {
     let last = names[names.len() - 1] as usize;
     let line = line_end(s, last) + 1;
@@ -94,7 +95,7 @@ fn print_opened(s: &[u8], names: &[u16], rule: usize, out: &mut [u8]) -> Writing
 
 // Prints a rule back.
 pub fn print_rule(s: &[u8], rule: usize, out: &mut [u8]) -> Writing
-    ensures { PrintsRule (before s) rule (before out) (after out) (writing_says result) }
+    ensures { PrintsRule s.now rule out.old out.new (writing_says result) }
 {
     let mut names = [0u16; INDEX];
     let mut rows = [8u64; ROWS];

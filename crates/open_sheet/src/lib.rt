@@ -1,4 +1,6 @@
 // Opening a sheet: it is read and lowered. Assumes nothing of the sheet; the buffers are the operation's own.
+#![tactic(auto)]
+
 ghost use Rattle.std.specs.Prelude.{◌≡◌, ℕ};
 ghost use Rattle.read_bytes.specs.Read.{Refusal};
 ghost use Rattle.read_bytes.specs.Read.Read.{refused};

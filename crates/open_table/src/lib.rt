@@ -1,5 +1,7 @@
 // What comes before a reading or a question: the sheet is opened, and the lent table compared with it.
 // Assumes nothing of the sheet and the table; the other buffers are the operation's own.
+#![tactic(auto)]
+
 ghost use Rattle.open_sheet.specs.Buffers.{Fresh};
 ghost use Rattle.open_table.specs.OpenedTable.{TableOpens};
 

@@ -1,5 +1,7 @@
 // One rule's formula as numbers in a lent buffer: four numbers a node, children before parents.
 // The rule parser puts nodes; lowering and printing read them.
+#![tactic(auto)]
+
 ghost use Rattle.std.specs.Prelude.{◌≡◌, [], ◌∷◌, ◌<◌};
 ghost use Rattle.read_arena.specs.Nodes.{pick, sign_of, sign_number, node_at, code_of, put_node, put_keep};
 ghost use Rattle.read_arena.specs.NodeRules.{ChildrenBefore, Storable, HasNode, NodeRoom};

@@ -1,8 +1,9 @@
 // Captions by house: the lines of a captions text read, and the part of one of the two texts that is shown of a signal.
 // Assumes nothing of the captions' text `c`. `names` is the index of the names in the sheet text `s`.
+#![tactic(auto)]
+
 ghost use Rattle.std.specs.Prelude.{◌≡◌, [], ◌<◌, ◌≤◌, length, get_or};
 ghost use Rattle.read_lines.specs.Lines.{says};
-ghost use Rattle.read_names.specs.Slices.{before, after};
 ghost use Rattle.read_bytes.specs.Bytes.{run_end};
 ghost use Rattle.read_index.specs.Index.{name_count, names_in, IndexOf};
 ghost use Rattle.read_captions.specs.Captions.{before_equals, caption_end, caption_form, no_captions, LineTaken, CaptionsNoted};
@@ -22,7 +23,7 @@ pub enum Part {
 
 // The place of the first `=` or LF from `at` on, or the text's length.
 fn name_end(c: &[u8], at: usize) -> usize
-    ensures { result ≡ run_end before_equals (before c) at }
+    ensures { result ≡ run_end before_equals c.now at }
 {
     let mut i = at;
     while i < c.len() {
@@ -39,7 +40,7 @@ fn name_end(c: &[u8], at: usize) -> usize
 
 // The place after the caption at `at`.
 fn caption_end(c: &[u8], at: usize) -> usize
-    ensures { result ≡ caption_end (before c) at }
+    ensures { result ≡ caption_end c.now at }
 {
     let mut i = at;
     while i < c.len() {
@@ -57,7 +58,7 @@ fn caption_end(c: &[u8], at: usize) -> usize
 // The line at `p` in its form: the place of its caption, and that of its LF.
 fn caption_form(c: &[u8], p: usize) -> Step
     requires { p ≤ length c.now }
-    ensures { says result ≡ caption_form (before c) p }
+    ensures { says result ≡ caption_form c.now p }
 {
     let a = name_end(c, p);
     if c.len() <= a {
@@ -84,7 +85,7 @@ fn caption_form(c: &[u8], p: usize) -> Step
 // Takes the line at `p`: notes the place of its caption at its signal's number. What is found among the names is a name, and is not judged.
 fn take_line(s: &[u8], names: &[u16], c: &[u8], p: usize, captions: &mut [usize]) -> Step
     requires { IndexOf s.now names.now × (p ≤ length c.now) × (length captions.old ≡ name_count names.now) }
-    ensures { LineTaken (names_in (before s) (before names)) (before c) p (before captions) (after captions) result }
+    ensures { LineTaken (names_in s.now names.now) c.now p captions.old captions.new result }
 {
     let l = caption_form(c, p);
     let Step::Got(v, e) = l else {
@@ -110,7 +111,7 @@ fn take_line(s: &[u8], names: &[u16], c: &[u8], p: usize, captions: &mut [usize]
 // Takes all lines. The list of captions has a 0 for each signal.
 pub fn note_captions(s: &[u8], names: &[u16], c: &[u8], captions: &mut [usize]) -> Step
     requires { IndexOf s.now names.now × (captions.old ≡ no_captions (name_count names.now)) }
-    ensures { CaptionsNoted (names_in (before s) (before names)) (before c) (after captions) result }
+    ensures { CaptionsNoted (names_in s.now names.now) c.now captions.new result }
 {
     let mut p = 0;
     while p < c.len() {
@@ -126,7 +127,7 @@ pub fn note_captions(s: &[u8], names: &[u16], c: &[u8], captions: &mut [usize]) 
 // The part that is shown of the name at `name`, whose caption stands at `caption` unless that is 0.
 pub fn shown_part(s: &[u8], c: &[u8], name: usize, caption: usize) -> Part
     requires { (name ≤ length s.now) × (caption ≤ length c.now) }
-    ensures { result ≡ shown_part (before s) (before c) name caption }
+    ensures { result ≡ shown_part s.now c.now name caption }
 {
     if caption == 0 {
         let e = spelling_end(s, name);
@@ -157,7 +158,7 @@ pub fn shown_text<'a>(
     x: usize,
 ) -> &'a [u8]
     requires { Showable s.now c.now places.now captions.now × (x < length places.now) }
-    ensures { result.now ≡ get_or (shown_texts (before s) (before c) (before places) (before captions)) x [] }
+    ensures { result.now ≡ get_or (shown_texts s.now c.now places.now captions.now) x [] }
 {
     let name = places[x] as usize;
     let caption = captions[x];

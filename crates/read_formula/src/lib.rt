@@ -1,6 +1,8 @@
 // The parser of a rule: its levels call one another in a cycle, and the remaining text falls. `s` is the sheet up to the rule's LF, `names`
 // the index of the declared names in it, `at` the place to read from, `used` the nodes in the arena, `hidden` the next hidden signal's
 // row, and at most `depth` of `(` and `!` may still be opened.
+#![tactic(auto)]
+
 ghost use Rattle.std.specs.Prelude.{◌-◌};
 ghost use Rattle.spec_tilco.specs.Formula.{And, Or, Implies, Iff};
 ghost use Rattle.read_index.specs.Index.{IndexOf};

@@ -1,10 +1,11 @@
 // What stands before the rules: the window, the signals' names, and how many rules there are. Assumes nothing of the text but its length.
 // `names` is the index of the names in the sheet text `s`.
+#![tactic(auto)]
+
 ghost use Rattle.std.specs.Prelude.{◌≡◌, [], ℕ, ◌<◌, ◌≤◌, length};
 ghost use Rattle.spec_limits.specs.Limits.{most_bytes, most_signals};
 ghost use Rattle.read_bytes.specs.Read.{Refusal};
 ghost use Rattle.read_bytes.specs.Read.Read.{refused};
-ghost use Rattle.read_names.specs.Slices.{before, after};
 ghost use Rattle.read_lines.specs.Lines.{says, in_turn};
 ghost use Rattle.read_head.specs.declared.Heading.TheVariants.{Refused};
 ghost use Rattle.read_head.specs.SheetHead.{signal_line, NamesPut, SignalRead, SignalsRead, NoNames, Headed};
@@ -28,7 +29,7 @@ pub enum Heading {
 // The line at `at` with the name of a signal, after the first `count` names: the name is put into the index. Its place, and the place after the line.
 fn signal_line(s: &[u8], names: &mut [u16], count: usize, at: usize) -> Step
     requires { NamesPut s.now names.old count × (count < most_signals) × (at ≤ length s.now) × (length s.now ≤ most_bytes) }
-    ensures { SignalRead (before s) (before names) (after names) count at result }
+    ensures { SignalRead s.now names.old names.new count at result }
 {
     let l = name_line(s, at, b"signal=", 2, 4);
     let Step::Got(v, next) = l else {
@@ -49,7 +50,7 @@ fn signal_line(s: &[u8], names: &mut [u16], count: usize, at: usize) -> Step
 // The lines of `n` signals from `at` on: each name is put into the index, and the place after the lines is given.
 fn signals_at(s: &[u8], names: &mut [u16], n: usize, at: usize) -> Step
     requires { NamesPut s.now names.old 0 × (n ≤ most_signals) × (at ≤ length s.now) × (length s.now ≤ most_bytes) }
-    ensures { SignalsRead (before s) (after names) n (in_turn (signal_line (before s)) n [] at) result }
+    ensures { SignalsRead s.now names.new n (in_turn (signal_line s.now) n [] at) result }
 {
     let mut i = 0;
     let mut p = at;
@@ -78,7 +79,7 @@ fn refused_line(l: Step) -> Heading
 // The head of the sheet: the index gets each signal's name.
 pub fn head(s: &[u8], names: &mut [u16]) -> Heading
     requires { NoNames names.old × (length s.now ≤ most_bytes) }
-    ensures { Headed (before s) (after names) result }
+    ensures { Headed s.now names.new result }
 {
     let a = ranged_line(s, 0, b"window=", 2, 3, 1, TICKS);
     let Step::Got(window, p) = a else {

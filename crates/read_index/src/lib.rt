@@ -1,8 +1,9 @@
 // The index of the declared names: a spelling's slot leads to the names in it, the last one first, and from each to the one before it.
 // Assumes that `names` is an index of the text `s`, whose names it has the places of.
+#![tactic(auto)]
+
 ghost use Rattle.std.specs.Prelude.{◌≡◌, true, ◌+◌, ◌<◌, ◌≤◌, length};
 ghost use Rattle.read_bytes.specs.Bytes.{name_byte, every};
-ghost use Rattle.read_names.specs.Slices.{before, after};
 ghost use Rattle.read_names.specs.Spellings.{spelling_at, same_text_lem};
 ghost use Rattle.read_index.specs.Index.{slots, links, names_in, IndexOf, put_name};
 ghost use Rattle.read_index.specs.Finds.{Slotted, Finds};
@@ -47,7 +48,7 @@ pub struct Found {
 // stands here as branches: as a function's answer it costs some five instructions a byte more.
 fn slot_at(r: &[u8], at: usize) -> Slot
     requires { at ≤ length r.now }
-    ensures { Slotted (before r) at result }
+    ensures { Slotted r.now at result }
 {
     let mut i = at;
     let mut h: usize = 0;
@@ -86,7 +87,7 @@ fn slot_at(r: &[u8], at: usize) -> Slot
 // Is the spelling at `a` the spelling `w`?
 fn is_name(s: &[u8], a: usize, w: &[u8]) -> bool
     requires { (a ≤ length s.now) × (every name_byte w.now ≡ true) }
-    ensures { result ≡ same_text_lem (spelling_at (before s) a) (before w) }
+    ensures { result ≡ same_text_lem (spelling_at s.now a) w.now }
 {
     let next = a + w.len();
     if next <= s.len() {
@@ -99,7 +100,7 @@ fn is_name(s: &[u8], a: usize, w: &[u8]) -> bool
 // Looks the spelling at `at` of `r` up.
 pub fn find(s: &[u8], names: &[u16], r: &[u8], at: usize) -> Found
     requires { IndexOf s.now names.now × (at ≤ length r.now) }
-    ensures { Finds (names_in (before s) (before names)) (before r) at result }
+    ensures { Finds (names_in s.now names.now) r.now at result }
 {
     let k = slot_at(r, at);
     let end = k.end;
@@ -121,7 +122,7 @@ pub fn find(s: &[u8], names: &[u16], r: &[u8], at: usize) -> Found
 // Puts a name more, at `place` and in `slot`, after the first `count`.
 pub fn put_name(names: &mut [u16], count: usize, place: usize, slot: usize)
     requires { (slot < slots) × (links + count < length names.old) × (count ≤ 65534) × (place ≤ 65535) }
-    ensures { after names ≡ put_name (before names) count place slot }
+    ensures { names.new ≡ put_name names.old count place slot }
 {
     names[LINKS + count] = place as u16;
     names[SLOTS + count] = names[slot];

@@ -1,4 +1,6 @@
 // The interval of a timed part. An end is kept with 10,000 added (`END_ZERO`), so that it is never negative. Assumes nothing of the text.
+#![tactic(auto)]
+
 ghost use Rattle.std.specs.Prelude.{◌≡◌, ◌≤◌, length};
 ghost use Rattle.read_bytes.specs.Numbers as number;
 ghost use Rattle.read_interval.specs.Interval.{end_at, left_out, offsets_of, close_at, comma_at, interval};

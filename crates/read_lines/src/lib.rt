@@ -1,5 +1,7 @@
 // Lines of a text: a key, a value, and LF. Assumes nothing of the text.
 // `form` is the number of the refusal for a line's form, at the line, and `content` that for its content, at the value.
+#![tactic(auto)]
+
 ghost use Rattle.std.specs.Prelude.{◌≡◌, ◌+◌, ◌≤◌, length};
 ghost use Rattle.read_lines.specs.Lines.{says, line_end, keyed_at, lf_at, NoName, line, number_value, ranged_value, ranged_line, name_line};
 

@@ -121,6 +121,7 @@ find_is w (n ∷ ns) h = go (same_text_lem n w) refl (find_is w ns)
 
 -- A number is found for each of the names.
 find_of : (w : List ℕ) (ns : List (List ℕ)) → Memᴰ w ns → find_name w ns < length ns
+find_of w [] m = elim m [ ]
 find_of w (n ∷ ns) (Memᴰ.head i) =
     let e = find_here w n ns (rw i (same_self n)) in
     omega arith

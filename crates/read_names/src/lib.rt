@@ -1,5 +1,7 @@
 // Spellings in a text, which are letters and digits up to the first byte that is neither, names among them, and the number at a name's end.
 // Assumes nothing of the text.
+#![tactic(auto)]
+
 ghost use Rattle.std.specs.Prelude.{◌≡◌, not, ◌+◌, ◌-◌, ◌≤◌, length, take, drop};
 ghost use Rattle.read_bytes.specs.Bytes.{bytes, peek, pick, name_byte};
 ghost use Rattle.read_names.specs.declared.NameRead.TheVariants.{Name, Other};

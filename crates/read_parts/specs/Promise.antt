@@ -6,7 +6,7 @@ use Rattle.std.proofs.Math.Option.{Option}
 use Rattle.read_bytes.specs.declared.bytes.Class.TheVariants.{Letter}
 use Rattle.read_bytes.specs.Read.{Read}
 use Rattle.read_bytes.specs.Bytes.{peek, pick, class_of}
-use Rattle.read_names.specs.Slices.{Slice, before, after}
+use Rattle.read_names.specs.Slices.{Slice, MutSlice, before, old, new}
 use Rattle.read_index.specs.Index.{names_in}
 use Rattle.spec_tilco.specs.Formula.{Op, Written, hiddens}
 use Rattle.read_arena.specs.declared.Sign.{Sign}
@@ -104,21 +104,21 @@ module _ (s names : Slice) (d : ℕ) where
 -- ---- what is promised, of a part R whose bytes and nodes are counted from p on
 
 -- The answer is what R says, and on a formula the arena holds it at its last node, its hidden signals numbered from h.
-abbrev pub Reads : Read Written → Slice → Slice → ℕ → ℕ → ℕ → Parsed → Type 0
-Reads R s arena p m h r = Parses (before arena) (after arena) (length (before s)) 1 p m h h R r
+abbrev pub Reads : Read Written → Slice → MutSlice → ℕ → ℕ → ℕ → Parsed → Type 0
+Reads R s arena p m h r = Parses (old arena) (new arena) (length (before s)) 1 p m h h R r
 
 -- The same of what follows a part: whatever formula f stands at the last node, its hidden signals numbered from x, the answer is what R says
 -- of f, with enough turns n.
-abbrev pub ReadsOn : (ℕ → Written → Read Written) → Slice → Slice → ℕ → ℕ → ℕ → Parsed → Type 0
+abbrev pub ReadsOn : (ℕ → Written → Read Written) → Slice → MutSlice → ℕ → ℕ → ℕ → Parsed → Type 0
 ReadsOn R s arena p m h r =
-    (n x : ℕ) (f : Written) → length (before s) ≤ p + n → Held (before arena) x (m - 1) f → h ≡ x + hiddens f
-    → Parses (before arena) (after arena) (length (before s)) 0 p m h x (R n f) r
+    (n x : ℕ) (f : Written) → length (before s) ≤ p + n → Held (old arena) x (m - 1) f → h ≡ x + hiddens f
+    → Parses (old arena) (new arena) (length (before s)) 0 p m h x (R n f) r
 
 -- The same of what follows the first formula f of since or until, whose own hidden signal has the row before those of f.
-abbrev pub ReadsSecond : (Written → Read Written) → Slice → Slice → ℕ → ℕ → ℕ → ℕ → Parsed → Type 0
+abbrev pub ReadsSecond : (Written → Read Written) → Slice → MutSlice → ℕ → ℕ → ℕ → ℕ → Parsed → Type 0
 ReadsSecond R s arena p m h row r =
-    (f : Written) → Held (before arena) (suc row) (m - 1) f → h ≡ suc row + hiddens f
-    → Parses (before arena) (after arena) (length (before s)) 0 p m h row (R f) r
+    (f : Written) → Held (old arena) (suc row) (m - 1) f → h ≡ suc row + hiddens f
+    → Parses (old arena) (new arena) (length (before s)) 0 p m h row (R f) r
 
 -- A level's part with the last one of u nodes: the first stands for itself, any other is joined by the sign to what stands before it, with the
 -- last one of m nodes. The arena goes from a to a', and r nodes are then used.

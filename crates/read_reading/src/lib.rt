@@ -1,10 +1,11 @@
 // One entry of a readings text: a reading of three lines, or a span of four. Assumes nothing of the text. `names` is the index of the names in the sheet text `s`.
+#![tactic(auto)]
+
 ghost use Rattle.std.specs.Prelude.{◌≡◌, ℕ, ◌≤◌, length};
 ghost use Rattle.read_bytes.specs.Bytes.{bytes};
 ghost use Rattle.read_bytes.specs.Read.{Refusal};
 ghost use Rattle.read_bytes.specs.Read.Read.{refused};
 ghost use Rattle.read_lines.specs.Lines.{says, ranged_line};
-ghost use Rattle.read_names.specs.Slices.{before};
 ghost use Rattle.read_index.specs.Index.{names_in, IndexOf};
 ghost use Rattle.read_reading.specs.declared.Entry.TheVariants.{Refused};
 ghost use Rattle.read_reading.specs.OneEntry.{known_line, tick_line, first_key, to_line, last_tick, entry, entry_says};
@@ -28,7 +29,7 @@ pub enum Entry {
 // What `known_line` does, the name judged first: for a line where no declared name was found up to an LF.
 fn unknown_line(s: &[u8], names: &[u16], r: &[u8], at: usize) -> Step
     requires { IndexOf s.now names.now × (at ≤ length r.now) }
-    ensures { says result ≡ known_line (names_in (before s) (before names)) (before r) at }
+    ensures { says result ≡ known_line (names_in s.now names.now) r.now at }
 {
     let l = name_line(r, at, b"signal=", 11, 12);
     let Step::Got(v, next) = l else {
@@ -46,7 +47,7 @@ fn unknown_line(s: &[u8], names: &[u16], r: &[u8], at: usize) -> Step
 // The line at `at` with a declared name: the signal's number, and the place after the line. What is found among the names is a name, and is not judged.
 pub fn known_line(s: &[u8], names: &[u16], r: &[u8], at: usize) -> Step
     requires { IndexOf s.now names.now × (at ≤ length r.now) }
-    ensures { says result ≡ known_line (names_in (before s) (before names)) (before r) at }
+    ensures { says result ≡ known_line (names_in s.now names.now) r.now at }
 {
     if keyed(r, at, b"signal=") {
         let v = at + 7;
@@ -67,7 +68,7 @@ pub fn known_line(s: &[u8], names: &[u16], r: &[u8], at: usize) -> Step
 // text at once.
 fn to_line(window: usize, r: &[u8], first: usize, at: usize) -> Step
     requires { (1 ≤ window) × (at ≤ length r.now) }
-    ensures { says result ≡ to_line window (before r) first at }
+    ensures { says result ≡ to_line window r.now first at }
 {
     let end = window - 1;
     if !keyed(r, at, b"to=") {
@@ -88,7 +89,7 @@ fn to_line(window: usize, r: &[u8], first: usize, at: usize) -> Step
 // The first line of the entry at `at`: its first tick.
 fn first_line(spans: bool, window: usize, r: &[u8], at: usize) -> Step
     requires { (1 ≤ window) × (at ≤ length r.now) }
-    ensures { says result ≡ tick_line window (before r) at (first_key spans) }
+    ensures { says result ≡ tick_line window r.now at (first_key spans) }
 {
     let end = window - 1;
     if spans {
@@ -106,7 +107,7 @@ fn first_line(spans: bool, window: usize, r: &[u8], at: usize) -> Step
 // The last tick of an entry from the tick `first` on: a span has a line for it at `at`.
 fn last_tick(spans: bool, window: usize, r: &[u8], first: usize, at: usize) -> Step
     requires { (1 ≤ window) × (at ≤ length r.now) }
-    ensures { says result ≡ last_tick spans window (before r) first at }
+    ensures { says result ≡ last_tick spans window r.now first at }
 {
     if spans {
         to_line(window, r, first, at)
@@ -118,7 +119,7 @@ fn last_tick(spans: bool, window: usize, r: &[u8], first: usize, at: usize) -> S
 // The line `value=` at `at`: the value, 0 or 1.
 fn value_line(r: &[u8], at: usize) -> Step
     requires { at ≤ length r.now }
-    ensures { says result ≡ ranged_line (before r) at (bytes "value=") 11 14 0 1 }
+    ensures { says result ≡ ranged_line r.now at (bytes "value=") 11 14 0 1 }
 {
     if keyed(r, at, b"value=") {
         ranged_value(r, at, at + 6, 11, 14, 0, 1)
@@ -141,7 +142,7 @@ fn refused_line(l: Step) -> Entry
 // The entry whose first line starts at `at`.
 pub fn entry_at(spans: bool, s: &[u8], names: &[u16], window: usize, r: &[u8], at: usize) -> Entry
     requires { IndexOf s.now names.now × (1 ≤ window) × (at ≤ length r.now) }
-    ensures { entry_says result ≡ entry spans (names_in (before s) (before names)) window (before r) at }
+    ensures { entry_says result ≡ entry spans (names_in s.now names.now) window r.now at }
 {
     let a = first_line(spans, window, r, at);
     let Step::Got(first, p) = a else {

@@ -3,7 +3,6 @@ ghost use Rattle.std.specs.Prelude.{◌≡◌, ℕ};
 ghost use Rattle.read_lines.specs.declared.Step.TheVariants.{Refused};
 ghost use Rattle.read_bytes.specs.Read.{Refusal};
 ghost use Rattle.read_bytes.specs.Read.Read.{refused};
-ghost use Rattle.read_names.specs.Slices.{before, after};
 ghost use Rattle.read_index.specs.Index.{names_in};
 ghost use Rattle.read_reading.specs.OneEntry.{entry_says};
 ghost use Rattle.read_readings.specs.Readings.{entries, readings};
@@ -43,7 +42,7 @@ fn refused_entry(a: Entry) -> Step
 // Notes each entry of the text: how many there are, and the text's end.
 pub fn note_entries(s: &[u8], names: &[u16], window: usize, r: &[u8], noted: &mut [u32]) -> Step
     requires { CanNote s.now names.now window noted.old }
-    ensures { EntriesNoted (entries (names_in (before s) (before names)) window (before r)) (after noted) result }
+    ensures { EntriesNoted (entries (names_in s.now names.now) window r.now) noted.new result }
 {
     if BYTES < r.len() {
         return Step::Refused(10, 0);
@@ -82,7 +81,7 @@ pub fn take_readings(
     table: &mut [u64],
 ) -> Outcome
     requires { CanTake s.now names.now window n table.old }
-    ensures { ReadingsTaken (readings (names_in (before s) (before names)) window (before r)) n (before table) (after table) result }
+    ensures { ReadingsTaken (readings (names_in s.now names.now) window r.now) n table.old table.new result }
 {
     let mut noted = [1u32; READINGS];
     let c = note_entries(s, names, window, r, &mut noted);

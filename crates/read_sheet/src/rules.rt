@@ -1,5 +1,4 @@
 // A rule's line. Assumes nothing of the text. `names` is the index of the names in the sheet text `s`, before the rules.
-ghost use Rattle.read_names.specs.Slices.{before, after};
 ghost use Rattle.read_index.specs.Index.{names_in};
 ghost use Rattle.read_sheet.specs.Sheet.{rule_to, rule_line};
 ghost use Rattle.read_sheet.specs.RuleAnswers.{LineReady, AtValue, RuleRead};
@@ -12,7 +11,7 @@ use spec_limits::RULE_BYTES;
 // The rule from `v` to its LF at `e`, read into the arena. Its hidden signals are numbered from `hidden`.
 fn rule_to(s: &[u8], names: &[u16], arena: &mut [u16], v: usize, e: usize, hidden: usize) -> Parsed
     requires { AtValue s.now arena.old names.now v e hidden }
-    ensures { RuleRead (after arena) hidden (rule_to (names_in (before s) (before names)) (before s) v e) result }
+    ensures { RuleRead arena.new hidden (rule_to (names_in s.now names.now) s.now v e) result }
 {
     let n = e - v;
     match n {
@@ -30,7 +29,7 @@ fn rule_to(s: &[u8], names: &[u16], arena: &mut [u16], v: usize, e: usize, hidde
 // The line at `at` with a rule, read into the arena: the place after the line, the nodes used, and the next hidden signal's row.
 pub fn rule_line(s: &[u8], names: &[u16], arena: &mut [u16], at: usize, hidden: usize) -> Parsed
     requires { LineReady s.now arena.old names.now at hidden }
-    ensures { RuleRead (after arena) hidden (rule_line (names_in (before s) (before names)) (before s) at) result }
+    ensures { RuleRead arena.new hidden (rule_line (names_in s.now names.now) s.now at) result }
 {
     let l = line_at(s, at, b"rule=", 2);
     match l {

@@ -1,5 +1,7 @@
 // A program's table of cases: texts under headings. A heading is a line of `=== `, a word and what the case shows. Assumes nothing of the cases.
 // `-` after the word leaves out the text's last LF, and `*` with a number repeats the text so often.
+#![tactic(auto)]
+
 ghost use Rattle.std.specs.Prelude.{◌<◌, ◌≤◌, length};
 ghost use Rattle.io.specs.Counts.{IsPrefixLen};
 

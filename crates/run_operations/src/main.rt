@@ -5,6 +5,8 @@
 // that was not written, if there is one. `=== dump N` writes the table as a dump into such a buffer, and `=== undump N` reads the dump under it.
 // `=== caption X` with the captions, of which it shows signal X: where the part stands, and its bytes.
 // `=== figures M N ..:` with the joined readings texts, of N bytes each, for M records; the table is the work table.
+#![tactic(auto)]
+
 mod captions;
 mod figures;
 mod numbers;

@@ -1,4 +1,6 @@
 // What programs share that read their texts from files: a file's bytes, what the arguments ask for, and a table emptied. Assumes nothing.
+#![tactic(auto)]
+
 ghost use Rattle.io.specs.Counts.{IsPrefixLen};
 
 use read_bytes::numbers::{Number, number_at};

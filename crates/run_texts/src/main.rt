@@ -1,6 +1,8 @@
 // Runs the readers and the listing on a table of cases and prints each text with its answer. Assumes nothing of the cases, which are on standard input.
 // A text stands under a heading: `=== sheet`, `=== readings`, `=== list`, `=== captions` or `=== house`, then what it shows. Readings are read against the sheet
 // before them; under `=== list` they are listed with it, and under `=== house` with the captions before them too.
+#![tactic(auto)]
+
 ghost use Rattle.std.specs.Prelude.{◌<◌, length};
 
 use libc::STDIN_FILENO;

@@ -1,4 +1,6 @@
 // Prints the listing of the sheet and the readings in the current folder, sheet.txt and readings.txt. A file that can't be read counts as empty.
+#![tactic(auto)]
+
 use libc::STDOUT_FILENO;
 use list_settled::settle;
 use run_parts::{TEXT, read_text};

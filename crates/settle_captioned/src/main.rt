@@ -1,5 +1,7 @@
 // Prints the listing of the sheet and the readings in the current folder with its captions: sheet.txt, readings.txt and captions.txt. A file that can't be
 // read counts as empty.
+#![tactic(auto)]
+
 use libc::STDOUT_FILENO;
 use list_settled::settle_captioned;
 use run_parts::{TEXT, read_text};

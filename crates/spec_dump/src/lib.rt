@@ -1,1 +1,3 @@
 // Value change dumps: definitions and theorems, and no function.
+#![tactic(auto)]
+

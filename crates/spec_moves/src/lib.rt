@@ -1,1 +1,3 @@
 // What the moves between readings and spans promise: definitions in specs/, theorems in proofs/, and no function.
+#![tactic(auto)]
+

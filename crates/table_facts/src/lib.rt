@@ -1,5 +1,7 @@
 // What a table tells: its facts, whether a row has both marks at one tick, and whether every mark is in the window.
 // Assumes that the table has the rows.
+#![tactic(auto)]
+
 ghost use Rattle.std.specs.Prelude.{◌≡◌, true, ◌↔◌, ◌*◌, ◌^◌, ◌<◌, ◌≤◌, length};
 ghost use Rattle.spec_tilco.specs.Inference.{Clash};
 ghost use Rattle.spec_tilco.specs.Table.{words, Stands, Inside, facts};

@@ -1,4 +1,6 @@
 // Marks in a lent table of words, put and looked up: a row has `n` words for each value, 64 ticks in each. Assumes nothing of the words.
+#![tactic(auto)]
+
 ghost use Rattle.std.specs.Prelude.{◌≡◌, true, [], ◌∷◌, ◌↔◌, ◌+◌, ◌*◌, ◌^◌, ◌<◌, ◌≤◌, length};
 ghost use Rattle.spec_limits.specs.Limits.{most_ticks};
 ghost use Rattle.spec_ticks.specs.Ticks.{block};

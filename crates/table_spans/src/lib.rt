@@ -1,4 +1,6 @@
 // A row's marks at every tick of a span, put into a lent table of words: it takes as many steps as the span has words. Assumes that the table has the row.
+#![tactic(auto)]
+
 ghost use Rattle.std.specs.Prelude.{◌≡◌, ◌+◌, ◌*◌, ◌/◌, ◌<◌, ◌≤◌, length};
 ghost use Rattle.table_marks.specs.Puts.{AddsMarks};
 ghost use Rattle.table_words.specs.WordTicks.{HasRow, Ticks};

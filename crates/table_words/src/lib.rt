@@ -1,5 +1,7 @@
 // The words of a table of marks: reading them, joining ticks to them, and the window's ticks.
 // Assumes that the table has the row.
+#![tactic(auto)]
+
 ghost use Rattle.std.specs.Prelude.{◌≡◌, ◌+◌, ◌*◌, ◌^◌, ◌<◌, get_or};
 ghost use Rattle.spec_ticks.specs.Ticks.{block};
 ghost use Rattle.table_words.specs.WordTicks.{HasRow, Ticks, Here, Sides, Reads, Bits, Joins};

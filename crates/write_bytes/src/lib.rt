@@ -1,5 +1,7 @@
 // Writers of bytes into a lent buffer, from a place on: one byte, a text, a number. Each stores what there is room for and answers the place
 // after its whole text, so that lent a buffer of no room it measures. And how many digits a number has. Assumes that the places can be counted.
+#![tactic(auto)]
+
 ghost use Rattle.std.specs.Prelude.{◌≡◌, [], ◌∷◌, ◌<◌, length};
 ghost use Rattle.write_bytes.specs.Writes.{Counted, Wrote, decimal_text};
 

@@ -1,10 +1,11 @@
 // A rule's text as it is printed back, written from the arena into a lent buffer: parentheses only where the grammar needs them, intervals in square brackets.
 // Assumes that the rule's names are declared and that the places of its text can be counted. `s` is the sheet's text, `names` the index of the declared names
 // in it, `used` the place to write from. The writers of parts call one another in a cycle, and the formula's size falls.
+#![tactic(auto)]
+
 ghost use Rattle.std.specs.Prelude.{◌≡◌, ℕ, ◌<◌, get_or};
 ghost use mathlib.Core.List.{[], ◌∷◌, ◌++◌, flatten};
 ghost use Rattle.read_bytes.specs.Bytes.{bytes};
-ghost use Rattle.read_names.specs.Slices.{before, after};
 ghost use Rattle.read_index.specs.Index.{name_count, names_in};
 ghost use Rattle.read_arena.specs.Nodes.{op_of};
 ghost use Rattle.read_arena.specs.NodeRules.{text_of, written_at};
@@ -82,7 +83,7 @@ fn rank_of(node: Node) -> usize
 // The name of a signal.
 fn write_name(s: &[u8], names: &[u16], signal: u16, out: &mut [u8], used: usize) -> usize
     requires { (signal < name_count names.now) × Counted used (get_or (names_in s.now names.now) signal []) }
-    ensures { Wrote (get_or (names_in (before s) (before names)) signal []) used (before out) (after out) result }
+    ensures { Wrote (get_or (names_in s.now names.now) signal []) used out.old out.new result }
 {
     let at = names[LINKS + signal as usize] as usize;
     write_word(s, at, out, used)
@@ -91,7 +92,7 @@ fn write_name(s: &[u8], names: &[u16], signal: u16, out: &mut [u8], used: usize)
 // An end of an interval, whose offset has 64 added.
 fn write_end(offset: usize, out: &mut [u8], used: usize) -> usize
     requires { Counted used (end_text offset) }
-    ensures { Wrote (end_text offset) used (before out) (after out) result }
+    ensures { Wrote (end_text offset) used out.old out.new result }
 {
     if offset < OFFSET_ZERO {
         let digits = push(b'-', out, used);
@@ -103,7 +104,7 @@ fn write_end(offset: usize, out: &mut [u8], used: usize) -> usize
 // An interval in square brackets.
 fn write_interval(first: u16, more: u16, out: &mut [u8], used: usize) -> usize
     requires { Counted used (flatten (interval_tokens first more)) }
-    ensures { Wrote (flatten (interval_tokens first more)) used (before out) (after out) result }
+    ensures { Wrote (flatten (interval_tokens first more)) used out.old out.new result }
 {
     let low = first as usize;
     let high = low + more as usize;
@@ -124,7 +125,7 @@ fn time_sign(always: bool) -> u8
 // The sign between two formulas.
 fn write_sign(sign: Sign, out: &mut [u8], used: usize) -> usize
     requires { Counted used (sign_text (op_of sign)) }
-    ensures { Wrote (sign_text (op_of sign)) used (before out) (after out) result }
+    ensures { Wrote (sign_text (op_of sign)) used out.old out.new result }
 {
     match sign {
         Sign::And => push(b'&', out, used),
@@ -137,7 +138,7 @@ fn write_sign(sign: Sign, out: &mut [u8], used: usize) -> usize
 // The word since or until, and the `(` after it.
 fn write_keep_word(since: bool, out: &mut [u8], used: usize) -> usize
     requires { Counted used (keep_word_lem since ++ bytes "(") }
-    ensures { Wrote (keep_word_lem since ++ bytes "(") used (before out) (after out) result }
+    ensures { Wrote (keep_word_lem since ++ bytes "(") used out.old out.new result }
 {
     if since {
         push_text(b"since(", out, used)
@@ -149,7 +150,7 @@ fn write_keep_word(since: bool, out: &mut [u8], used: usize) -> usize
 // A parenthesis, where one is needed.
 fn write_paren(needed: bool, paren: u8, out: &mut [u8], used: usize) -> usize
     requires { Counted used (paren_text needed paren) }
-    ensures { Wrote (paren_text needed paren) used (before out) (after out) result }
+    ensures { Wrote (paren_text needed paren) used out.old out.new result }
 {
     if needed { push(paren, out, used) } else { used }
 }
@@ -167,7 +168,7 @@ fn write_part(
 ) -> usize
     requires named_node { NamedNode names.now arena.now node }
     requires counted { Counted used (part_text (names_in s.now names.now) most (written_at arena.now node)) }
-    ensures { Wrote (part_text (names_in (before s) (before names)) most (written_at (before arena) node)) used (before out) (after out) result }
+    ensures { Wrote (part_text (names_in s.now names.now) most (written_at arena.now node)) used out.old out.new result }
 {
     let k = node_at(arena, node);
     let needed = most < rank_of(k);
@@ -188,7 +189,7 @@ fn write_bare(
 ) -> usize
     requires named_parts { NamedParts names.now arena.now node }
     requires counted { Counted used (bare_text (names_in s.now names.now) (text_of node (written_at arena.now))) }
-    ensures { Wrote (bare_text (names_in (before s) (before names)) (text_of node (written_at (before arena)))) used (before out) (after out) result }
+    ensures { Wrote (bare_text (names_in s.now names.now) (text_of node (written_at arena.now))) used out.old out.new result }
 {
     match node {
         Node::Name(signal) => write_name(s, names, signal, out, used),
@@ -218,7 +219,7 @@ fn write_pair(
 ) -> usize
     requires named_node { NamedNode names.now arena.now left × NamedNode names.now arena.now right }
     requires counted { Counted used (bare_text (names_in s.now names.now) (pair (op_of sign) (written_at arena.now left) (written_at arena.now right))) }
-    ensures { Wrote (bare_text (names_in (before s) (before names)) (pair (op_of sign) (written_at (before arena) left) (written_at (before arena) right))) used (before out) (after out) result }
+    ensures { Wrote (bare_text (names_in s.now names.now) (pair (op_of sign) (written_at arena.now left) (written_at arena.now right))) used out.old out.new result }
 {
     let middle = write_part(s, names, arena, left, rank_before(sign), out, used);
     let next = write_sign(sign, out, middle);
@@ -240,7 +241,7 @@ fn write_timed(
 ) -> usize
     requires named_node { NamedNode names.now arena.now child }
     requires counted { Counted used (bare_text (names_in s.now names.now) (time always first more (written_at arena.now child))) }
-    ensures { Wrote (bare_text (names_in (before s) (before names)) (time always first more (written_at (before arena) child))) used (before out) (after out) result }
+    ensures { Wrote (bare_text (names_in s.now names.now) (time always first more (written_at arena.now child))) used out.old out.new result }
 {
     let sign = write_part(s, names, arena, child, TIMED, out, used);
     let next = push(time_sign(always), out, sign);
@@ -261,7 +262,7 @@ fn write_keep(
 ) -> usize
     requires named_node { NamedNode names.now arena.now left × NamedNode names.now arena.now right }
     requires counted { Counted used (bare_text (names_in s.now names.now) (keep since (written_at arena.now left) (written_at arena.now right))) }
-    ensures { Wrote (bare_text (names_in (before s) (before names)) (keep since (written_at (before arena) left) (written_at (before arena) right))) used (before out) (after out) result }
+    ensures { Wrote (bare_text (names_in s.now names.now) (keep since (written_at arena.now left) (written_at arena.now right))) used out.old out.new result }
 {
     let inner = write_keep_word(since, out, used);
     let comma = write_part(s, names, arena, left, FORMULA, out, inner);
@@ -281,7 +282,7 @@ pub fn write_formula(
 ) -> usize
     requires named_node { NamedNode names.now arena.now node }
     requires counted { Counted used (printed (names_in s.now names.now) (written_at arena.now node)) }
-    ensures { Wrote (printed (names_in (before s) (before names)) (written_at (before arena) node)) used (before out) (after out) result }
+    ensures { Wrote (printed (names_in s.now names.now) (written_at arena.now node)) used out.old out.new result }
 {
     write_part(s, names, arena, node, FORMULA, out, used)
 }

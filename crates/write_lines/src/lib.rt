@@ -1,4 +1,6 @@
 // Lines of a listing and of readings: a key, a value, and LF. Assumes that the places of a line can be counted.
+#![tactic(auto)]
+
 ghost use Rattle.std.specs.Prelude.{◌≡◌};
 ghost use Rattle.read_bytes.specs.Bytes.{bytes};
 ghost use Rattle.read_names.specs.Spellings.{spelling_at};

@@ -1,5 +1,7 @@
 // The lines of readings and of spans, written into a lent buffer, and how long they are. Assumes that the places of an entry can be counted. The names
 // stand at `places` of the sheet text `s`.
+#![tactic(auto)]
+
 ghost use Rattle.std.specs.Prelude.{◌≡◌, [], ◌<◌, ◌≤◌, length, get_or};
 ghost use Rattle.spec_limits.specs.Limits.{most_name_bytes};
 ghost use Rattle.read_names.specs.Spellings.{names_at};

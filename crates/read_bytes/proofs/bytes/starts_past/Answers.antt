@@ -1,0 +1,22 @@
+-- `starts_past` meets its contract. The invariant: the bytes of `w` stand at `at` exactly if those from `i` on stand at `at + i`.
+-- Assumes nothing.
+use native.Mathlib.Omega.{arith}
+use mathlib.Core.Path.{sym, ◌∙◌}
+use Prim.Native.Nat.{◌-◌}
+use Rattle.read_bytes.proofs.Places.{starts_done, starts_off, starts_on, starts_first}
+use Rattle.read_bytes.proofs.bytes.starts_past.Goals as goal
+
+pub loop-i-init : goal.loop-i-init
+loop-i-init c = (starts_first _ _ _, omega arith)
+
+pub returns-then-b-x : goal.returns-then-b-x
+returns-then-b-x c =
+    sym (c.loop-i.invariant.0 ∙ starts_off _ _ _ _ (omega arith) (λ e. c.if-b-x.true (c.byte_at-b.ensures ∙ sym e)))
+
+pub loop-i-preserved : goal.loop-i-preserved
+loop-i-preserved c =
+    (c.loop-i.invariant.0 ∙ starts_on _ _ _ _ (omega arith) (sym c.if-b-x.false ∙ c.byte_at-b.ensures), omega arith)
+
+pub returns : goal.returns
+returns c =
+    sym (c.loop-i.invariant.0 ∙ starts_done _ _ _ _ (omega arith))
