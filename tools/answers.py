@@ -122,6 +122,11 @@ class Walk:
             at = self.places[at][1]
         return None
 
+    def in_arm(self, new):
+        """Is this a step that stands only in the record of a match's arm today?"""
+        old = [p[2][0] for p in self.places.values() if p[2][1] == new]
+        return any(step in old for arm in self.arms.values() if arm for _, step, more in arm[2] if more)
+
     def turn(self, body, var, place):
         env = {var: place}
         self.asked = place
@@ -132,9 +137,14 @@ class Walk:
             if m and (i == 0 or not re.match(r"[\w'-]", body[i - 1])):
                 parts = m.group(2).split(".")
                 if parts[0] in env:
-                    where, words = self.path(env[parts[0]], parts[1:])
+                    base, prefix = env[parts[0]] if isinstance(env[parts[0]], tuple) else (env[parts[0]], [])
+                    where, words = self.path(base, prefix + parts[1:])
                     if words is None and where:
                         env[m.group(1)] = where
+                        i = m.end()
+                        continue
+                    if len(words) == 2 and self.in_arm(words[1]):
+                        env[m.group(1)] = (where, [x for x in prefix + parts[1:] if x != "before"])
                         i = m.end()
                         continue
             m = re.compile(r"%s(?:\.%s)*" % (TOKEN, TOKEN)).match(body, i)
@@ -142,7 +152,8 @@ class Walk:
                 parts = m.group(0).split(".")
                 tail = ""
                 if parts[0] in env:
-                    where, words = self.path(env[parts[0]], parts[1:])
+                    base, prefix = env[parts[0]] if isinstance(env[parts[0]], tuple) else (env[parts[0]], [])
+                    where, words = self.path(base, prefix + parts[1:])
                     if words is None:
                         if len(parts) == 1 and parts[0] == var:
                             out.append("c")

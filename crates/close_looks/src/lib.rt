@@ -18,7 +18,7 @@ use close_store::store_look;
 use table_words::{Words, window_word, words_at};
 
 // A row that looks see: the number of a word of it, its marks there, and the window's ticks there.
-#[derive(Drop)]
+#[derive(Clone, Copy)]
 pub struct Child {
     pub row: usize,
     pub q: usize,

@@ -10,7 +10,7 @@ use spec_figures::{NO_TICK, Record};
 use table_words::word_at;
 
 // How many ticks a row is true and false at, and the first at which it is either, or NO_TICK.
-#[derive(Drop)]
+#[derive(Clone, Copy)]
 pub struct RowTicks {
     pub held: u64,
     pub failed: u64,

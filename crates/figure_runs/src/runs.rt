@@ -20,7 +20,7 @@ use read_readings::whole::take_readings;
 use table_facts::clash_in;
 
 // What a sheet comes to: its window, the words that a row has for each value, and how many rows and top rows it has.
-#[derive(Drop)]
+#[derive(Clone, Copy)]
 pub struct Sizes {
     pub window: usize,
     pub n: usize,

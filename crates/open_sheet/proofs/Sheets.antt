@@ -85,6 +85,7 @@ member (x ∷ xs) zero h = Memᴰ.head refl
 member (x ∷ xs) (suc i) h = Memᴰ.tail (member xs i (omega arith))
 
 place : (xs : List ℕ) (r : ℕ) → Memᴰ r xs → (i : ℕ) × (i < length xs) × (get_or xs i 0 ≡ r)
+place [] r x' = elim x' [ ]
 place (x ∷ xs) r (Memᴰ.head e) = (0, omega arith, sym e)
 place (x ∷ xs) r (Memᴰ.tail m) = let p = place xs r m in (suc p.0, omega (arith, p.1), p.2)
 

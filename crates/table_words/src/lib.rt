@@ -18,7 +18,7 @@ pub fn word_at(marks: &[u64], n: usize, q: usize, row: usize, value: bool) -> u6
 }
 
 // A word of a row's marks of one value, and that of the other value.
-#[derive(Drop)]
+#[derive(Clone, Copy)]
 pub struct Words {
     pub this: u64,
     pub other: u64,

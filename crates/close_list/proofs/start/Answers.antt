@@ -12,7 +12,7 @@ pub start_column-requires : goal.start_column-requires
 start_column-requires c =
     let loop = c.loop-q in
     let o = c.requires in
-    record { queueable = queueable_as loop.invariant.1.keeps.size o.0; q_lt_n = (omega arith, o.has_rows) }
+    record { queueable = queueable_as loop.invariant.1.keeps.size o.queueable; q_lt_n = (omega arith, o.has_rows) }
 
 pub overflow_add-q : goal.overflow_add-q
 overflow_add-q c = omega arith

@@ -10,6 +10,7 @@ use Rattle.table_marks.proofs.Places.{two_blocks, first_block, second_block}
 use Rattle.close_list.proofs.Starting.{place_in, starts_none, starts_touched, starts_bare, starts_row, starts_as}
 use Rattle.close_list.proofs.Workable.{queueable_as}
 use Rattle.close_list.proofs.start_column.Goals as goal
+use Rattle.close_list.proofs.start_column.Goals.{then-yes-no-ne0, else-yes-no-ne0}
 
 pub loop-x-init : goal.loop-x-init
 loop-x-init c = (omega arith, omega arith, starts_none _ _ _ _ _ _ (λ y p z. omega (arith, z.0)))
@@ -94,7 +95,7 @@ loop-x-preserved c =
       omega arith,
       omega (arith, l.1, two_blocks a.n x),
       starts_row _ _ _ _ _ _ _ _ _ l.2
-          (⊎_elim (λ w. starts_touched _ _ _ _ _ _ _ _ _ w.if-yes-no-ne0.5 w.2.ensures) (λ w. starts_bare _ _ _ _ _ _ _ _ w.1 (sym (ap₂ bit_or yes no) ∙ w.0.left)) c.if-yes-no-ne0.branch-raw),
+          (elim c.if-yes-no-ne0.branch [ then-yes-no-ne0 w ↦ starts_touched _ _ _ _ _ _ _ _ _ w.todo-is w.queue_resting.ensures | else-yes-no-ne0 w ↦ starts_bare _ _ _ _ _ _ _ _ w.todo-is (sym (ap₂ bit_or yes no) ∙ w.if-yes-no-ne0.false) ]),
     )
 
 pub shape_of-todo : goal.shape_of-todo

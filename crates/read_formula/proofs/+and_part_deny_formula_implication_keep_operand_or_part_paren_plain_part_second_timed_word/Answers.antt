@@ -187,11 +187,10 @@ keep-returns t c =
     let the-if1 = c.if-b-ne40 in
     let the-if2 = c.if-depth-eq0 in
     let the-formula = c.formula-r in
-    let the-r = c.r-1 in
     let the_second = c.second in
-    let w = far the-formula.ensures the-r.given.1 in
+    let w = far the-formula.ensures c.in-Got.is in
     by (keep_on _ _ _ _ _ (sym the-byte-at.ensures ∙ the-if1.false) the-if2.false)
-    (then _ _ _ (omega (arith, asked.keyword)) (omega (arith, asked.keyword)) (omega arith) (omega (arith, asked.keyword)) (was the-formula.ensures the-r.given.1)
+    (then _ _ _ (omega (arith, asked.keyword)) (omega (arith, asked.keyword)) (omega arith) (omega (arith, asked.keyword)) (was the-formula.ensures c.in-Got.is)
     (λ f hf hs. the_second.ensures f (held_next _ hf) (omega arith)))
 
 pub operand-put_node-requires : goal.operand-put_node-requires
@@ -368,14 +367,13 @@ second-returns t c =
     let the-byte-at = c.byte_at-b in
     let the-if1 = c.if-b-ne44 in
     let the-formula = c.formula-r in
-    let the-r = c.r-1 in
     let the-byte-at2 = c.byte_at-c in
     let the-if2 = c.if-c-ne41 in
     let the-put-keep = c.put_keep in
-    let w = far the-formula.ensures the-r.given.1 in
+    let w = far the-formula.ensures c.in-Got.is in
     let i = byte_inside _ _ (byte ")") the-byte-at2.ensures the-if2.false (λ z. omega arith) in
     λ f hf hs. by (second_some _ _ _ f _ (sym the-byte-at.ensures ∙ the-if1.false))
-    (shut_keep _ _ f (was the-formula.ensures the-r.given.1) _ _ _ asked.some (omega arith) asked.ready.arena hf hs (room_for asked.ready _ 6 (omega (arith, i)) (search rules)) the-put-keep.ensures (sym the-byte-at2.ensures ∙ the-if2.false) i)
+    (shut_keep _ _ f (was the-formula.ensures c.in-Got.is) _ _ _ asked.some (omega arith) asked.ready.arena hf hs (room_for asked.ready _ 6 (omega (arith, i)) (search rules)) the-put-keep.ensures (sym the-byte-at2.ensures ∙ the-if2.false) i)
 
 pub timed-operand-r-requires : goal.timed-operand-r-requires
 timed-operand-r-requires t c =
