@@ -6,14 +6,15 @@
 ghost use Rattle.std.specs.Prelude.{◌<◌, length};
 
 use libc::STDIN_FILENO;
-use list_settled::{settle, settle_captioned};
+use list_captioned::settle_captioned;
+use list_settled::settle;
 use op_check::{Checking, check};
 use read_bytes::bytes::starts_at;
 use read_head::{Heading, head};
 use read_index::{INDEX, LINKS};
 use read_readings::whole::{Outcome, take_readings};
 use run_cases::{heading, next_line, print, print_number, print_refusal, text_under};
-use spec_limits::{BYTES, LISTED, LISTED_WORDS, SIGNALS};
+use spec_limits::{BYTES, CAPTIONED, LISTED, LISTED_WORDS, SIGNALS};
 use table_marks::WORDS;
 
 // The words of the most signals' rows in the widest window.
@@ -97,7 +98,7 @@ fn run_house(cases: &[u8], above: usize, house: usize, at: usize)
     let mut buffer = io::large_buffer();
     let m = text_under(cases, at, &mut buffer);
     let mut table = [0u64; LISTED_WORDS];
-    let mut out = [0u8; LISTED];
+    let mut out = [0u8; CAPTIONED];
     let end = settle_captioned(&lines[..n], &buffer[..m], &words[..k], &mut table, &mut out);
     print(&out[..end]);
 }

@@ -3,16 +3,16 @@
 #![tactic(auto)]
 
 use libc::STDOUT_FILENO;
-use list_settled::settle_captioned;
+use list_captioned::settle_captioned;
 use run_parts::{TEXT, read_text};
-use spec_limits::{LISTED, LISTED_WORDS};
+use spec_limits::{CAPTIONED, LISTED_WORDS};
 
 fn main() {
     let mut sheet = [0u8; TEXT];
     let mut readings = [0u8; TEXT];
     let mut captions = [0u8; TEXT];
     let mut table = [0u64; LISTED_WORDS];
-    let mut out = [0u8; LISTED];
+    let mut out = [0u8; CAPTIONED];
     let a = read_text(b"sheet.txt", &mut sheet);
     let b = read_text(b"readings.txt", &mut readings);
     let c = read_text(b"captions.txt", &mut captions);
