@@ -13,6 +13,9 @@ use read_names::spelling_end;
 use std::io;
 use std::io::Write;
 
+// The most bytes of a text of the cases.
+pub const TEXT_ROOM: usize = 65536;
+
 // The place of the line after the one at `at`.
 pub fn next_line(cases: &[u8], at: usize) -> usize
     requires { at < length cases.now }
@@ -99,30 +102,30 @@ pub fn text_under(cases: &[u8], at: usize, out: &mut [u8]) -> usize
 }
 
 // Prints a text.
-pub fn print<W: Write>(out: &mut W, text: &[u8]) -> io::Result<()>
-    ensures { OnOk result (Appends (W.contents out.old) (W.contents out.new) text.now) }
+pub fn print<W: Write>(output: &mut W, text: &[u8]) -> io::Result<()>
+    ensures { OnOk result (Appends (W.contents output.old) (W.contents output.new) text.now) }
 {
-    out.write_all(text)
+    output.write_all(text)
 }
 
 // Prints a number between two texts.
 pub fn print_number<W: Write>(
-    out: &mut W,
+    output: &mut W,
     before: &[u8],
     number: u64,
     after: &[u8],
 ) -> io::Result<()>
-    ensures { OnOk result (Appends (W.contents out.old) (W.contents out.new) (before.now ++ (decimal number ++ after.now))) }
+    ensures { OnOk result (Appends (W.contents output.old) (W.contents output.new) (before.now ++ (decimal number ++ after.now))) }
 {
-    print(out, before)?;
-    write!(out, "{number}")?;
-    print(out, after)
+    print(output, before)?;
+    write!(output, "{number}")?;
+    print(output, after)
 }
 
 // Prints a refusal's number and place.
-pub fn print_refusal<W: Write>(out: &mut W, number: usize, place: usize) -> io::Result<()>
-    ensures { OnOk result (Appends (W.contents out.old) (W.contents out.new)
+pub fn print_refusal<W: Write>(output: &mut W, number: usize, place: usize) -> io::Result<()>
+    ensures { OnOk result (Appends (W.contents output.old) (W.contents output.new)
         (codes "--- refused " ++ (decimal number ++ (codes " at " ++ (decimal place ++ codes "\n"))))) }
 {
-    writeln!(out, "--- refused {number} at {place}")
+    writeln!(output, "--- refused {number} at {place}")
 }
