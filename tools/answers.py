@@ -39,7 +39,45 @@ def blocks(text):
     return [h for h in head if h.strip()], out
 
 
+def contracts():
+    """The names of the clauses of each function, where it has more than one of a kind: {path: (requires, ensures)}."""
+    out = {}
+    for crate in os.listdir("crates"):
+        for folder, _, files in os.walk(os.path.join("crates", crate, "src")):
+            for f in files:
+                if not f.endswith(".rt"):
+                    continue
+                module = [] if f in ("lib.rt", "main.rt") else [f[:-3]]
+                text = open(os.path.join(folder, f), encoding="utf-8").read()
+                for m in re.finditer(r"(?ms)^\s*(?:pub )?fn (\w+).*?^\s*\{$", text):
+                    kinds = [re.findall(r"(?m)^\s+%s(?: (\w+))? \{" % k, m.group(0)) for k in ("requires", "ensures")]
+                    out["::".join([crate] + module + [m.group(1)])] = kinds
+    return out
+
+
+CLAUSES = contracts() if __name__ == "__main__" else {}
+
+
+def clause(names, fields):
+    """Where the fields of the older pair of clauses lead: the clause's name and the fields left, or None inside the pairs."""
+    i = 0
+    while i < len(names):
+        last = i == len(names) - 1
+        if last:
+            return [names[i]] + fields
+        if not fields:
+            return None
+        if fields[0] == "0":
+            return [names[i]] + fields[1:]
+        if fields[0] != "1":
+            return None
+        i, fields = i + 1, fields[1:]
+    return None
+
+
 class Walk:
+    own = ""
+
     def __init__(self, names, told, cycle=False):
         self.told = told
         self.cycle = cycle
@@ -63,6 +101,27 @@ class Walk:
             if a.split("_")[-1] == want.split("_")[-1]:
                 return index
         return None
+
+    def named(self, words):
+        """The path with its clauses' names; the second answer is whether it ends between the clauses."""
+        if words is None:
+            return words, False
+        if len(words) == 2:
+            who = next((p[3] for p in self.places.values() if p[2][1] == words[1]), None)
+            if len(CLAUSES.get(who or "", [[], []])[1]) > 1:
+                return words, True
+        for i, kind in ((1, 0), (2, 1)):
+            if len(words) > i and words[i] == ("requires", "ensures")[kind]:
+                who = self.own
+                if kind == 1:
+                    who = next((p[3] for p in self.places.values() if p[2][1] == words[1]), None)
+                names = CLAUSES.get(who or "", [[], []])[kind]
+                if len(names) > 1:
+                    rest = clause(names, words[i + 1 :])
+                    if rest is None:
+                        return words, True
+                    return words[: i + 1] + rest, False
+        return words, False
 
     def path(self, place, fields):
         """What a place's record and these fields are called from c today; the place itself where no field is left."""
@@ -143,7 +202,8 @@ class Walk:
                         env[m.group(1)] = where
                         i = m.end()
                         continue
-                    if len(words) == 2 and self.in_arm(words[1]):
+                    words, between = self.named(words)
+                    if between or len(words) == 2 and self.in_arm(words[1]):
                         env[m.group(1)] = (where, [x for x in prefix + parts[1:] if x != "before"])
                         i = m.end()
                         continue
@@ -154,6 +214,9 @@ class Walk:
                 if parts[0] in env:
                     base, prefix = env[parts[0]] if isinstance(env[parts[0]], tuple) else (env[parts[0]], [])
                     where, words = self.path(base, prefix + parts[1:])
+                    words, between = self.named(words)
+                    if between and len(words) > (3 if words[2:3] == ["ensures"] else 2):
+                        self.told("between clauses: " + ".".join(words))
                     if words is None:
                         if len(parts) == 1 and parts[0] == var:
                             out.append("c")
@@ -255,6 +318,7 @@ def convert(path, names, crate, fn, told):
             for more in args[1:]:
                 if re.search(r"(?<![\w'-])%s(?![\w'-])" % re.escape(more), rhs):
                     told(f"{name} uses {more}")
+            walk.own = "::".join([crate] + ([*fn[:-1], norm(need.group(1))] if cycle else fn))
             rhs = walk.turn(rhs, args[0], place)
             rhs = re.sub(r"not-(?:true|false) (?:%s) (c\.if-not[\w'.-]*\.(?:true|false))" % r"(?:[^\s(),]+|\([^()]*\))", r"\1", rhs)
             answers.append((i, f"{note}pub {new} : goal.{new}\n{unfold}{new} {'t ' if cycle else ''}c ={rhs}"))

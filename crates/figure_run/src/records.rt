@@ -4,7 +4,7 @@ ghost use Rattle.figure_run.specs.RecordWords.{record_words, record_in, no_runs,
 
 use spec_figures::{NO_TICK, Record};
 
-// recordWords: of each record.
+// record_words: of each record.
 pub const RECORD_WORDS: usize = 6;
 
 // Record i.

@@ -1,16 +1,15 @@
 -- The listing program's table is empty: what it prints is told of the sheet's own empty table.
 -- Assumes nothing.
-use mathlib.Core.Path.{◌≡◌, refl, sym, ◌∙◌, subst}
+use mathlib.Core.Path.{◌≡◌, refl, sym, ap, ◌∙◌, subst}
 use mathlib.Core.Bool.{Bool}
-use mathlib.Core.List.{List}
-use Prim.Native.Nat.{ℕ, ◌≤◌}
+use mathlib.Core.List.{List, ◌∷◌}
+use Prim.Native.Nat.{ℕ, zero, suc, ◌≤◌}
 use native.Mathlib.Omega.{arith}
-use lib.ListN.{length, length-replicate}
+use lib.ListN.{length, take, replicate, length-replicate}
 use Rattle.spec_limits.specs.Limits.{most_listed_words}
 use Rattle.spec_ticks.specs.Ticks.{empty}
 use Rattle.spec_tilco.specs.Lowering.{row_count_lem}
 use Rattle.spec_tilco.specs.Table.{Standing, table_words, facts_of, Answer}
-use Rattle.spec_tilco.proofs.Lists.{take_equal}
 use Rattle.read_sheet.specs.Sheet.{Contents, meant}
 use Rattle.open_sheet.specs.Results.{Result, accepted}
 use Rattle.spec_operations.specs.Gain.{gain}
@@ -22,6 +21,12 @@ use Rattle.list_table.specs.Listing.{listing_text, refusal_text}
 use Rattle.list_settled.specs.Prints.{Lists, Prints, Settles, text_of}
 use Rattle.list_settled.specs.Prints.Lists.{not_added, listed}
 use Rattle.list_settled.specs.Prints.Prints.{no_sheet, no_room, on_table}
+
+-- The first words of an empty table are an empty table.
+take_empty : (n m : ℕ) → n ≤ m → take n (replicate {A = ℕ} m 0) ≡ empty n
+take_empty zero m h = refl
+take_empty (suc n) zero h = absurd (omega arith)
+take_empty (suc n) (suc m) h = ap (λ (l : List ℕ). 0 ∷ l) (take_empty n m (omega arith))
 
 -- What the program's text is: a refusal, or the listing of what one add makes of the sheet's empty table.
 pub data Shown (s r : List ℕ) : List ℕ → Type 0 where
@@ -40,7 +45,7 @@ module _ {s r : List ℕ} where
   of_prints (no_sheet {n} {p} e) = refusal n p
   of_prints (no_room e l) = refusal 29 0
   of_prints (on_table {k = k} {U = U} {a = a} e l x) =
-      of_lists e (subst (λ (X : List ℕ). Lists s r X U a) (take_equal 0 (table_words (meant k)) most_listed_words (omega (arith, l, length-replicate {A = ℕ} most_listed_words 0))) x)
+      of_lists e (subst (λ (X : List ℕ). Lists s r X U a) (take_empty (table_words (meant k)) most_listed_words (omega (arith, l, length-replicate {A = ℕ} most_listed_words 0))) x)
 
   pub shown : {l : List ℕ} → Settles s r l → Shown s r l
   shown x = subst (Shown s r) (sym x.text_is) (of_prints x.prints)
@@ -52,6 +57,6 @@ pub settles_listing : {s r U : List ℕ} {k : Contents} {new : ℕ} {clash : Boo
 settles_listing {s} {r} {U} {k} {new} {clash} e l x q = record {
   after = _;
   told = _;
-  prints = on_table e (omega (arith, length-replicate {A = ℕ} most_listed_words 0)) (listed e (subst (λ (X : List ℕ). Adds s r X U (accepted (gain new clash))) (sym (take_equal 0 (table_words (meant k)) most_listed_words l)) x) q);
+  prints = on_table e (omega (arith, length-replicate {A = ℕ} most_listed_words 0)) (listed e (subst (λ (X : List ℕ). Adds s r X U (accepted (gain new clash))) (sym (take_empty (table_words (meant k)) most_listed_words l)) x) q);
   text_is = refl;
 }

@@ -1,6 +1,5 @@
 -- The laws, one idea a file.
 pub mod Printing
-pub mod Captionless
 pub mod OneListing
 pub mod EmptyTable
 pub mod InOrder

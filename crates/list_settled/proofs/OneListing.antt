@@ -1,39 +1,33 @@
--- What is told of one sheet, readings, captions and lent table is one, and so are two outcomes of settle or of the listing with captions for one buffer.
+-- What settle tells of one sheet, readings and lent table is one, and so are two outcomes of settle for one buffer.
 -- Assumes nothing.
 use mathlib.Core.Path.{◌≡◌, refl, sym, ap, ap₂, ◌∙◌, subst}
 use mathlib.Core.Bool.{Bool}
 use mathlib.Core.List.{List, [], ◌∷◌, ◌++◌}
-use Prim.Native.Nat.{ℕ, zero, suc, ◌+◌, ◌<◌, ◌≤◌}
+use Prim.Native.Nat.{ℕ, zero, suc, ◌+◌, ◌<◌}
 use native.Mathlib.Omega.{arith}
 use native.Mathlib.Nat.{zero-add}
 use lib.ListN.{length, get_or, take, drop}
 use lib.Seq.{sets}
-use Rattle.spec_limits.specs.Limits.{most_listed}
-use Rattle.read_bytes.specs.Read.{Read}
-use Rattle.read_bytes.proofs.Answers.{not_both, same_value}
-use Rattle.read_captions.specs.Captions.{captions_in}
-use Rattle.read_captions.specs.Parts.{shown_texts}
 use Rattle.spec_tilco.specs.Lists.{All}
 use Rattle.spec_tilco.proofs.Lists.{all_weaker}
 use Rattle.spec_tilco.specs.Lowering.{row_count_lem}
 use Rattle.spec_tilco.specs.Table.{Standing, table_words, facts_of, Answer}
 use Rattle.spec_tilco.proofs.Demand1.{asked_one}
 use Rattle.read_sheet.specs.Sheet.{Contents, meant}
-use Rattle.open_sheet.specs.Results.{Result, accepted}
+use Rattle.open_sheet.specs.Results.{Result, accepted, refused}
 use Rattle.spec_operations.specs.Gain.{gain}
 use Rattle.open_sheet.specs.SheetIn.{sheet_in, names_in}
+use Rattle.spec_operations.specs.Operations.{Adds}
 use Rattle.open_table.proofs.Tables.{accepted_one, accepted_refused}
 use Rattle.spec_operations.proofs.Determined.{adds_one, refused_alike}
 use Rattle.list_order.specs.Order.{in_order_lem}
 use Rattle.list_order.proofs.Inserting.{order_placed}
 use Rattle.list_signals.specs.Signals.{sign_byte, signs, signal_text, signals_text, Answers}
-use Rattle.list_table.specs.Listing.{head_text, shown_listing}
-use Rattle.list_settled.specs.Prints.{Prints, Settles, Written, text_of}
-use Rattle.list_settled.specs.PrintsCaptioned.{ListsShown, PrintsCaptioned, SettlesCaptioned}
-use Rattle.list_settled.specs.PrintsCaptioned.ListsShown.{not_added, listed}
-use Rattle.list_settled.specs.PrintsCaptioned.PrintsCaptioned.{no_sheet, no_captions_lem, no_room, on_table}
-use Rattle.list_settled.proofs.Printing.{captioned_most, written}
-use Rattle.list_settled.proofs.Captionless.{plain_prints}
+use Rattle.list_table.specs.Listing.{head_text, listing_text}
+use Rattle.list_settled.specs.Prints.{Lists, Prints, Settles, Written, text_of}
+use Rattle.list_settled.specs.Prints.Lists.{not_added, listed}
+use Rattle.list_settled.specs.Prints.Prints.{no_sheet, no_room, on_table}
+use Rattle.list_settled.proofs.Printing.{prints_most, written}
 
 -- ---- the same answers give the same listing
 
@@ -54,19 +48,18 @@ signals_alike W f g names (x ∷ xs) h =
 -- ---- the same table gives the same answers
 
 -- The listing of a sheet's table.
-abbrev listing_of : List (List ℕ) → List ℕ → Contents → List ℕ → Bool → (ℕ → ℕ → Answer) → List ℕ
-listing_of shown s k U clash f = shown_listing (names_in s k) shown k.window (row_count_lem (meant k)) (facts_of (meant k) U) clash f
+abbrev listing_of : List ℕ → Contents → List ℕ → Bool → (ℕ → ℕ → Answer) → List ℕ
+listing_of s k U clash f = listing_text (names_in s k) k.window (row_count_lem (meant k)) (facts_of (meant k) U) clash f
 
 -- f is what ask answers of the table for each signal at each tick of the window.
 abbrev pub AnswersIn : Contents → List ℕ → (ℕ → ℕ → Answer) → Type 0
 AnswersIn k U f = Answers (Standing (meant k) U) (length k.places) k.window f
 
-one_shown : (shown : List (List ℕ)) (s : List ℕ) (k : Contents) (U : List ℕ) (clash : Bool) (f g : ℕ → ℕ → Answer) → AnswersIn k U f → AnswersIn k U g
-    → listing_of shown s k U clash f ≡ listing_of shown s k U clash g
-unfolding shown_listing
-one_shown shown s k U clash f g p q =
+pub one_listing : (s : List ℕ) (k : Contents) (U : List ℕ) (clash : Bool) (f g : ℕ → ℕ → Answer) → AnswersIn k U f → AnswersIn k U g → listing_of s k U clash f ≡ listing_of s k U clash g
+unfolding listing_text
+one_listing s k U clash f g p q =
     ap (λ (l : List ℕ). head_text (row_count_lem (meant k)) (facts_of (meant k) U) clash ++ l)
-    (signals_alike k.window f g shown (in_order_lem (names_in s k))
+    (signals_alike k.window f g (names_in s k) (in_order_lem (names_in s k))
     (all_weaker (λ x. x < length k.places) _ (λ x i t u. asked_one (Standing (meant k) U) x t (p x i t u) (q x i t u)) (in_order_lem (names_in s k)) (order_placed s k.places)))
 
 -- ---- the outcomes
@@ -74,8 +67,8 @@ one_shown shown s k U clash f g p q =
 gain_clash : {a b : ℕ} {x y : Bool} → accepted (gain a x) ≡ accepted (gain b y) → x ≡ y
 gain_clash e = cc
 
-module _ {shown : List (List ℕ)} {s r T : List ℕ} where
-  lists_one : {U U' : List ℕ} {a b : Result (List ℕ)} → ListsShown shown s r T U a → ListsShown shown s r T U' b → (U ≡ U') × (a ≡ b)
+module _ {s r T : List ℕ} where
+  lists_one : {U U' : List ℕ} {a b : Result (List ℕ)} → Lists s r T U a → Lists s r T U' b → (U ≡ U') × (a ≡ b)
   lists_one (not_added x) (not_added y) = (refl, refused_alike (adds_one x y).1)
   lists_one (not_added x) (listed f y q) = absurd (accepted_refused (sym (adds_one x y).1))
   lists_one (listed e x p) (not_added y) = absurd (accepted_refused (adds_one x y).1)
@@ -85,74 +78,40 @@ module _ {shown : List (List ℕ)} {s r T : List ℕ} where
       let w : AnswersIn k U g = subst (λ (X : List ℕ). AnswersIn k X g) (sym o.0) (subst (λ (z : Contents). AnswersIn z U' g) (sym i) q) in (
         o.0,
         ap accepted (
-            one_shown shown s k U clash f g p w
-            ∙ ap (λ (X : List ℕ). listing_of shown s k X clash g) o.0
-            ∙ ap (λ (x : Bool). listing_of shown s k U' x g) (gain_clash o.1)
-            ∙ ap (λ (z : Contents). listing_of shown s z U' clash' g) i
+            one_listing s k U clash f g p w
+            ∙ ap (λ (X : List ℕ). listing_of s k X clash g) o.0
+            ∙ ap (λ (x : Bool). listing_of s k U' x g) (gain_clash o.1)
+            ∙ ap (λ (z : Contents). listing_of s z U' clash' g) i
             ),
       )
 
--- Two readings of a sheet and its captions are one.
-captions_one : (s c : List ℕ) {k k' : Contents} {R R' : Read (List ℕ)} → sheet_in s ≡ accepted k → sheet_in s ≡ accepted k' → captions_in (names_in s k) c ≡ R → captions_in (names_in s k') c ≡ R' → R ≡ R'
-captions_one s c e e' i j = sym i ∙ ap (λ (z : Contents). captions_in (names_in s z) c) (accepted_one (sym e ∙ e')) ∙ j
-
-module _ {s r c T : List ℕ} where
+module _ {s r T : List ℕ} where
   -- What is told and what is left in the lent table,
-  pub captioned_one : {U U' : List ℕ} {a b : Result (List ℕ)} → PrintsCaptioned s r c T U a → PrintsCaptioned s r c T U' b → (U ≡ U') × (a ≡ b)
-  captioned_one (no_sheet e) (no_sheet f) = (refl, refused_alike (sym e ∙ f))
-  captioned_one (no_sheet e) (no_captions_lem f j) = absurd (accepted_refused (sym f ∙ e))
-  captioned_one (no_sheet e) (no_room f j l) = absurd (accepted_refused (sym f ∙ e))
-  captioned_one (no_sheet e) (on_table f j l y) = absurd (accepted_refused (sym f ∙ e))
-  captioned_one (no_captions_lem e i) (no_sheet f) = absurd (accepted_refused (sym e ∙ f))
-  captioned_one (no_captions_lem e i) (no_captions_lem f j) = let z = captions_one s c e f i j in (refl, cc)
-  captioned_one (no_captions_lem e i) (no_room f j l) = absurd (not_both (captions_one s c f e j i))
-  captioned_one (no_captions_lem e i) (on_table f j l y) = absurd (not_both (captions_one s c f e j i))
-  captioned_one (no_room e i l) (no_sheet f) = absurd (accepted_refused (sym e ∙ f))
-  captioned_one (no_room e i l) (no_captions_lem f j) = absurd (not_both (captions_one s c e f i j))
-  captioned_one (no_room e i l) (no_room f j m) = (refl, refl)
-  captioned_one (no_room {k} e i l) (on_table {k = k'} f j m y) = let z : k ≡ k' = accepted_one (sym e ∙ f) in absurd (omega (arith, subst (λ (x : Contents). length T < table_words (meant x)) z l))
-  captioned_one (on_table e i l x) (no_sheet f) = absurd (accepted_refused (sym e ∙ f))
-  captioned_one (on_table e i l x) (no_captions_lem f j) = absurd (not_both (captions_one s c e f i j))
-  captioned_one (on_table {k = k'} e i l x) (no_room {k} f j m) = let z : k ≡ k' = accepted_one (sym f ∙ e) in absurd (omega (arith, subst (λ (x : Contents). length T < table_words (meant x)) z m))
-  captioned_one (on_table {k = k} {at = at} {U = U} {a = a} e i l x) (on_table {k = k'} {at = at'} {U = U'} f j m y) =
-      let z : k ≡ k' = accepted_one (sym e ∙ f) in
-      let v : at ≡ at' = same_value (captions_one s c e f i j) in
-      let w = subst (λ (k : Contents). ListsShown (shown_texts s c k.places at) s r (take (table_words (meant k)) T) U a) z x in
-      let o = lists_one (subst (λ (p : List ℕ). ListsShown (shown_texts s c k'.places p) s r (take (table_words (meant k')) T) U a) v w) y in
-      (ap₂ (λ (X : List ℕ) (k : Contents). X ++ drop (table_words (meant k)) T) o.0 z, o.1)
+  pub prints_one : {U U' : List ℕ} {a b : Result (List ℕ)} → Prints s r T U a → Prints s r T U' b → (U ≡ U') × (a ≡ b)
+  prints_one (no_sheet e) (no_sheet f) = (refl, refused_alike (sym e ∙ f))
+  prints_one (no_sheet e) (no_room f l) = absurd (accepted_refused (sym f ∙ e))
+  prints_one (no_sheet e) (on_table f l y) = absurd (accepted_refused (sym f ∙ e))
+  prints_one (no_room e l) (no_sheet f) = absurd (accepted_refused (sym e ∙ f))
+  prints_one (no_room e l) (no_room f m) = (refl, refl)
+  prints_one (no_room {k} e l) (on_table {k = c} f m y) = let i : k ≡ c = accepted_one (sym e ∙ f) in absurd (omega (arith, subst (λ (z : Contents). length T < table_words (meant z)) i l))
+  prints_one (on_table e l x) (no_sheet f) = absurd (accepted_refused (sym e ∙ f))
+  prints_one (on_table {k = c} e l x) (no_room {k} f m) = let i : k ≡ c = accepted_one (sym f ∙ e) in absurd (omega (arith, subst (λ (z : Contents). length T < table_words (meant z)) i m))
+  prints_one (on_table {k = k} {U = U} e l x) (on_table {k = c} {U = U'} {a = b} f m y) =
+      let i : k ≡ c = accepted_one (sym e ∙ f) in
+      let o = lists_one x (subst (λ (z : Contents). Lists s r (take (table_words (meant z)) T) U' b) (sym i) y) in
+      (ap₂ (λ (X : List ℕ) (z : Contents). X ++ drop (table_words (meant z)) T) o.0 i, o.1)
 
 -- so two outcomes for one table and one buffer coincide, in the answer, in every word and in every byte,
-printed_alike : {R R' : Result (List ℕ) → Type 0} {U U' : List ℕ} → ((a b : Result (List ℕ)) → R a → R' b → (U ≡ U') × (a ≡ b)) → {m m₁ m₂ : List ℕ} {n₁ n₂ : ℕ} → Written R m m₁ n₁ → Written R' m m₂ n₂
-    → (n₁ ≡ n₂) × (U ≡ U') × (m₁ ≡ m₂)
-printed_alike one {m} x y =
-    let o = one x.told y.told x.tells y.tells in
+pub printed_one : {s r T U U' m m₁ m₂ : List ℕ} {n₁ n₂ : ℕ} → Written (Prints s r T U) m m₁ n₁ → Written (Prints s r T U') m m₂ n₂ → (n₁ ≡ n₂) × (U ≡ U') × (m₁ ≡ m₂)
+printed_one {m = m} x y =
+    let o = prints_one x.tells y.tells in
     let e = ap text_of o.1 in
     (x.long ∙ ap length e ∙ sym y.long, o.0, x.holds ∙ ap (sets m 0) e ∙ sym y.holds)
 
-pub captioned_printed_one : {s r c T U U' m m₁ m₂ : List ℕ} {n₁ n₂ : ℕ} → Written (PrintsCaptioned s r c T U) m m₁ n₁ → Written (PrintsCaptioned s r c T U') m m₂ n₂ → (n₁ ≡ n₂) × (U ≡ U') × (m₁ ≡ m₂)
-captioned_printed_one x y = printed_alike (λ a b p q. captioned_one p q) x y
-
--- with captions and without,
-module _ {s r T : List ℕ} where
-  pub prints_one : {U U' : List ℕ} {a b : Result (List ℕ)} → Prints s r T U a → Prints s r T U' b → (U ≡ U') × (a ≡ b)
-  prints_one x y = captioned_one (plain_prints x) (plain_prints y)
-
-pub printed_one : {s r T U U' m m₁ m₂ : List ℕ} {n₁ n₂ : ℕ} → Written (Prints s r T U) m m₁ n₁ → Written (Prints s r T U') m m₂ n₂ → (n₁ ≡ n₂) × (U ≡ U') × (m₁ ≡ m₂)
-printed_one x y = printed_alike (λ a b p q. prints_one p q) x y
-
 -- there is one for each buffer where something is told,
-told_some : (R : Result (List ℕ) → Type 0) (a : Result (List ℕ)) → R a → length (text_of a) ≤ most_listed → (m : List ℕ) → Written R m (sets m 0 (text_of a)) (length (text_of a))
-told_some R a p l m = written R p l (record { next = sym (zero-add (length (text_of a))); holds = refl })
-
-pub captioned_some : {s r c T U : List ℕ} {a : Result (List ℕ)} → PrintsCaptioned s r c T U a → (m : List ℕ) → Written (PrintsCaptioned s r c T U) m (sets m 0 (text_of a)) (length (text_of a))
-captioned_some {s} {r} {c} {T} {U} {a} p m = told_some (PrintsCaptioned s r c T U) a p (captioned_most p) m
-
 pub printed_some : {s r T U : List ℕ} {a : Result (List ℕ)} → Prints s r T U a → (m : List ℕ) → Written (Prints s r T U) m (sets m 0 (text_of a)) (length (text_of a))
-printed_some {s} {r} {T} {U} {a} p m = told_some (Prints s r T U) a p (captioned_most (plain_prints p)) m
+printed_some {s} {r} {T} {U} {a} p m = written (Prints s r T U) p (prints_most p) (record { next = sym (zero-add (length (text_of a))); holds = refl })
 
--- and each listing program prints one text.
+-- and the listing program prints one text.
 pub settles_one : {s r l v : List ℕ} → Settles s r l → Settles s r v → l ≡ v
 settles_one x y = x.text_is ∙ ap text_of (prints_one x.prints y.prints).1 ∙ sym y.text_is
-
-pub settles_captioned_one : {s r c l v : List ℕ} → SettlesCaptioned s r c l → SettlesCaptioned s r c v → l ≡ v
-settles_captioned_one x y = x.text_is ∙ ap text_of (captioned_one x.prints y.prints).1 ∙ sym y.text_is

@@ -1,4 +1,4 @@
--- One add to a lent table, and its listing with a text to be shown of each signal: what each step asks, and what is printed then.
+-- One add to a lent table, and its listing: what each step asks, and what is printed then.
 -- Assumes nothing.
 use mathlib.Core.Path.{◌≡◌, sym, ap, ap₂, ◌∙◌, subst}
 use mathlib.Core.Bool.{Bool, true}
@@ -8,23 +8,14 @@ use Prim.Native.Nat.{ℕ, ◌*◌, ◌^◌, ◌≤◌, ◌<◌}
 use native.Mathlib.Nat.{mul-le-mul_right, zero-add}
 use native.Mathlib.Omega.{arith}
 use lib.ListN.{length, take, drop}
-use Rattle.spec_limits.specs.Limits.{most_listed, most_name_bytes, most_rows, most_signals, most_ticks}
-use Rattle.read_bytes.specs.Read.Read.{got, refused as unread}
+use Rattle.spec_limits.specs.Limits.{most_listed, most_signals, most_ticks}
 use Rattle.read_names.specs.Spellings.{names_at}
-use Rattle.read_index.specs.Index.{links, places_in, name_count, names_in as indexed}
-use Rattle.read_index.proofs.Places.{places_part_lem}
-use Rattle.read_captions.specs.Captions.{captions_in}
-use Rattle.read_captions.specs.Parts.{shown_texts}
-use Rattle.read_captions.proofs.NotedCaptions.{noted_many, noted_each}
-use Rattle.read_captions.proofs.ShownParts.{shown_many}
-use Rattle.read_captions.proofs.ShortTexts.{Short, shown_short, showable, texts_short}
 use Rattle.read_names.proofs.Names.{names_many}
 use Rattle.spec_tilco.specs.Lists.{All}
 use Rattle.spec_tilco.specs.Inference.{Clash}
 use Rattle.spec_tilco.specs.Lowering.{row_count_lem}
 use Rattle.spec_tilco.specs.Table.{words, Stands, Standing, table_words, facts, facts_of, Answer}
 use Rattle.spec_tilco.proofs.Order.{row_count}
-use Rattle.table_marks.specs.Sizes.{most_table_words}
 use Rattle.read_sheet.specs.Sheet.{Contents, meant}
 use Rattle.read_sheet.proofs.Wholes.{sheet_head}
 use Rattle.read_head.proofs.DeclaredNames.{head_names}
@@ -41,28 +32,29 @@ use Rattle.spec_operations.specs.Operations.Adds.{not_opened, not_read, added}
 use Rattle.open_table.proofs.Tables.{accepted_one, InSheet, in_sheet, names_stand, RowWords, row_words, table_most}
 use Rattle.spec_operations.proofs.Opened.{fitting}
 use Rattle.list_signals.specs.Signals.{Listable, Answers}
-use Rattle.list_table.specs.Listing.{shown_listing, refusal_text}
-use Rattle.list_settled.specs.Prints.{Written, Begun, text_of}
-use Rattle.list_settled.specs.PrintsCaptioned.{ListsShown, PrintsCaptioned, Captioned}
-use Rattle.list_settled.specs.PrintsCaptioned.ListsShown.{not_added, listed}
-use Rattle.list_settled.specs.PrintsCaptioned.PrintsCaptioned.{no_sheet, no_captions_lem, no_room, on_table}
+use Rattle.list_table.specs.Listing.{listing_text, refusal_text}
+use Rattle.list_settled.specs.Prints.{Lists, Prints, Written, Begun, text_of}
+use Rattle.list_settled.specs.Prints.Lists.{not_added, listed}
+use Rattle.list_settled.specs.Prints.Prints.{no_sheet, no_room, on_table}
 use Rattle.list_table.proofs.Lengths.{listing_most, refusal_most}
 use Rattle.list_signals.proofs.Answered.{answers_there}
 
--- The listing of a sheet that was opened fits the listing's buffer, whatever its numbers and marks are, and so does whatever is told of its table.
-module _ (s : List ℕ) {k : Contents} (e : sheet_in s ≡ accepted k) (shown : List (List ℕ)) (short : All Short shown) (many : length shown ≡ length k.places) where
-  pub listing_fits : (rows facts : ℕ) (clash : Bool) (f : ℕ → ℕ → Answer) → length (shown_listing (names_in s k) shown k.window rows facts clash f) ≤ most_listed
-  listing_fits rows facts clash f =
-      let z = in_sheet s e in
-      let n = names_many s k.places in
-      listing_most (names_in s k) shown k.window rows facts clash f short (many ∙ sym n) (omega (arith, n, z.sizes.signals_high)) z.sizes.window_high
+-- The listing of a sheet that was opened fits the listing's buffer, whatever its numbers and marks are,
+listing_fits : (s : List ℕ) {k : Contents} → sheet_in s ≡ accepted k → (rows facts : ℕ) (clash : Bool) (f : ℕ → ℕ → Answer) → length (listing_text (names_in s k) k.window rows facts clash f) ≤ most_listed
+listing_fits s {k} e rows facts clash f =
+    let z = in_sheet s e in
+    let short = (head_names s (sheet_head s z.reads).2).short in
+    listing_most (names_in s k) k.window rows facts clash f short (omega (arith, names_many s k.places, z.sizes.signals_high)) z.sizes.window_high
 
-  pub lists_most : {r T U : List ℕ} {a : Result (List ℕ)} → ListsShown shown s r T U a → length (text_of a) ≤ most_listed
-  lists_most (not_added {n} {p} x) = refusal_most n p
-  lists_most (listed {k = c} {U} {clash = clash} {f} i x q) =
-      let j : k ≡ c = accepted_one (sym e ∙ i) in
-      subst (λ (y : Contents). length (shown_listing (names_in s y) shown y.window (row_count_lem (meant y)) (facts_of (meant y) U) clash f) ≤ most_listed) j
-      (listing_fits (row_count_lem (meant k)) (facts_of (meant k) U) clash f)
+-- and so does whatever is told of a table, or of a lent one.
+lists_most : {s r T U : List ℕ} {a : Result (List ℕ)} → Lists s r T U a → length (text_of a) ≤ most_listed
+lists_most (not_added {n} {p} x) = refusal_most n p
+lists_most {s} (listed {k = k} {U} {clash = clash} {f} e x q) = listing_fits s e (row_count_lem (meant k)) (facts_of (meant k) U) clash f
+
+pub prints_most : {s r T U : List ℕ} {a : Result (List ℕ)} → Prints s r T U a → length (text_of a) ≤ most_listed
+prints_most (no_sheet {n} {p} e) = refusal_most n p
+prints_most (no_room e l) = refusal_most 29 0
+prints_most (on_table e l x) = lists_most x
 
 -- What is told, if it fits, and was written.
 module _ (R : Result (List ℕ) → Type 0) {a : Result (List ℕ)} (x : R a) (fits : length (text_of a) ≤ most_listed) where
@@ -76,10 +68,10 @@ pub refused_keeps : {s r T U : List ℕ} {n p : ℕ} → Adds s r T U (refused n
 refused_keeps (not_opened o e) = e
 refused_keeps (not_read o f e) = e
 
-pub refused_lists : (shown : List (List ℕ)) {s r T U : List ℕ} {n p : ℕ} → Adds s r T U (refused n p) → ListsShown shown s r T U (refused n p)
-refused_lists shown {s} {r} {T} {U} {n} {p} x =
+pub refused_lists : {s r T U : List ℕ} {n p : ℕ} → Adds s r T U (refused n p) → Lists s r T U (refused n p)
+refused_lists {s} {r} {T} {U} {n} {p} x =
     let e : U ≡ T = refused_keeps x in
-    subst (λ (X : List ℕ). ListsShown shown s r T X (refused n p)) (sym e) (not_added (subst (λ (X : List ℕ). Adds s r T X (refused n p)) e x))
+    subst (λ (X : List ℕ). Lists s r T X (refused n p)) (sym e) (not_added (subst (λ (X : List ℕ). Adds s r T X (refused n p)) e x))
 
 -- What an accepted add says of the table that it makes.
 record Made (k : Contents) (U : List ℕ) (clash : Bool) : Type 0 where
@@ -103,8 +95,8 @@ module _ {s r T U : List ℕ} {a : Adding} (x : Adds s r T U (adding_says a)) wh
   as_refused e = subst (λ (z : Adding). Adds s r T U (adding_says z)) e x
 
 -- The refusal of an add is written.
-pub prints_refusal : (shown : List (List ℕ)) {s r T U m m' : List ℕ} {v n p : ℕ} → Adds s r T U (refused n p) → Wrote (refusal_text n p) 0 m m' v → Written (ListsShown shown s r T U) m m' v
-prints_refusal shown {s} {r} {T} {U} {n = n} {p} a w = written (ListsShown shown s r T U) (refused_lists shown a) (refusal_most n p) w
+pub prints_refusal : {s r T U m m' : List ℕ} {v n p : ℕ} → Adds s r T U (refused n p) → Wrote (refusal_text n p) 0 m m' v → Written (Lists s r T U) m m' v
+prints_refusal {s} {r} {T} {U} {n = n} {p} a w = written (Lists s r T U) (refused_lists a) (refusal_most n p) w
 
 module _ {s places : List ℕ} {w count : ℕ} (b : Begun s places w count) where
   abbrev k : Contents
@@ -123,21 +115,9 @@ module _ {s places : List ℕ} {w count : ℕ} (b : Begun s places w count) wher
   pub few : length places ≤ most_signals
   few = omega (arith, ap length b.names_are, known.sizes.signals_high)
 
-  -- The words of its table can be counted.
-  pub words_fit : (n : ℕ) → n ≡ words w → (2 * count ≤ 2 * most_rows) × (2 * count * n ≤ most_table_words)
-  words_fit n e =
-      let m : count ≤ most_rows = omega (arith, b.rows, known.rows) in
-      (omega arith, table_most m (row_words known.sizes.window_low known.sizes.window_high (e ∙ ap words b.window_is)).most)
-
-  -- The names are short.
-  pub names_short : All (λ n. length n ≤ most_name_bytes) (names_at s places)
-  names_short = subst (λ (p : List ℕ). All (λ n. length n ≤ most_name_bytes) (names_at s p)) (sym b.names_are) (head_names s (sheet_head s known.reads).2).short
-
   -- The places of the listing can be counted.
-  pub listing_counted : (shown : List (List ℕ)) → All Short shown → length shown ≡ length places
-      → (rows facts : ℕ) (clash : Bool) (f : ℕ → ℕ → Answer) → Counted 0 (shown_listing (names_at s places) shown w rows facts clash f)
-  listing_counted shown short many rows facts clash f =
-      rw (b.names_are, b.window_is) (record { below = omega (arith, listing_fits s b.holds shown short (many ∙ ap length b.names_are) rows facts clash f) })
+  pub listing_counted : (rows facts : ℕ) (clash : Bool) (f : ℕ → ℕ → Answer) → Counted 0 (listing_text (names_at s places) w rows facts clash f)
+  listing_counted rows facts clash f = rw (b.names_are, b.window_is) (record { below = omega (arith, listing_fits s b.holds rows facts clash f) })
 
   module _ {r T U : List ℕ} {new : ℕ} {clash : Bool} (a : Adds s r T U (accepted (gain new clash))) (n : ℕ) (e : n ≡ words w) where
     told : Made k U clash
@@ -183,82 +163,45 @@ module _ {s places : List ℕ} {w count : ℕ} (b : Begun s places w count) wher
         (subst (λ (i : ℕ). Answers (Stands i U) (length places) w answers) same_words answers_are))
 
     -- The listing is written.
-    pub prints_listing : (shown : List (List ℕ)) → All Short shown → length shown ≡ length places → {m m' : List ℕ} {v total : ℕ}
-        → ((f : ℕ → ℕ → Answer) → Answers (Stands n U) (length places) w f → Wrote (shown_listing (names_at s places) shown w count total clash f) 0 m m' v) → total ≡ facts n (length places) U → Written (ListsShown shown s r T U) m m' v
-    prints_listing shown short many {m} {m'} {v} {total} x counted =
-        let text = shown_listing (names_in s k) shown k.window (row_count_lem (meant k)) (facts_of (meant k) U) clash answers in
+    pub prints_listing : {m m' : List ℕ} {v total : ℕ} → total ≡ facts n (length places) U
+        → ((f : ℕ → ℕ → Answer) → Answers (Stands n U) (length places) w f → Wrote (listing_text (names_at s places) w count total clash f) 0 m m' v) → Written (Lists s r T U) m m' v
+    prints_listing {m} {m'} {v} {total} counted x =
+        let text = listing_text (names_in s k) k.window (row_count_lem (meant k)) (facts_of (meant k) U) clash answers in
         let y : Wrote text 0 m m' v = subst (λ (l : List ℕ). Wrote l 0 m m' v) same (x answers answers_are) in
-        written (ListsShown shown s r T U) (listed b.holds a answers_in)
-        (listing_fits s b.holds shown short (many ∙ ap length b.names_are) (row_count_lem (meant k)) (facts_of (meant k) U) clash answers) y
+        written (Lists s r T U) (listed b.holds a answers_in) (listing_fits s b.holds (row_count_lem (meant k)) (facts_of (meant k) U) clash answers) y
       where
         total_is : total ≡ facts_of (meant k) U
         total_is = counted ∙ ap₂ (λ (i : ℕ) (p : List ℕ). facts i (length p) U) same_words b.names_are
 
-        same : shown_listing (names_at s places) shown w count total clash answers ≡ shown_listing (names_in s k) shown k.window (row_count_lem (meant k)) (facts_of (meant k) U) clash answers
+        same : listing_text (names_at s places) w count total clash answers ≡ listing_text (names_in s k) k.window (row_count_lem (meant k)) (facts_of (meant k) U) clash answers
         same =
-            ap (λ (p : List ℕ). shown_listing (names_at s p) shown w count total clash answers) b.names_are
-            ∙ ap (λ (v : ℕ). shown_listing (names_in s k) shown v count total clash answers) b.window_is
-            ∙ ap (λ (i : ℕ). shown_listing (names_in s k) shown k.window i total clash answers) b.rows
-            ∙ ap (λ (i : ℕ). shown_listing (names_in s k) shown k.window (row_count_lem (meant k)) i clash answers) total_is
+            ap (λ (p : List ℕ). listing_text (names_at s p) w count total clash answers) b.names_are
+            ∙ ap (λ (v : ℕ). listing_text (names_in s k) v count total clash answers) b.window_is
+            ∙ ap (λ (i : ℕ). listing_text (names_in s k) k.window i total clash answers) b.rows
+            ∙ ap (λ (i : ℕ). listing_text (names_in s k) k.window (row_count_lem (meant k)) i clash answers) total_is
 
--- The sheet is opened, and its captions are read: its table stands in the first words of the lent one, or that has too few.
-module _ {s places : List ℕ} {w count : ℕ} (b : Begun s places w count) (n : ℕ) (e : n ≡ words w) (c : List ℕ) {at : List ℕ} {q : ℕ} (read : captions_in (names_at s places) c ≡ got at q) where
-  same_table : 2 * count * n ≡ table_words (meant b.contents)
-  same_table = ap₂ (λ (i m : ℕ). 2 * i * m) b.rows (e ∙ ap words b.window_is)
+-- The sheet is opened: its table stands in the first words of the lent one, or that has too few.
+module _ {s places B tops : List ℕ} {w t count : ℕ} (y : OpenedSheet s places B tops w t count) (n : ℕ) (e : n ≡ words w) where
+  -- with the names at the places that are lent for it
+  pub begun : {part : List ℕ} → part ≡ places → Begun s part w count
+  begun same = record { contents = y.contents; holds = y.holds; window_is = y.window_is; names_are = same ∙ y.names_are; rows = y.rows }
 
-  read_in : captions_in (names_in s b.contents) c ≡ got at q
-  read_in = subst (λ (p : List ℕ). captions_in (names_at s p) c ≡ got at q) b.names_are read
+  same_table : 2 * count * n ≡ table_words (meant y.contents)
+  same_table = ap₂ (λ (i m : ℕ). 2 * i * m) y.rows (e ∙ ap words y.window_is)
 
   module _ {r T : List ℕ} {m m' : List ℕ} {v : ℕ} where
-    pub prints_no_room : length T < 2 * count * n → Wrote (refusal_text 29 0) 0 m m' v → Written (PrintsCaptioned s r c T T) m m' v
-    prints_no_room l x = written (PrintsCaptioned s r c T T) (no_room b.holds read_in (omega (arith, same_table))) (refusal_most 29 0) x
+    pub prints_no_room : length T < 2 * count * n → Wrote (refusal_text 29 0) 0 m m' v → Written (Prints s r T T) m m' v
+    prints_no_room l x = written (Prints s r T T) (no_room y.holds (omega (arith, same_table))) (refusal_most 29 0) x
 
-    pub prints_on_table : {U : List ℕ} → 2 * count * n ≤ length T → Written (ListsShown (shown_texts s c places at) s r (take (2 * count * n) T) U) m m' v
-        → Written (PrintsCaptioned s r c T (U ++ drop (2 * count * n) T)) m m' v
+    pub prints_on_table : {U : List ℕ} → 2 * count * n ≤ length T → Written (Lists s r (take (2 * count * n) T) U) m m' v → Written (Prints s r T (U ++ drop (2 * count * n) T)) m m' v
     prints_on_table {U} l x = record {
       told = x.told;
-      tells = subst (λ (i : ℕ). PrintsCaptioned s r c T (U ++ drop i T) x.told) (sym same_table)
-          (on_table b.holds read_in (omega (arith, same_table))
-          (subst (λ (i : ℕ). ListsShown (shown_texts s c b.contents.places at) s r (take i T) U x.told) same_table
-          (subst (λ (p : List ℕ). ListsShown (shown_texts s c p at) s r (take (2 * count * n) T) U x.told) b.names_are x.tells)));
+      tells = subst (λ (i : ℕ). Prints s r T (U ++ drop i T) x.told) (sym same_table)
+          (on_table y.holds (omega (arith, same_table)) (subst (λ (i : ℕ). Lists s r (take i T) U x.told) same_table x.tells));
       long = x.long;
       most = x.most;
       holds = x.holds;
     }
 
--- The captions are refused,
-pub prints_no_captions : {s places c r T m m' : List ℕ} {w count v n p : ℕ} → Begun s places w count → captions_in (names_at s places) c ≡ unread n p → Wrote (refusal_text n p) 0 m m' v
-    → Written (PrintsCaptioned s r c T T) m m' v
-prints_no_captions {s} {places} {c} {r} {T} {n = n} {p} b e x =
-    let i = subst (λ (l : List ℕ). captions_in (names_at s l) c ≡ unread n p) b.names_are e in
-    written (PrintsCaptioned s r c T T) (no_captions_lem b.holds i) (refusal_most n p) x
-
--- or the sheet is.
-pub prints_no_sheet : {s r c T m m' : List ℕ} {v n p : ℕ} → sheet_in s ≡ refused n p → Wrote (refusal_text n p) 0 m m' v → Written (PrintsCaptioned s r c T T) m m' v
-prints_no_sheet {s} {r} {c} {T} {n = n} {p} e x = written (PrintsCaptioned s r c T T) (no_sheet e) (refusal_most n p) x
-
--- A sheet that was opened.
-pub begun : {s places B tops : List ℕ} {w t count : ℕ} → OpenedSheet s places B tops w t count → Begun s places w count
-begun y = record { contents = y.contents; holds = y.holds; window_is = y.window_is; names_are = y.names_are; rows = y.rows }
-
--- What is known when its captions were read: `places` are those of the names in the index T, as they are lent.
-pub record Ready (s c places at : List ℕ) (w count q : ℕ) : Type 0 where
-  pub sheet : Begun s places w count
-  pub captions : Captioned s c places at
-  pub read : captions_in (names_at s places) c ≡ got at q
-
-pub ready : (s T c : List ℕ) {w count : ℕ} → Begun s (places_in T) w count → {at : List ℕ} {q : ℕ} → captions_in (indexed s T) c ≡ got at q
-    → Ready s c (take (name_count T) (drop links T)) at w count q
-ready s T c {w} {count} b {at} {q} e =
-    subst (λ (p : List ℕ). Ready s c p at w count q) (sym (places_part_lem T))
-    (record { sheet = b; captions = record { showable = showable s T c e (named b); short = texts_short s T c e (names_short b) }; read = e })
-
--- Whatever is told fits the listing's buffer.
-pub captioned_most : {s r c T U : List ℕ} {a : Result (List ℕ)} → PrintsCaptioned s r c T U a → length (text_of a) ≤ most_listed
-captioned_most (no_sheet {n} {p} e) = refusal_most n p
-captioned_most (no_captions_lem {n = n} {p = p} e i) = refusal_most n p
-captioned_most (no_room e i l) = refusal_most 29 0
-captioned_most {s} {c = c} (on_table {k = k} {at = at} e i l x) =
-    let long = noted_many (names_in s k) c i ∙ names_many s k.places in
-    lists_most s e (shown_texts s c k.places at) (shown_short s c k.places at (head_names s (sheet_head s (in_sheet s e).reads).2).short (noted_each (names_in s k) c i))
-    (shown_many s c k.places at long) x
+pub prints_no_sheet : {s r T m m' : List ℕ} {v n p : ℕ} → sheet_in s ≡ refused n p → Wrote (refusal_text n p) 0 m m' v → Written (Prints s r T T) m m' v
+prints_no_sheet {s} {r} {T} {n = n} {p} e x = written (Prints s r T T) (no_sheet e) (refusal_most n p) x

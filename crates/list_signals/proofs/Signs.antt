@@ -8,13 +8,15 @@ use native.Mathlib.Nat.{mul-le-mul_right}
 use native.Mathlib.Numerals.{add-one}
 use native.Mathlib.Omega.{arith}
 use lib.ListN.{length, get_or, drop, drop_of_length-le}
+use Rattle.read_names.specs.Spellings.{spelling_at, names_at}
+use Rattle.read_names.proofs.Names.{names_at_lem}
 use Rattle.read_bytes.proofs.Places.{drop_in}
 use Rattle.spec_tilco.specs.Table.{Stands, Answer, Asked, clashes}
 use Rattle.spec_tilco.proofs.Demand1.{asked_one}
 use Rattle.table_marks.specs.Values.{value_says}
 use Rattle.table_marks.specs.declared.Value.{Value}
-use Rattle.write_bytes.specs.Writes.{Counted, Wrote}
-use Rattle.write_bytes.proofs.Writing.{like, counted_like}
+use Rattle.write_bytes.specs.Writes.{Wrote}
+use Rattle.write_bytes.proofs.Writing.{like}
 use Rattle.list_signals.specs.Signals.{Listable, sign_byte, signs, signal_text, signals_text}
 
 -- A table that can be listed can be for fewer signals and a shorter window.
@@ -35,23 +37,16 @@ module _ (f : ℕ → Answer) (t W : ℕ) where
   unfolding signs
   signs_end h = let e : W - t ≡ 0 = omega arith in rw e
 
--- The signals xs from the place i on, with these names.
-module _ (names : List (List ℕ)) (xs : List ℕ) (W : ℕ) (f : ℕ → ℕ → Answer) (i : ℕ) where
-  pub signals_next : i < length xs → signals_text W f names (drop i xs) ≡ signal_text (get_or names (get_or xs i 0) []) (signs (f (get_or xs i 0)) 0 W) ++ signals_text W f names (drop (i + 1) xs)
+-- The signals xs from the place i on; the next one has a name at a place of the text.
+module _ (s ps xs : List ℕ) (W : ℕ) (f : ℕ → ℕ → Answer) (i : ℕ) where
+  pub signals_next : i < length xs → get_or xs i 0 < length ps
+      → signals_text W f (names_at s ps) (drop i xs) ≡ signal_text (spelling_at s (get_or ps (get_or xs i 0) 0)) (signs (f (get_or xs i 0)) 0 W) ++ signals_text W f (names_at s ps) (drop (i + 1) xs)
   unfolding signals_text
-  signals_next h = rw (drop_in xs i 0 h)
+  signals_next h k = rw (drop_in xs i 0 h, names_at_lem s ps (get_or xs i 0) k)
 
-  pub signals_end : length xs ≤ i → signals_text W f names (drop i xs) ≡ []
+  pub signals_end : length xs ≤ i → signals_text W f (names_at s ps) (drop i xs) ≡ []
   unfolding signals_text
   signals_end h = rw (drop_of_length-le xs h)
-
--- What is shown of a signal, by another name of its text.
-module _ {v w : List ℕ} (e : v ≡ w) (marks : List ℕ) {b : ℕ} where
-  pub shown_counted : Counted b (signal_text w marks) → Counted b (signal_text v marks)
-  shown_counted k = counted_like k (ap (λ z. signal_text z marks) (sym e))
-
-  pub shown_written : {m m₁ : List ℕ} {u : ℕ} → Wrote (signal_text v marks) b m m₁ u → Wrote (signal_text w marks) b m m₁ u
-  shown_written h = like (ap (λ z. signal_text z marks) (sym e)) h
 
 -- A sign written is the sign of the answer.
 pub signed : {x y b : ℕ} {m m₁ : List ℕ} {u : ℕ} → x ≡ y → Wrote (x ∷ []) b m m₁ u → Wrote (y ∷ []) b m m₁ u

@@ -4,17 +4,16 @@
 
 ghost use Rattle.std.specs.Prelude.{◌≡◌, ℕ, ◌+◌, ◌<◌, length};
 ghost use Rattle.read_bytes.specs.Bytes.{bytes};
-ghost use Rattle.read_captions.specs.Parts.{shown_texts, Showable};
+ghost use Rattle.read_names.specs.Spellings.{spelling_at, names_at};
 ghost use Rattle.spec_tilco.specs.Lists.{All};
 ghost use Rattle.spec_tilco.specs.Table.{Stands, Answer, Asked};
 ghost use Rattle.write_bytes.specs.Writes.{Counted, Wrote};
 ghost use Rattle.write_lines.specs.LineTexts.{line_text};
 ghost use Rattle.list_signals.specs.Signals.{Listable, AnswersAt, Answers, sign_byte, signs, signal_text, signals_text};
 
-use read_captions::shown_text;
 use table_marks::{Value, value_at};
 use write_bytes::{push, push_text};
-use write_lines::write_text_line;
+use write_lines::write_name_line;
 
 // The sign of a signal at a tick.
 pub fn sign_at(table: &[u64], n: usize, signal: usize, tick: usize, clash: bool) -> u8
@@ -54,7 +53,7 @@ fn write_signs(
 }
 
 // The line of a signal's marks.
-fn write_marks_line(
+pub fn write_marks_line(
     table: &[u64],
     n: usize,
     signal: usize,
@@ -71,9 +70,10 @@ fn write_marks_line(
     push(b'\n', out, end)
 }
 
-// The two lines of a signal, of which this text is shown.
+// The two lines of a signal, whose name stands at a place of the text.
 fn write_signal(
-    shown: &[u8],
+    s: &[u8],
+    name: usize,
     table: &[u64],
     n: usize,
     signal: usize,
@@ -82,19 +82,17 @@ fn write_signal(
     out: &mut [u8],
     used: usize,
 ) -> usize
-    requires { Listable (signal + 1) window n table.now clash × ((f : ℕ → Answer) → Counted used (signal_text shown.now (signs f 0 window))) }
-    ensures { (f : ℕ → Answer) → AnswersAt (Stands n table.now) signal window f → Wrote (signal_text shown.now (signs f 0 window)) used out.old out.new result }
+    requires { Listable (signal + 1) window n table.now clash × ((f : ℕ → Answer) → Counted used (signal_text (spelling_at s.now name) (signs f 0 window))) }
+    ensures { (f : ℕ → Answer) → AnswersAt (Stands n table.now) signal window f → Wrote (signal_text (spelling_at s.now name) (signs f 0 window)) used out.old out.new result }
 {
-    let marks = write_text_line(b"signal=", shown, out, used);
+    let marks = write_name_line(s, name, out, used);
     write_marks_line(table, n, signal, window, clash, out, marks)
 }
 
-// The lines of the signals with these numbers. The signals' names stand at these places of the text `s`, and captions of them in `c`.
-pub fn write_signals<'a>(
-    s: &'a [u8],
+// The lines of the signals with these numbers. The signals' names stand at these places of the text.
+pub fn write_signals(
+    s: &[u8],
     places: &[u16],
-    c: &'a [u8],
-    captions: &[usize],
     signals: &[u64],
     window: usize,
     n: usize,
@@ -103,15 +101,15 @@ pub fn write_signals<'a>(
     out: &mut [u8],
     used: usize,
 ) -> usize
-    requires { Listable (length places.now) window n table.now clash × Showable s.now c.now places.now captions.now × All (λ x. x < length places.now) signals.now × ((f : ℕ → ℕ → Answer) → Counted used (signals_text window f (shown_texts s.now c.now places.now captions.now) signals.now)) }
-    ensures { (f : ℕ → ℕ → Answer) → Answers (Stands n table.now) (length places.now) window f → Wrote (signals_text window f (shown_texts s.now c.now places.now captions.now) signals.now) used out.old out.new result }
+    requires { Listable (length places.now) window n table.now clash × All (λ x. x < length places.now) signals.now × ((f : ℕ → ℕ → Answer) → Counted used (signals_text window f (names_at s.now places.now) signals.now)) }
+    ensures { (f : ℕ → ℕ → Answer) → Answers (Stands n table.now) (length places.now) window f → Wrote (signals_text window f (names_at s.now places.now) signals.now) used out.old out.new result }
 {
     let mut at = used;
     let mut i = 0;
     while i < signals.len() {
         let x = signals[i] as usize;
-        let shown = shown_text(s, c, places, captions, x);
-        at = write_signal(shown, table, n, x, window, clash, out, at);
+        let name = places[x] as usize;
+        at = write_signal(s, name, table, n, x, window, clash, out, at);
         i += 1;
     }
     at

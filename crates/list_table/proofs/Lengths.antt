@@ -1,12 +1,11 @@
 -- How long a listing is at the most, so that its places can be counted and a buffer with room for it can be lent.
 -- Assumes nothing.
-use mathlib.Core.Path.{◌≡◌, sym, subst}
 use mathlib.Core.Bool.{Bool}
 use mathlib.Core.List.{List, [], ◌∷◌, ◌++◌}
 use Prim.Native.Nat.{ℕ, ◌+◌, ◌*◌, ◌<◌, ◌≤◌}
 use native.Mathlib.Omega.{arith}
 use lib.ListN.{length, get_or, length-append}
-use Rattle.spec_limits.specs.Limits.{most_ticks, most_signals, most_caption_bytes, most_listed}
+use Rattle.spec_limits.specs.Limits.{most_ticks, most_signals, most_name_bytes, most_listed}
 use Rattle.read_bytes.specs.Bytes.{bytes}
 use Rattle.spec_tilco.specs.Lists.{All}
 use Rattle.spec_tilco.specs.Table.{Answer}
@@ -18,7 +17,7 @@ use Rattle.list_order.specs.Order.{in_order_lem}
 use Rattle.list_order.proofs.Sorting.{order_long, order_within}
 use Rattle.list_signals.specs.Signals.{signs, signal_text, signals_text}
 use Rattle.list_signals.proofs.Lengths.{signs_length, signal_length}
-use Rattle.list_table.specs.Listing.{head_text, shown_listing, refusal_text}
+use Rattle.list_table.specs.Listing.{head_text, listing_text, refusal_text}
 
 -- A line with a number can be counted near the start of the buffer, and ends near it.
 pub number_counted : (key : List ℕ) (n : ℕ) {b : ℕ} → b + length key ≤ most_listed → Counted b (number_text key n)
@@ -27,20 +26,20 @@ number_counted key n h = record { below = omega (arith, number_most key n) }
 pub number_ends : (key : List ℕ) (n : ℕ) {b : ℕ} {m m₁ : List ℕ} {u : ℕ} → Wrote (number_text key n) b m m₁ u → u ≤ b + length key + 21
 number_ends key n w = omega (arith, number_most key n)
 
--- A signal's lines have what is shown of it, a sign a tick, and 15 bytes more.
-signals_most : (W : ℕ) (f : ℕ → ℕ → Answer) (shown : List (List ℕ)) (xs : List ℕ) → W ≤ most_ticks → All (λ w. length w ≤ most_caption_bytes) shown → All (λ x. x < length shown) xs
-    → length (signals_text W f shown xs) ≤ (most_caption_bytes + most_ticks + 15) * length xs
+-- A signal's lines have its name, a sign a tick, and 15 bytes more.
+signals_most : (W : ℕ) (f : ℕ → ℕ → Answer) (names : List (List ℕ)) (xs : List ℕ) → W ≤ most_ticks → All (λ w. length w ≤ most_name_bytes) names → All (λ x. x < length names) xs
+    → length (signals_text W f names xs) ≤ (most_name_bytes + most_ticks + 15) * length xs
 unfolding signals_text
-signals_most W f shown [] h a b = omega arith
-signals_most W f shown (x ∷ xs) h a b =
-    let name = get_or shown x [] in
+signals_most W f names [] h a b = omega arith
+signals_most W f names (x ∷ xs) h a b =
+    let name = get_or names x [] in
     let l = signal_length name (signs (f x) 0 W) in
     let k = signs_length (f x) 0 W in
-    let i = signals_most W f shown xs h a b.1 in
-    let s = all_nth (λ w. length w ≤ most_caption_bytes) [] shown x a b.0 in
-    omega (arith, length-append (signal_text name (signs (f x) 0 W)) (signals_text W f shown xs))
+    let i = signals_most W f names xs h a b.1 in
+    let s = all_nth (λ w. length w ≤ most_name_bytes) [] names x a b.0 in
+    omega (arith, length-append (signal_text name (signs (f x) 0 W)) (signals_text W f names xs))
 
-head_most : (rows facts : ℕ) (clash : Bool) → length (head_text rows facts clash) ≤ 108
+pub head_most : (rows facts : ℕ) (clash : Bool) → length (head_text rows facts clash) ≤ 108
 unfolding head_text
 head_most rows facts clash =
     let a = number_most (bytes "answer=") 0 in
@@ -55,13 +54,13 @@ head_most rows facts clash =
     )
 
 -- A listing fits the listing's buffer,
-pub listing_most : (names shown : List (List ℕ)) (W rows facts : ℕ) (clash : Bool) (f : ℕ → ℕ → Answer)
-    → All (λ w. length w ≤ most_caption_bytes) shown → length shown ≡ length names → length names ≤ most_signals → W ≤ most_ticks → length (shown_listing names shown W rows facts clash f) ≤ most_listed
-unfolding shown_listing
-listing_most names shown W rows facts clash f a e n w =
+pub listing_most : (names : List (List ℕ)) (W rows facts : ℕ) (clash : Bool) (f : ℕ → ℕ → Answer)
+    → All (λ w. length w ≤ most_name_bytes) names → length names ≤ most_signals → W ≤ most_ticks → length (listing_text names W rows facts clash f) ≤ most_listed
+unfolding listing_text
+listing_most names W rows facts clash f a n w =
     let h = head_most rows facts clash in
-    let l = signals_most W f shown (in_order_lem names) w a (subst (λ k. All (λ x. x < k) (in_order_lem names)) (sym e) (order_within names)) in
-    omega (arith, length-append (head_text rows facts clash) (signals_text W f shown (in_order_lem names)), order_long names)
+    let l = signals_most W f names (in_order_lem names) w a (order_within names) in
+    omega (arith, length-append (head_text rows facts clash) (signals_text W f names (in_order_lem names)), order_long names)
 
 -- and so does a refusal's.
 pub refusal_most : (number place : ℕ) → length (refusal_text number place) ≤ most_listed

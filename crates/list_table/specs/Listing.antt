@@ -17,10 +17,6 @@ head_text rows facts clash =
 unfoldable pub listing_text : List (List ℕ) → ℕ → ℕ → ℕ → Bool → (ℕ → ℕ → Answer) → List ℕ
 listing_text names W rows facts clash f = head_text rows facts clash ++ signals_text W f names (in_order_lem names)
 
--- The same with these texts in the places of the names; the order stays that of the names (E7).
-unfoldable pub shown_listing : List (List ℕ) → List (List ℕ) → ℕ → ℕ → ℕ → Bool → (ℕ → ℕ → Answer) → List ℕ
-shown_listing names shown W rows facts clash f = head_text rows facts clash ++ signals_text W f shown (in_order_lem names)
-
 -- "A refusal prints `answer=` and `place=` only."
 unfoldable pub refusal_text : ℕ → ℕ → List ℕ
 refusal_text number place = number_text (bytes "answer=") number ++ number_text (bytes "place=") place

@@ -1,4 +1,4 @@
--- Row codes: kind + codeKinds * (a + codeNumbers * b), with kind 0 for a signal, 1 for an and, 2 for an or, 3 for a look, 4 for a not-row.
+-- Row codes: kind + code_kinds * (a + code_numbers * b), with kind 0 for a signal, 1 for an and, 2 for an or, 3 for a look, 4 for a not-row.
 -- Assumes nothing.
 use Rattle.std.specs.Prelude.{◌≡◌, true, false, List, ℕ, zero, suc, ◌+◌, ◌*◌, ◌/◌, ◌%◌, get_or}
 use Rattle.spec_limits.specs.Limits.{code_kinds, code_numbers}

@@ -78,5 +78,5 @@ module _ (s c : Bor (List ℕ)) (x : ℕ) {o : Captioning} (e : captioning_says 
 
   pub shows_nothing : {r : Bor (List ℕ)} {n p : ℕ} → o ≡ captioning.Refused n p → r.ref_ptr ≡ s.ref_ptr → r.now ≡ take 0 s.now → ShowsCaption s c r (caption_part s.now c.now x)
   shows_nothing {r} i j k =
-      let z : s.ptr.1 ≡ s.ptr.1 + 0 = sym (add-zero s.ptr.1) in
-      subst (ShowsCaption s c r) (sym (answer i)) (nothing (record { points = j ∙ ap (λ (m : ℕ). (s.ptr.0, m)) z; holds = k }))
+      let z : s.ref_ptr.1 ≡ s.ref_ptr.1 + 0 = sym (add-zero s.ref_ptr.1) in
+      subst (ShowsCaption s c r) (sym (answer i)) (nothing (record { points = j ∙ ap (λ (m : ℕ). (s.ref_ptr.0, m)) z; holds = k }))

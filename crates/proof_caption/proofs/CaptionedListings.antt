@@ -23,10 +23,10 @@ use Rattle.spec_caption.proofs.PartPlaces.{part_read}
 use Rattle.list_settled.specs.Prints.{Prints, Settles}
 use Rattle.list_settled.specs.Prints.Lists.{not_added as plain-not-added}
 use Rattle.list_settled.specs.Prints.Prints.{no_sheet as plain-no-sheet, no_room as plain-no-room, on_table as plain-on-table}
-use Rattle.list_settled.specs.PrintsCaptioned.{PrintsCaptioned, SettlesCaptioned}
-use Rattle.list_settled.specs.PrintsCaptioned.ListsShown.{not_added}
-use Rattle.list_settled.specs.PrintsCaptioned.PrintsCaptioned.{no_sheet, no_captions_lem, no_room, on_table}
-use Rattle.list_settled.proofs.Captionless.{prints_plain, plain_prints}
+use Rattle.list_captioned.specs.PrintsCaptioned.{PrintsCaptioned, SettlesCaptioned}
+use Rattle.list_captioned.specs.PrintsCaptioned.ListsShown.{not_added}
+use Rattle.list_captioned.specs.PrintsCaptioned.PrintsCaptioned.{no_sheet, no_captions_lem, no_room, on_table}
+use Rattle.list_captioned.proofs.Captionless.{prints_plain, plain_prints}
 use Rattle.proof_caption.specs.CaptionCases.{CaptionedRefusal}
 use Rattle.proof_caption.specs.CaptionCases.CaptionedRefusal.{up_to_nine, line_by_line, as_settle}
 use Rattle.proof_caption.proofs.CaptionAnswers.{captions_accepted, captions_refused}

@@ -15,3 +15,4 @@ pub mod ShownSlices
 pub mod OneCaption
 pub mod Examples
 pub mod CaptionedListings
+pub mod CaptionedAnswered

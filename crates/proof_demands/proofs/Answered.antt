@@ -28,13 +28,9 @@ use Rattle.spec_operations.specs.Operations.{counted, Adds, Asks}
 use Rattle.spec_operations.specs.Operations.Adds.{not_opened, not_read, added}
 use Rattle.spec_operations.specs.Operations.Asks.{not_opened as not_asked, out_of_range, asked}
 use Rattle.list_settled.specs.Prints.{Prints, Settles, text_of}
-use Rattle.list_settled.specs.PrintsCaptioned.{PrintsCaptioned, SettlesCaptioned}
-use Rattle.list_settled.specs.PrintsCaptioned.ListsShown.{listed}
-use Rattle.list_settled.specs.PrintsCaptioned.PrintsCaptioned.{no_sheet, no_captions_lem, no_room, on_table}
+use Rattle.list_settled.specs.Prints.Lists.{listed}
+use Rattle.list_settled.specs.Prints.Prints.{no_sheet, no_room, on_table}
 use Rattle.list_settled.proofs.Printing.{refused_lists}
-use Rattle.list_settled.proofs.Captionless.{prints_plain}
-use Rattle.read_captions.specs.Captions.{captions_in}
-use Rattle.read_captions.specs.Parts.{shown_texts}
 use Rattle.proof_demands.specs.Refusals.{SheetAccepted, TakenUp, ReadingsAccepted, SheetRefused}
 use Rattle.proof_demands.specs.Runs.{RunTexts, FromBlank}
 use Rattle.proof_demands.specs.Runs.RunTexts.{done as none, call as next}
@@ -155,46 +151,33 @@ module _ (s T : List ℕ) (x t : ℕ) where
 -- ---- settle
 
 -- A part of a table of 64-bit words is one.
-small_take : (n : ℕ) (T : List ℕ) → Small 64 T → Small 64 (take n T)
+pub small_take : (n : ℕ) (T : List ℕ) → Small 64 T → Small 64 (take n T)
 small_take n T small i = go (dec_lt i n)
   where
     go : Dec (i < n) → get_or (take n T) i 0 < 2 ^ 64
     go (yes l) = omega (arith, get_or-take n T i 0 l, small i)
     go (no l) = let z : get_or (take n T) i 0 ≡ 0 = get_or-eq_default (take n T) 0 (omega (arith, length-take n T)) in omega (arith, z)
 
--- For every sheet, readings, captions and lent table there is what the listing with captions tells,
-pub captioned_some : (s r c T : List ℕ) → Small 64 T → (U : List ℕ) × (a : Result (List ℕ)) × PrintsCaptioned s r c T U a
-captioned_some s r c T small = go (sheet_in s) refl
+-- For every sheet, readings and lent table there is what settle tells,
+pub prints_some : (s r T : List ℕ) → Small 64 T → (U : List ℕ) × (a : Result (List ℕ)) × Prints s r T U a
+prints_some s r T small = go (sheet_in s) refl
   where
-    of_answer : {k : Contents} {at U : List ℕ} {q : ℕ} → sheet_in s ≡ accepted k → captions_in (names_in s k) c ≡ got at q → table_words (meant k) ≤ length T → (a : Result Gain) → Adds s r (take (table_words (meant k)) T) U a
-        → (U : List ℕ) × (a : Result (List ℕ)) × PrintsCaptioned s r c T U a
-    of_answer {k} {U = U} e i l (accepted (gain new clash)) x =
-        (_, _, on_table e i l (listed {f = λ y t. (asked_some s U y t (words k.window)).0} e x (λ y h t i. (asked_some s U y t (words k.window)).1)))
-    of_answer {k} {at} e i l (refused n p) x = (_, _, on_table e i l (refused_lists (shown_texts s c k.places at) x))
+    of_answer : {k : Contents} {U : List ℕ} → sheet_in s ≡ accepted k → table_words (meant k) ≤ length T → (a : Result Gain) → Adds s r (take (table_words (meant k)) T) U a
+        → (U : List ℕ) × (a : Result (List ℕ)) × Prints s r T U a
+    of_answer {k} {U} e l (accepted (gain new clash)) x =
+        (_, _, on_table e l (listed {f = λ y t. (asked_some s U y t (words k.window)).0} e x (λ y h t i. (asked_some s U y t (words k.window)).1)))
+    of_answer e l (refused n p) x = (_, _, on_table e l (refused_lists x))
 
-    in_room : (k : Contents) {at : List ℕ} {q : ℕ} → sheet_in s ≡ accepted k → captions_in (names_in s k) c ≡ got at q → Dec (length T < table_words (meant k)) → (U : List ℕ) × (a : Result (List ℕ)) × PrintsCaptioned s r c T U a
-    in_room k e i (yes l) = (T, refused 29 0, no_room e i l)
-    in_room k e i (no l) = let x = add_some s r (take (table_words (meant k)) T) (small_take (table_words (meant k)) T small) in of_answer e i (omega arith) x.1 x.2
+    in_room : (k : Contents) → sheet_in s ≡ accepted k → Dec (length T < table_words (meant k)) → (U : List ℕ) × (a : Result (List ℕ)) × Prints s r T U a
+    in_room k e (yes l) = (T, refused 29 0, no_room e l)
+    in_room k e (no l) = let x = add_some s r (take (table_words (meant k)) T) (small_take (table_words (meant k)) T small) in of_answer e (omega arith) x.1 x.2
 
-    of_captions : (k : Contents) → sheet_in s ≡ accepted k → (R : Read (List ℕ)) → captions_in (names_in s k) c ≡ R → (U : List ℕ) × (a : Result (List ℕ)) × PrintsCaptioned s r c T U a
-    of_captions k e (got at q) i = in_room k e i (dec_lt (length T) (table_words (meant k)))
-    of_captions k e (unread n p) i = (T, refused n p, no_captions_lem e i)
-
-    go : (R : Result Contents) → sheet_in s ≡ R → (U : List ℕ) × (a : Result (List ℕ)) × PrintsCaptioned s r c T U a
-    go (accepted k) e = of_captions k e (captions_in (names_in s k) c) refl
+    go : (R : Result Contents) → sheet_in s ≡ R → (U : List ℕ) × (a : Result (List ℕ)) × Prints s r T U a
+    go (accepted k) e = in_room k e (dec_lt (length T) (table_words (meant k)))
     go (refused n p) e = (T, refused n p, no_sheet e)
 
--- and what settle tells,
-pub prints_some : (s r T : List ℕ) → Small 64 T → (U : List ℕ) × (a : Result (List ℕ)) × Prints s r T U a
-prints_some s r T small = let x = captioned_some s r [] T small in (x.0, x.1, prints_plain x.2)
-
--- and so a text that each listing program prints.
+-- and so a text that the listing program prints.
 pub settles_some : (s r : List ℕ) → (l : List ℕ) × Settles s r l
 settles_some s r =
     let x = prints_some s r (empty most_listed_words) (empty_small 64 most_listed_words) in
-    (text_of x.1, record { after = x.0; told = x.1; prints = x.2; text_is = refl })
-
-pub settles_captioned_some : (s r c : List ℕ) → (l : List ℕ) × SettlesCaptioned s r c l
-settles_captioned_some s r c =
-    let x = captioned_some s r c (empty most_listed_words) (empty_small 64 most_listed_words) in
     (text_of x.1, record { after = x.0; told = x.1; prints = x.2; text_is = refl })

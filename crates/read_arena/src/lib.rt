@@ -7,7 +7,7 @@ ghost use Rattle.read_arena.specs.Nodes.{pick, sign_of, sign_number, node_at, co
 ghost use Rattle.read_arena.specs.NodeRules.{ChildrenBefore, Storable, HasNode, NodeRoom};
 
 // The signs & | => <=>.
-#[derive(Drop)]
+#[derive(Clone, Copy)]
 pub enum Sign {
     And,
     Or,
@@ -16,7 +16,7 @@ pub enum Sign {
 }
 
 // A node of a rule. Its children are given by their numbers.
-#[derive(Drop)]
+#[derive(Clone, Copy)]
 pub enum Node {
     // A signal's row.
     Name(u16),

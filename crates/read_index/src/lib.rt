@@ -17,16 +17,16 @@ pub const SLOTS: usize = 64;
 // links: what stands before the names' places.
 pub const LINKS: usize = SLOTS + SIGNALS;
 
-// indexNumbers
+// index_numbers
 pub const INDEX: usize = LINKS + SIGNALS;
 
 // golden
 const GOLDEN: usize = 2654435769;
 
-// mixedNumbers
+// mixed_numbers
 const MIXED: usize = 4294967296;
 
-// perSlot
+// per_slot
 const PER_SLOT: usize = MIXED / SLOTS;
 
 // The place after a spelling, and its slot.

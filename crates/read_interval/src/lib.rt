@@ -10,16 +10,16 @@ use read_bytes::bytes::byte_at;
 use read_bytes::numbers::{Number, digits};
 use spec_limits::{END, OFFSET_ZERO};
 
-// endZero: the end 0 as it is kept.
+// end_zero: the end 0 as it is kept.
 const END_ZERO: usize = 10000;
 
-// leastEnd
+// least_end
 const LEAST: usize = END_ZERO - END;
 
-// greatestEnd
+// greatest_end
 const GREATEST: usize = END_ZERO + END;
 
-// overOffset
+// over_offset
 const OVER_OFFSET: usize = END_ZERO - OFFSET_ZERO;
 
 // The offsets of an interval: its first whole number with 64 added, how many more follow, and the place after it; or a refusal's number and place.

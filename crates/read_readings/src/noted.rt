@@ -9,7 +9,7 @@ ghost use Rattle.read_readings.specs.SpanNumbers.{span_of, spans_in, SpanRoom};
 use spec_limits::TICKS;
 use table_spans::put_span;
 
-// rowSpans: a row's marks of one value have numbers for so many spans.
+// row_spans: a row's marks of one value have numbers for so many spans.
 pub const ROW_SPANS: usize = TICKS * TICKS;
 
 // Which of a signal's two rows of marks has those of the value, value 0 first.

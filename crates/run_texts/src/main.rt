@@ -5,7 +5,8 @@
 
 ghost use Rattle.std.specs.Prelude.{◌<◌, length};
 
-use list_settled::{settle, settle_captioned};
+use list_captioned::settle_captioned;
+use list_settled::settle;
 use op_check::{Checking, check};
 use read_bytes::bytes::starts_at;
 use read_head::{Heading, head};
@@ -13,7 +14,7 @@ use read_index::{INDEX, LINKS};
 use read_readings::whole::{Outcome, take_readings};
 use run_cases::{TEXT_ROOM, heading, next_line, print, print_number, print_refusal, text_under};
 use run_parts::read_full;
-use spec_limits::{BYTES, LISTED, LISTED_WORDS, SIGNALS};
+use spec_limits::{BYTES, CAPTIONED, LISTED, LISTED_WORDS, SIGNALS};
 use std::io;
 use std::io::Write;
 use table_marks::WORDS;
@@ -103,7 +104,7 @@ fn run_house<W: Write>(
     let mut buffer = [0u8; TEXT_ROOM];
     let m = text_under(cases, at, &mut buffer);
     let mut table = [0u64; LISTED_WORDS];
-    let mut out = [0u8; LISTED];
+    let mut out = [0u8; CAPTIONED];
     let end = settle_captioned(&lines[..n], &buffer[..m], &words[..k], &mut table, &mut out);
     print(output, &out[..end])
 }

@@ -2,9 +2,9 @@
 // read counts as empty.
 #![tactic(auto)]
 
-use list_settled::settle_captioned;
+use list_captioned::settle_captioned;
 use run_parts::{TEXT, read_text};
-use spec_limits::{LISTED, LISTED_WORDS};
+use spec_limits::{CAPTIONED, LISTED_WORDS};
 use std::io;
 use std::io::Write;
 
@@ -13,7 +13,7 @@ fn main(rt: HostRuntime) -> io::Result<()> {
     let mut readings = [0u8; TEXT];
     let mut captions = [0u8; TEXT];
     let mut table = [0u64; LISTED_WORDS];
-    let mut out = [0u8; LISTED];
+    let mut out = [0u8; CAPTIONED];
     let a = read_text(&rt, "sheet.txt", &mut sheet);
     let b = read_text(&rt, "readings.txt", &mut readings);
     let c = read_text(&rt, "captions.txt", &mut captions);

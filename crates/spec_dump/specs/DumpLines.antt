@@ -29,7 +29,7 @@ units = bytes "s $end\n" ∷ bytes "ms $end\n" ∷ bytes "us $end\n" ∷ bytes "
 unfoldable pub timescale_line : List ℕ → ℕ → Read ℕ
 timescale_line d p = and_then (one_of_texts d p p (bytes "$timescale " ∷ [])) (λ _ q. and_then (one_of_texts d p q scales) (λ _ r. one_of_texts d p r units))
 
--- The line of signal x in its form, whatever stands in the name's place: that place, and the place of the LF. The name is what stands between varKey, of 14 bytes, and
+-- The line of signal x in its form, whatever stands in the name's place: that place, and the place of the LF. The name is what stands between var_key, of 14 bytes, and
 -- ` $end`, of 5.
 unfoldable pub var_form : List ℕ → ℕ → ℕ → Read ℕ
 var_form d x p =

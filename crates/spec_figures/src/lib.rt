@@ -15,5 +15,5 @@ pub struct Record {
     pub first: u64,
 }
 
-// noTick
+// no_tick
 pub const NO_TICK: u64 = 0xffff_ffff_ffff_ffff;

@@ -88,7 +88,7 @@ quiet_sign o s q e = go (starts s q (sign_text o)) refl
 -- Tokens end where they begin or later.
 pub tokens_ahead : {s : List ℕ} {p q : ℕ} (ws : List (List ℕ)) → Tokens s q p ws → p ≤ q
 tokens_ahead [] h = let e = none_is h in omega arith
-tokens_ahead (w ∷ ws) h = let n = tokens_ahead ws (next_is h).1 in omega arith
+tokens_ahead {p = p} (w ∷ ws) h = let n = tokens_ahead {p = p + length w} ws (next_is h).1 in omega arith
 
 -- ---- readers and their answers
 

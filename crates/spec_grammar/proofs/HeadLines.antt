@@ -131,11 +131,15 @@ module _ (s : List ℕ) where
     -- The lines before a place of the head, or before the first rule, are read over.
     reached_on : {c : Next} {p : ℕ} → InHead c → Reached s c p → from K s Next.window 0 ≡ from K s c p
     reached_on h Reached.start = refl
-    reached_on h (Reached.line b a (Right.number Ranged.ticks n i)) = reached_on tt b ∙ right_number Ranged.ticks a n i
-    reached_on h (Reached.line b a (Right.number Ranged.signal_count n i)) = reached_on tt b ∙ right_number Ranged.signal_count a n i
-    reached_on h (Reached.line b a (Right.number Ranged.rule_count n i)) = reached_on tt b ∙ right_number Ranged.rule_count a n i
-    reached_on h (Reached.line b a (Right.name {w} {n} {places} m k)) = reached_on tt b ∙ right_name w n places a m k
-    reached_on h (Reached.line b a (Right.formula {ws = ws} {f = f} i r)) = absurd (omega (arith, ap length h, length-append ws (f ∷ [])))
+    reached_on h (Reached.line b a r) = go h a r (λ i. reached_on i b)
+      where
+        go : {p : ℕ} {c e : Next} {v : List ℕ} → InHead e → LineAt s p (key c ++ v) → Right s p c v e → (InHead c → from K s Next.window 0 ≡ from K s c p)
+            → from K s Next.window 0 ≡ from K s e (after p (key c ++ v))
+        go h a (Right.number Ranged.ticks n i) k = k tt ∙ right_number Ranged.ticks a n i
+        go h a (Right.number Ranged.signal_count n i) k = k tt ∙ right_number Ranged.signal_count a n i
+        go h a (Right.number Ranged.rule_count n i) k = k tt ∙ right_number Ranged.rule_count a n i
+        go h a (Right.name {w} {n} {places} m i) k = k tt ∙ right_name w n places a m i
+        go h a (Right.formula {ws = ws} {f = f} i r) k = absurd (omega (arith, ap length h, length-append ws (f ∷ [])))
 
   -- ---- each line of the head is right, or at fault
 

@@ -58,6 +58,7 @@ all_opening = (
 )
 
 pub among : {A : Type 0} (P : A → Type 0) (l : List A) {w : A} → All P l → Memᴰ w l → P w
+among {A = A} P [] {w = w} h x'' = elim x'' [ ]
 among P (x ∷ l) h (Memᴰ.head e) = subst P (sym e) h.0
 among P (x ∷ l) h (Memᴰ.tail m) = among P l h.1 m
 

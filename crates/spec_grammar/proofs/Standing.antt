@@ -71,13 +71,13 @@ module _ {s : List ℕ} where
 
   pub tokens_then : {p q r : ℕ} (us : List (List ℕ)) {ws : List (List ℕ)} → Tokens s q p us → Tokens s r q ws → Tokens s r p (us ++ ws)
   tokens_then {p} {q} {r} [] {ws} a b = subst (λ x. Tokens s r x ws) (sym (none_is a)) b
-  tokens_then (u ∷ us) a b = let n = next_is a in Tokens.next n.0 (tokens_then us n.1 b)
+  tokens_then {p = p} (u ∷ us) a b = let n = next_is a in Tokens.next n.0 (tokens_then {p = p + length u} us n.1 b)
 
   pub tokens_part : {p r : ℕ} (us : List (List ℕ)) {ws : List (List ℕ)} → Tokens s r p (us ++ ws) → (q : ℕ) × Tokens s q p us × Tokens s r q ws
   tokens_part {p} [] a = (p, Tokens.none, a)
-  tokens_part (u ∷ us) a =
+  tokens_part {p = p} (u ∷ us) a =
       let n = next_is a in
-      let r = tokens_part us n.1 in
+      let r = tokens_part {p = p + length u} us n.1 in
       (r.0, Tokens.next n.0 r.1, r.2)
 
 -- ---- spellings

@@ -32,7 +32,7 @@ tokens_upto {s} {p} {κ = κ} (u ∷ us) (w ∷ ws) a b l =
     let x = next_is a in
     let y = next_is b in
     let i = token_one x.0 y.0 in
-    let r = tokens_upto us ws x.1 (subst (λ z. Tokens s κ (p + length z) ws) (sym i) y.1) l in
+    let r = tokens_upto {p = p + length u} us ws x.1 (subst (λ z. Tokens s κ (p + length z) ws) (sym i) y.1) l in
     let j = r.1 in
     (r.0, (let z : w ∷ ws ≡ u ∷ (us ++ r.0) = cc in z), r.2)
 

@@ -151,11 +151,11 @@ walks_cut {τ} {z = z} [] {ws} h k = subst (λ a. Walks τ a ws z) (same h) k
   where
     same : {a b : Place} → Walks τ a [] b → a ≡ b
     same Walks.stop = refl
-walks_cut {τ} {z = z} (u ∷ us) {ws} h k =
+walks_cut {τ} {x} {z = z} (u ∷ us) {ws} h k =
     let a = walks_first h in
     let b = walks_first k in
     let i : a.0 ≡ b.0 = one a.1 b.1 in
-    walks_cut us a.2 (subst (λ q. Walks τ q (us ++ ws) z) (sym i) b.2)
+    walks_cut {x = (walks_first h).0} us a.2 (subst (λ q. Walks τ q (us ++ ws) z) (sym i) b.2)
   where
     one : {o : Option Place} {a b : Place} → o ≡ some a → o ≡ some b → a ≡ b
     one e f = cc
@@ -163,9 +163,9 @@ walks_cut {τ} {z = z} (u ∷ us) {ws} h k =
 -- The two parts of a walk.
 pub walks_part : {τ : Tests} {x z : Place} (us : List (List ℕ)) {ws : List (List ℕ)} → Walks τ x (us ++ ws) z → (y : Place) × Walks τ x us y × Walks τ y ws z
 walks_part {x = x} [] h = (x, Walks.stop, h)
-walks_part (u ∷ us) h =
+walks_part {x = x} (u ∷ us) h =
     let a = walks_first h in
-    let b = walks_part us a.2 in
+    let b = walks_part {x = (walks_first h).0} us a.2 in
     (b.0, Walks.next a.1 b.1, b.2)
 
 -- ---- steps

@@ -81,9 +81,13 @@ most_tops = most_rules + most_hidden
 abbrev pub most_readings : ℕ
 most_readings = 1489
 
--- A listing has no more bytes: for each signal its caption or its shorter name, a sign a tick and 15 more, and 108 before them.
+-- A listing has no more bytes: for each signal its name, a sign a tick and 15 more, and 108 before them.
 abbrev pub most_listed : ℕ
-most_listed = (most_caption_bytes + most_ticks + 15) * most_signals + 108
+most_listed = (most_name_bytes + most_ticks + 15) * most_signals + 108
+
+-- The same of a listing with captions, for each signal its caption or its shorter name.
+abbrev pub most_captioned : ℕ
+most_captioned = (most_caption_bytes + most_ticks + 15) * most_signals + 108
 
 -- A row's code is kind + kinds * (a + numbers * b): so many kinds, and so many numbers for a.
 abbrev pub code_kinds : ℕ

@@ -2,68 +2,71 @@
 #![tactic(auto)]
 
 
-// mostBytes: of a sheet, and of readings.
+// most_bytes: of a sheet, and of readings.
 pub const BYTES: usize = 32768;
 
-// mostTicks: of a window.
+// most_ticks: of a window.
 pub const TICKS: usize = 4096;
 
-// mostSignals
+// most_signals
 pub const SIGNALS: usize = 64;
 
-// mostRules
+// most_rules
 pub const RULES: usize = 64;
 
-// mostNameBytes
+// most_name_bytes
 pub const NAME_BYTES: usize = 16;
 
-// mostEndNumber: at the end of a name.
+// most_end_number: at the end of a name.
 pub const END_NUMBER: usize = 9999;
 
-// mostRuleBytes
+// most_rule_bytes
 pub const RULE_BYTES: usize = 256;
 
-// mostOpen
+// most_open
 pub const OPEN: usize = 32;
 
-// mostEnd: of an interval, and of its opposite.
+// most_end: of an interval, and of its opposite.
 pub const END: usize = 63;
 
-// mostHidden
+// most_hidden
 pub const HIDDEN: usize = 32;
 
-// mostRows
+// most_rows
 pub const ROWS: usize = 1024;
 
-// mostListedWords: of a table that is listed.
+// most_listed_words: of a table that is listed.
 pub const LISTED_WORDS: usize = 8192;
 
-// mostRuns: of readings texts that are run against one sheet.
+// most_runs: of readings texts that are run against one sheet.
 pub const RUNS: usize = 64;
 
-// mostCaptionBytes
+// most_caption_bytes
 pub const CAPTION_BYTES: usize = 40;
 
-// arenaNumbers
+// arena_numbers
 pub const ARENA: usize = 4 * RULE_BYTES;
 
-// offsetZero: the offset 0 as it is written.
+// offset_zero: the offset 0 as it is written.
 pub const OFFSET_ZERO: usize = 64;
 
-// mostTops
+// most_tops
 pub const TOPS: usize = RULES + HIDDEN;
 
-// mostReadings
+// most_readings
 pub const READINGS: usize = 1489;
 
-// mostListed
-pub const LISTED: usize = (CAPTION_BYTES + TICKS + 15) * SIGNALS + 108;
+// most_listed
+pub const LISTED: usize = (NAME_BYTES + TICKS + 15) * SIGNALS + 108;
 
-// codeKinds
+// most_captioned
+pub const CAPTIONED: usize = (CAPTION_BYTES + TICKS + 15) * SIGNALS + 108;
+
+// code_kinds
 pub const KINDS: u64 = 8;
 
-// codeNumbers
+// code_numbers
 pub const NUMBERS: u64 = 65536;
 
-// codeKinds * codeNumbers: what stands above both in a row's code.
+// code_kinds * code_numbers: what stands above both in a row's code.
 pub const ABOVE: u64 = KINDS * NUMBERS;

@@ -27,6 +27,7 @@ past gap e d (inr k) h = same_row (omega (arith, h.row, k.0)) (omega (arith, h.s
 
 -- and each mark of the entries after it,
 pub later_past : (gap : ℕ) (e : Span) (es : List Span) {r t : ℕ} → All (Before gap e) es → Marked r t es → Past gap e r t
+later_past gap e mathlib.Core.List.[] {r = r} {t = t} a x'' = elim x'' [ ]
 later_past gap e (d ∷ es) a (here h) = past gap e d a.0 h
 later_past gap e (d ∷ es) a (later m) = later_past gap e es a.1 m
 

@@ -67,7 +67,7 @@ pub record Holder (es : List Span) (r t : ℕ) : Type 0 where
   pub among : Memᴰ entry es
   pub has : Has entry r t
 
-pub holder : {es : List Span} {r t : ℕ} → Marked r t es → Holder es r t
+pub holder : {r t : ℕ} {es : List Span} → Marked r t es → Holder es r t
 holder (here {e} h) = record { entry = e; among = Memᴰ.head refl; has = h }
 holder (later m) = let k = holder m in record { entry = k.entry; among = Memᴰ.tail k.among; has = k.has }
 

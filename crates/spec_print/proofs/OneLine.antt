@@ -51,7 +51,7 @@ token_in_line (Token.sign {w} m) = other_in_line w (among (λ v. one_of (byte "\
 pub tokens_in_line : {s : List ℕ} {p q : ℕ} (ws : List (List ℕ)) → Tokens s q p ws → InLine (flatten ws)
 unfolding flatten
 tokens_in_line [] t = tt
-tokens_in_line (w ∷ ws) t = let n = next_is t in in_line_append w (flatten ws) (token_in_line n.0.token) (tokens_in_line ws n.1)
+tokens_in_line {p = p} (w ∷ ws) t = let n = next_is t in in_line_append w (flatten ws) (token_in_line n.0.token) (tokens_in_line {p = Prim.Native.Nat.◌+◌ p (length w)} ws n.1)
 
 -- ---- not empty
 

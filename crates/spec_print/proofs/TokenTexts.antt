@@ -199,7 +199,7 @@ module _ {s : List ℕ} where
   text_of {p} {q} [] t l = let e = none_is t in (record { bytes = starts_none s p; inside = omega arith }, omega arith)
   text_of {p} {q} (w ∷ ws) t l =
       let n = next_is t in
-      let r = text_of ws n.1 l in
+      let r = text_of {p = p + length w} ws n.1 l in
       let a = tokens_ahead ws n.1 in
       (stands_then w (flatten ws) (record { bytes = n.0.stands; inside = omega arith }) r.0, omega (arith, r.1, length-append w (flatten ws)))
 

@@ -11,10 +11,10 @@ ghost use Rattle.table_marks.specs.Values.{value_says};
 
 use spec_limits::{ROWS, TICKS};
 
-// mostWords: of a row, for each value.
+// most_words: of a row, for each value.
 pub const WORDS: usize = (TICKS + 63) / 64;
 
-// mostTableWords
+// most_table_words
 pub const TABLE_WORDS: usize = 2 * ROWS * WORDS;
 
 // The words that a row has for each value.

@@ -8,33 +8,28 @@ use Rattle.close_looks.proofs.look_part.Goals as goal
 
 pub part_of-part-requires : goal.part_of-part-requires
 part_of-part-requires c =
-    let asked = c.requires in
     let fits = c.ranges in
-    omega (arith, word_in_window _ _ _ asked.row_lt_count.3 asked.sees.within, fits.window.fits)
+    omega (arith, word_in_window _ _ _ c.requires.row_lt_count.3 c.requires.sees.within, fits.window.fits)
 
 pub returns-then-part-back : goal.returns-then-part-back
 returns-then-part-back c =
-    let asked = c.requires in
     let part_of_lem = c.part_of-part in
-    record { looks_from = part_none _ _ _ _ _ _ _ _ _ _ _ _ _ _ (λ t s d a h k. omega (arith, c.if-part-back.true, part_of_lem.ensures.0)); sees_2 = asked.sees }
+    record { looks_from = part_none _ _ _ _ _ _ _ _ _ _ _ _ _ _ (λ t s d a h k. omega (arith, c.if-part-back.true, part_of_lem.ensures.0)); sees_2 = c.requires.sees }
 
 pub returns-then-n-p : goal.returns-then-n-p
 returns-then-n-p c =
     let part_of_lem = c.part_of-part in
-    let o = c.requires in
-    record { looks_from = part_none _ _ _ _ _ _ _ _ _ _ _ _ _ _ (λ t s d a h k. omega (arith, words_cover _ _ o.row_lt_count.3, c.if-n-p.true, part_of_lem.ensures.0)); sees_2 = o.sees }
+    record { looks_from = part_none _ _ _ _ _ _ _ _ _ _ _ _ _ _ (λ t s d a h k. omega (arith, words_cover _ _ c.requires.row_lt_count.3, c.if-n-p.true, part_of_lem.ensures.0)); sees_2 = c.requires.sees }
 
 pub returns-then-part-eq64 : goal.returns-then-part-eq64
 returns-then-part-eq64 c =
-    let asked = c.requires in
     let part_of_lem = c.part_of-part in
     let a = c.args in
-    record { looks_from = part_none _ _ _ _ _ _ _ _ _ _ _ _ _ _ (λ t s d x h k. part_whole a.up _ a.offset (omega (arith, part_of_lem.ensures.1, c.if-part-eq64.true)) t s d h k); sees_2 = asked.sees }
+    record { looks_from = part_none _ _ _ _ _ _ _ _ _ _ _ _ _ _ (λ t s d x h k. part_whole a.up _ a.offset (omega (arith, part_of_lem.ensures.1, c.if-part-eq64.true)) t s d h k); sees_2 = c.requires.sees }
 
 pub window_beside-there-requires : goal.window_beside-there-requires
 window_beside-there-requires c =
-    let o = c.requires in
-    (word_in_window _ _ _ o.row_lt_count.3 (omega arith), o.sees.window)
+    (word_in_window _ _ _ c.requires.row_lt_count.3 (omega arith), c.requires.sees.window)
 
 pub shift-ticks-requires : goal.shift-ticks-requires
 shift-ticks-requires c =
@@ -46,8 +41,7 @@ shift-ticks-requires c =
 pub store_look-j-requires : goal.store_look-j-requires
 store_look-j-requires c =
     let if2 = c.if-n-p in
-    let o = c.requires in
-    record { row_lt_count = (o.row_lt_count.0, omega (arith, if2.false, o.sees.within), o.row_lt_count.1); ended = o.ended; list_fits = o.list_fits }
+    record { row_lt_count = (c.requires.row_lt_count.0, omega (arith, if2.false, c.requires.sees.within), c.requires.row_lt_count.1); ended = c.requires.ended; list_fits = c.requires.list_fits }
 
 pub shift-to_child-requires : goal.shift-to_child-requires
 shift-to_child-requires c =
@@ -59,16 +53,13 @@ shift-to_child-requires c =
 pub returns : goal.returns
 returns c =
     let part_of_lem = c.part_of-part in
-    let store-look = c.store_look-j in
     let good = c.well_formed in
     let if1 = c.if-part-back in
     let window-beside = c.window_beside-there in
     let shift = c.shift-ticks in
     let a = c.args in
-    let o = c.requires in
-    let t = o.sees in
+    let t = c.requires.sees in
     let f = part_of_lem.ensures in
-    let own = store-look.ensures in
-    let b = part_beside a.up _ _ _ _ f.0 f.1 (omega (arith, if1.false)) in record { looks_from = part_some _ _ _ _ _ _ _ _ _ _ _ (part_of_lem.result.e - a.offset / 64) _ _ o.row_lt_count.2 (omega (arith, if1.false, f.0))
-          (gives_as _ shift.ensures (from_child _ _ _ _ _ _ _ _ _ a.up b window-beside.ensures (omega (arith, good)) (omega (arith, good)) t.reads)) own.joins
-          (gives_as _ c.shift-to_child.ensures (from_look _ _ _ _ _ _ _ _ _ a.up b t.window (omega (arith, store-look, good)) (omega (arith, store-look, good)) own.reads)) (rw f.2 at own.queues_if) c.join.ensures; sees_2 = record { within = t.within; window = t.window; reads = child_stays _ _ _ _ _ o.row_lt_count.2 own.joins t.reads } }
+    let b = part_beside a.up _ _ _ _ f.0 f.1 (omega (arith, if1.false)) in record { looks_from = part_some _ _ _ _ _ _ _ _ _ _ _ (part_of_lem.result.e - a.offset / 64) _ _ c.requires.row_lt_count.2 (omega (arith, if1.false, f.0))
+          (gives_as _ shift.ensures (from_child _ _ _ _ _ _ _ _ _ a.up b window-beside.ensures (omega (arith, good)) (omega (arith, good)) t.reads)) c.store_look-j.ensures.joins
+          (gives_as _ c.shift-to_child.ensures (from_look _ _ _ _ _ _ _ _ _ a.up b t.window (omega (arith, c.store_look-j, good)) (omega (arith, c.store_look-j, good)) c.store_look-j.ensures.reads)) (rw f.2 at c.store_look-j.ensures.queues_if) c.join.ensures; sees_2 = record { within = t.within; window = t.window; reads = child_stays _ _ _ _ _ c.requires.row_lt_count.2 c.store_look-j.ensures.joins t.reads } }

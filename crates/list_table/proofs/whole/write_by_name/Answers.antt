@@ -2,7 +2,7 @@
 use mathlib.Core.Path.{sym, ap, subst}
 use Prim.Native.Nat.{◌<◌}
 use lib.ListN.{length}
-use Rattle.read_captions.specs.Parts.{shown_texts}
+use Rattle.read_names.specs.Spellings.{names_at}
 use Rattle.spec_tilco.specs.Lists.{All}
 use Rattle.write_bytes.specs.Writes.{Counted}
 use Rattle.write_bytes.proofs.Writing.{like}
@@ -12,13 +12,12 @@ use Rattle.list_table.proofs.whole.write_by_name.Goals as goal
 
 pub write_signals-requires : goal.write_signals-requires
 write_signals-requires c =
-    (
+    let names = names_at c.args.s.now c.args.places.now in (
       c.requires.1,
-      c.requires.2,
       subst (All (λ x. x < length c.args.places.now)) (sym c.signals_in_order.ensures) (order_placed c.args.s.now c.args.places.now),
-      λ f. subst (λ xs. Counted c.args.used (signals_text c.args.window f (shown_texts c.args.s.now c.args.c.now c.args.places.now c.args.captions.now) xs)) (sym c.signals_in_order.ensures) (c.requires.3 f),
+      λ f. subst (λ xs. Counted c.args.used (signals_text c.args.window f names xs)) (sym c.signals_in_order.ensures) (c.requires.2 f),
     )
 
 pub returns : goal.returns
 returns c =
-    λ f a. like (ap (signals_text c.args.window f (shown_texts c.args.s.now c.args.c.now c.args.places.now c.args.captions.now)) (sym c.signals_in_order.ensures)) (c.write_signals.ensures f a)
+    λ f a. like (ap (signals_text c.args.window f (names_at c.args.s.now c.args.places.now)) (sym c.signals_in_order.ensures)) (c.write_signals.ensures f a)

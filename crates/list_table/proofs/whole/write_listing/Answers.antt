@@ -2,7 +2,7 @@
 use mathlib.Core.Path.{sym}
 use lib.Seq.{length-take-le}
 use Rattle.write_bytes.proofs.Writing.{and_then_lem, counted_rest}
-use Rattle.list_table.specs.Listing.{shown_listing}
+use Rattle.list_table.specs.Listing.{listing_text}
 use Rattle.list_table.proofs.whole.write_listing.Goals as goal
 
 pub slice_bounds-write_by_name-end : goal.slice_bounds-write_by_name-end
@@ -10,11 +10,11 @@ slice_bounds-write_by_name-end c =
     sym (length-take-le _ _ c.requires.2)
 
 pub write_by_name-requires : goal.write_by_name-requires
-unfolding shown_listing
+unfolding listing_text
 write_by_name-requires c =
-    (length-take-le _ _ c.requires.2, c.requires.0, c.requires.1, λ f. counted_rest (c.requires.3 f) c.write_head-signals.ensures)
+    (record { inside = c.requires.1; many = length-take-le _ _ c.requires.2 }, c.requires.0, λ f. counted_rest (c.requires.3 f) c.write_head-signals.ensures)
 
 pub returns : goal.returns
-unfolding shown_listing
+unfolding listing_text
 returns c =
     λ f a. and_then_lem c.write_head-signals.ensures (c.write_by_name.ensures f a)

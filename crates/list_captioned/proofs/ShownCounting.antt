@@ -1,0 +1,22 @@
+-- The places of what follows a signal can be counted: what was written is as long, whatever the marks are.
+-- Assumes nothing.
+use mathlib.Core.Path.{ap}
+use mathlib.Core.List.{List, []}
+use Prim.Native.Nat.{ℕ, ◌+◌, ◌<◌}
+use native.Mathlib.Omega.{arith}
+use lib.ListN.{length, get_or, drop, length-append}
+use Rattle.spec_tilco.specs.Table.{Answer}
+use Rattle.write_bytes.specs.Writes.{Wrote, Counted}
+use Rattle.list_signals.specs.Signals.{signs, signal_text, signals_text}
+use Rattle.list_signals.proofs.Lengths.{signs_length, signal_length}
+use Rattle.list_captioned.proofs.ShownSigns.{signals_next}
+
+pub signals_counted : (names : List (List ℕ)) (xs : List ℕ) (W : ℕ) (f : ℕ → ℕ → Answer) (i : ℕ) {b : ℕ} → i < length xs → Counted b (signals_text W f names (drop i xs))
+    → (g : ℕ → Answer) {m m₁ : List ℕ} {u : ℕ} → Wrote (signal_text (get_or names (get_or xs i 0) []) (signs g 0 W)) b m m₁ u → Counted u (signals_text W f names (drop (i + 1) xs))
+signals_counted names xs W f i h k g w =
+    let x = get_or xs i 0 in
+    let name = get_or names x [] in
+    let rest = signals_text W f names (drop (i + 1) xs) in
+    let one = signal_length name (signs (f x) 0 W) in
+    let other = signal_length name (signs g 0 W) in
+    record { below = omega (arith, ap length (signals_next names xs W f i h), length-append (signal_text name (signs (f x) 0 W)) rest, signs_length (f x) 0 W, signs_length g 0 W) }
