@@ -1,4 +1,4 @@
--- A call answers 0 exactly if it is accepted: every refusal has a number from 1 to 24.
+-- A call answers 0 exactly if it is accepted: every refusal has a number from 1 to 23.
 -- Assumes nothing.
 use mathlib.Core.Path.{◌≡◌, refl, sym, subst}
 use mathlib.Core.Bool.{Bool, true, false, ◌&&◌}
@@ -6,8 +6,8 @@ use mathlib.Core.List.{List, []}
 use mathlib.Core.Logic.{◌↔◌}
 use mathlib.Core.Option.{Option, none, some}
 use Prim.Native.Nat.{ℕ}
-use lib.Dec.{leb, ltb}
-use lib.ListN.{length, get_or}
+use lib.Dec.{leb}
+use lib.ListN.{length}
 use Rattle.spec_limits.specs.Limits.{most_rule_bytes}
 use Rattle.read_bytes.specs.Read.{Read}
 use Rattle.read_bytes.specs.Read.Read.{got, refused as unread}
@@ -33,15 +33,12 @@ use Rattle.spec_dump.specs.DumpLines.{events}
 use Rattle.spec_dump.specs.Dumps.{table_dump, WritesDump, readings_text, readings_of, dump_of, dump_readings, ReadsDump}
 use Rattle.spec_dump.specs.Dumps as dump
 use Rattle.spec_dump.specs.Dumps.WritesDump.{not_opened as no_table, clashing, written}
-use Rattle.read_captions.specs.Captions.{captions_in}
-use Rattle.read_captions.specs.Parts.{shown_part}
-use Rattle.spec_caption.specs.Captioning.{part_by, part_of, caption_part}
 use Rattle.spec_figures.specs.declared.Record.{Record}
 use Rattle.spec_figures.specs.Texts.{texts_in}
 use Rattle.spec_figures.specs.Figures.{Figures}
 use Rattle.spec_figures.specs.Figures.Figures.{not_opened as unopened, not_the_table, not_the_records, not_the_lengths, not_read as no-texts, figured}
-use Rattle.c_api.specs.Leaves.{Left, left, leaves, one_value_lem, gain_values, answer_values, part_values, no_values, CheckLeaves, AddLeaves, AskLeaves, TextLeaves, MoveLeaves, PrintLeaves, WriteDumpLeaves, ReadDumpLeaves, CaptionLeaves, FigureLeaves}
-use Rattle.c_api.proofs.Numbers.{Listed, Numbered, sheet_numbered, readings_numbered, texts_numbered, events_numbered, captions_numbered}
+use Rattle.c_api.specs.Leaves.{Left, left, leaves, one_value_lem, gain_values, answer_values, no_values, CheckLeaves, AddLeaves, AskLeaves, TextLeaves, MoveLeaves, PrintLeaves, WriteDumpLeaves, ReadDumpLeaves, FigureLeaves}
+use Rattle.c_api.proofs.Numbers.{Listed, Numbered, sheet_numbered, readings_numbered, texts_numbered, events_numbered}
 
 -- Accepted, or refused by a listed number.
 abbrev pub Told : {A : Type 0} → Result A → Type 0
@@ -76,7 +73,7 @@ length_told (accepted t) h = tt
 length_told (refused n p) h = h
 
 module _ (s : List ℕ) where
-  sheet_told : Told (sheet_in s)
+  pub sheet_told : Told (sheet_in s)
   unfolding sheet_in
   sheet_told = sized_told (sheet_of s) (sheet_numbered s)
 
@@ -151,18 +148,6 @@ module _ (s : List ℕ) where
   figure_told {j} {ns} (no-texts {k} e l f g h u) = subst Numbered h (texts_numbered (names_in s k) k.window 0 (texts_in ns j))
   figure_told (figured e l f g h r) = tt
 
-  captioned_told : (c places : List ℕ) (signal : ℕ) (R : Read (List ℕ)) → Numbered R → Told (part_by s c places signal R)
-  captioned_told c places signal (got at q) h = pick_told (ltb signal (length places)) (shown_part s c (get_or places signal 0) (get_or at signal 0)) 17 0 tt
-  captioned_told c places signal (unread n p) h = h
-
-  part_told : (c : List ℕ) (signal : ℕ) (R : Result Contents) → Told R → Told (part_of s c signal R)
-  part_told c signal (accepted k) h = captioned_told c k.places signal (captions_in (names_in s k) c) (captions_numbered (names_in s k) c)
-  part_told c signal (refused n p) h = h
-
-  pub caption_told : (c : List ℕ) (signal : ℕ) → Told (caption_part s c signal)
-  unfolding caption_part
-  caption_told c signal = part_told c signal (sheet_in s) sheet_told
-
 -- ---- so 0 tells acceptance
 
 zero_tells : {A : Type 0} (values : A → List ℕ) (place : ℕ) (before : List ℕ) (x : Result A) → Told x → (answer_of (leaves values place before x) ≡ 0) ↔ Accepted x
@@ -194,9 +179,6 @@ module _ (s : List ℕ) (place : ℕ) (before : List ℕ) {l : Left} where
 
   pub read_dump_zero : (d : List ℕ) {O O' : List ℕ} (c : ReadDumpLeaves s d O O' place before l) → (answer_of l ≡ 0) ↔ Accepted c.0
   read_dump_zero d c = text_zero (λ x a. read_dump_told s d a) c
-
-  pub caption_zero : (c : List ℕ) (signal : ℕ) → CaptionLeaves s c signal place before l → (answer_of l ≡ 0) ↔ Accepted (caption_part s c signal)
-  caption_zero c signal e = subst (λ (k : Left). (answer_of k ≡ 0) ↔ Accepted (caption_part s c signal)) (sym e) (zero_tells part_values place before (caption_part s c signal) (caption_told s c signal))
 
   pub figure_zero : {j ns T U : List ℕ} {X X' : List Record} (c : FigureLeaves s j ns T U X X' place l) → (answer_of l ≡ 0) ↔ Accepted c.0
   figure_zero (x, a, f, e) = subst (λ (k : Left). (answer_of k ≡ 0) ↔ Accepted x) (sym e) (zero_tells no_values place [] x (figure_told s a))

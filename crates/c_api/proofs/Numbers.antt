@@ -1,12 +1,12 @@
--- Whatever is read, a sheet, readings, a dump or captions, is read or refused by a number from 1 to 24.
+-- Whatever is read, a sheet, readings or a dump, is read or refused by a number from 1 to 23.
 -- Assumes nothing.
 use mathlib.Core.Bool.{Bool, true, false, ◌&&◌, ◌||◌}
 use mathlib.Core.List.{List, [], ◌∷◌, ◌++◌}
 use mathlib.Core.Option.{Option, none, some}
 use Prim.Native.Nat.{ℕ, zero, suc, ◌+◌, ◌-◌}
 use lib.Dec.{T, ltb, leb, eqb}
-use lib.ListN.{length, get_or, set, take}
-use Rattle.spec_limits.specs.Limits.{most_caption_bytes, most_bytes, most_ticks, most_signals, most_rules, most_rule_bytes, most_open}
+use lib.ListN.{length, take}
+use Rattle.spec_limits.specs.Limits.{most_bytes, most_ticks, most_signals, most_rules, most_rule_bytes, most_open}
 use Rattle.read_bytes.specs.declared.bytes.Class.{Class}
 use Rattle.read_bytes.specs.declared.bytes.Class.TheVariants.{Letter, Digit, Sign, Bracket, Other}
 use Rattle.read_names.specs.declared.NameRead.{NameRead}
@@ -15,11 +15,10 @@ use Rattle.read_bytes.specs.declared.numbers.Number.{Number}
 use Rattle.read_bytes.specs.declared.numbers.Number.TheVariants.{Value, Missing}
 use Rattle.read_bytes.specs.Read.{Read, and_then}
 use Rattle.read_bytes.specs.Read.Read.{got, refused}
-use Rattle.read_bytes.specs.Bytes.{byte, bytes, peek, pick, between, one_of, class_of, starts, run_end}
+use Rattle.read_bytes.specs.Bytes.{byte, bytes, peek, pick, between, one_of, class_of, starts}
 use Rattle.read_names.specs.Spellings.{spelling_at, spelling_end, names_at, find_name, is_spelled, name_at}
 use Rattle.read_bytes.specs.Numbers.{number}
-use Rattle.read_captions.specs.Captions.{before_equals, name_part, caption_place, caption_at, caption_end, caption_form, given_once, caption_line, caption_lines, no_captions, captions_in}
-use Rattle.read_lines.specs.Lines.{line_end, lf_at, keyed_at, line, whole_number, whole_name, number_line, ranged_line, name_line, in_turn, up_to}
+use Rattle.read_lines.specs.Lines.{line_end, keyed_at, line, whole_number, whole_name, number_line, ranged_line, name_line, in_turn, up_to}
 use Rattle.spec_tilco.specs.Formula.{Op, And, Or, Implies, Iff, Written}
 use Rattle.read_interval.specs.declared.Offsets.{Offsets}
 use Rattle.read_interval.specs.declared.Offsets.TheVariants as offsets
@@ -36,7 +35,7 @@ use Rattle.spec_dump.specs.DumpLines.{one_of_texts, this_line, scales, units, ti
 
 -- Is n a refusal's number?
 abbrev pub Listed : ℕ → Type 0
-Listed n = T (between 1 24 n)
+Listed n = T (between 1 23 n)
 
 -- Something is read, or it is refused by a listed number.
 abbrev pub Numbered : {A : Type 0} → Read A → Type 0
@@ -386,27 +385,3 @@ module _ (d : List ℕ) where
 pub events_numbered : (names : List (List ℕ)) (W : ℕ) (d : List ℕ) → Numbered (events names W d)
 unfolding events
 events_numbered names W d = then_numbered (head_lines names d) _ (dump_head_numbered d names) (λ _ p. from_numbered d W (length names) (suc (length d)) 0 0 p)
-
--- ---- captions
-
-module _ (names : List (List ℕ)) (c : List ℕ) where
-  caption_line_numbered : (at : List ℕ) (p : ℕ) → Numbered (caption_line names c at p)
-  unfolding caption_line caption_form given_once
-  caption_line_numbered at p =
-      let x = find_name (name_part c p) names in
-      then_numbered (caption_form c p) (λ v e. given_once at (length names) p (e + 1) x)
-      (pick_numbered (eqb (peek c (run_end before_equals c p)) (byte "=") && between 1 most_caption_bytes (length (caption_at c (caption_place c p))) && lf_at c (caption_end c (caption_place c p)))
-      (got (caption_place c p) (caption_end c (caption_place c p))) (refused 24 p) tt tt)
-      (λ v e. pick_numbered (ltb x (length names)) (pick (eqb (get_or at x 0) 0) (λ _. got x (e + 1)) (refused 24 p)) (refused 12 p)
-      (pick_numbered (eqb (get_or at x 0) 0) (got x (e + 1)) (refused 24 p) tt tt) tt)
-
-  caption_lines_numbered : (n : ℕ) (at : List ℕ) (p : ℕ) → Numbered (caption_lines names c n at p)
-  unfolding caption_lines
-  caption_lines_numbered zero at p = tt
-  caption_lines_numbered (suc n) at p =
-      pick_numbered (ltb p (length c)) (and_then (caption_line names c at p) (λ x q. caption_lines names c n (set at x (caption_place c p)) q)) (got at p)
-      (then_numbered (caption_line names c at p) _ (caption_line_numbered at p) (λ x q. caption_lines_numbered n (set at x (caption_place c p)) q)) tt
-
-  pub captions_numbered : Numbered (captions_in names c)
-  unfolding captions_in
-  captions_numbered = caption_lines_numbered (length c) (no_captions (length names)) 0

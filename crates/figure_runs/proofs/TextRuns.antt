@@ -21,7 +21,6 @@ use Rattle.spec_tilco.proofs.Order.{row_count}
 use Rattle.spec_tilco.proofs.Demand2.{added_inside}
 use Rattle.table_words.specs.WordTicks.{HasRow}
 use Rattle.read_sheet.specs.Sheet.{Contents, meant}
-use Rattle.read_readings.specs.Readings.{readings}
 use Rattle.read_readings.proofs.Bounds.{readings_of_sheet}
 use Rattle.open_sheet.specs.Results.{accepted}
 use Rattle.open_sheet.specs.SheetIn.{sheet_in, names_in}

@@ -12,7 +12,7 @@ use lib.ListN.{length, get_or, drop_of_length-le}
 use lib.Seq.{drop-cons}
 use Rattle.spec_limits.specs.Limits.{most_ticks}
 use Rattle.read_bytes.specs.Bytes.{pick}
-use Rattle.read_reading.specs.Spans.{Span, span}
+use Rattle.read_reading.specs.Spans.{Span}
 use Rattle.read_readings.specs.SpanNumbers.{row_spans, span_of}
 use Rattle.write_lines.specs.LineTexts.{one_if}
 use Rattle.spec_moves.specs.InOrder.{rank}

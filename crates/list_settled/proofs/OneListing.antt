@@ -14,10 +14,9 @@ use Rattle.spec_tilco.specs.Lowering.{row_count_lem}
 use Rattle.spec_tilco.specs.Table.{Standing, table_words, facts_of, Answer}
 use Rattle.spec_tilco.proofs.Demand1.{asked_one}
 use Rattle.read_sheet.specs.Sheet.{Contents, meant}
-use Rattle.open_sheet.specs.Results.{Result, accepted, refused}
+use Rattle.open_sheet.specs.Results.{Result, accepted}
 use Rattle.spec_operations.specs.Gain.{gain}
-use Rattle.open_sheet.specs.SheetIn.{sheet_in, names_in}
-use Rattle.spec_operations.specs.Operations.{Adds}
+use Rattle.open_sheet.specs.SheetIn.{names_in}
 use Rattle.open_table.proofs.Tables.{accepted_one, accepted_refused}
 use Rattle.spec_operations.proofs.Determined.{adds_one, refused_alike}
 use Rattle.list_order.specs.Order.{in_order_lem}

@@ -8,7 +8,6 @@ use native.Mathlib.Nat.{add-zero}
 use native.Mathlib.Omega.{arith}
 use lib.ListN.{length, set, length-append, length-map, length-set}
 use lib.Seq.{sets}
-use Rattle.spec_tilco.specs.Lists.{total}
 use Rattle.spec_tilco.specs.Formula.{Formula}
 use Rattle.spec_tilco.specs.Inference.{Node}
 use Rattle.spec_tilco.specs.Lowering.{BTL, size, rows_of, top_of, rows_all, tops_all, lowered, lows}

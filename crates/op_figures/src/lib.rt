@@ -1,5 +1,5 @@
 // figures: several readings texts run against one sheet, and a record for each signal. Assumes nothing.
-// A function that is lent a slice of records is proved by a walk of its own; so these are few and short, and figure_runs does the work in plain words.
+// figure_runs does the work in plain words; the records are filled from them.
 #![tactic(auto)]
 
 ghost use Rattle.std.specs.Prelude.{◌≡◌, ◌*◌, ◌^◌, ◌<◌, ◌≤◌, length};

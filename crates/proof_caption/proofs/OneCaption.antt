@@ -27,7 +27,7 @@ shows_one (nothing h) (nothing g) = same_part h g
 
 -- The part of a slice from a on, n long.
 part : (u : Bor (List ℕ)) (a n : ℕ) → (r : Bor (List ℕ)) × PartOf u a n r
-part u a n = (record { ref_ptr = (u.ref_ptr.0, u.ref_ptr.1 + a); ghost_name = u.ghost_name; now = take n (drop a u.now) }, record { points = refl; holds = refl })
+part u a n = (record { ref_ptr = (u.ref_ptr.0, u.ref_ptr.1 + a); now = take n (drop a u.now) }, record { points = refl; holds = refl })
 
 -- One is shown, whatever is answered.
 pub shows_some : (s c : Bor (List ℕ)) (R : Result Part) → (r : Bor (List ℕ)) × ShowsCaption s c r R

@@ -53,11 +53,11 @@ module _ (s c r : Bor (List ℕ)) (x : ℕ) (h : ShowsCaption s c r (caption_par
     shown_bytes = (λ w v g. (line_part g).holds ∙ caption_cut g, λ n. (name_part_lem n).holds ∙ name_cut s.now c.now (shown_reads s.now c.now sheet x e))
 
     -- "Prove which of the two texts it came from": where the name has a line, the slice points to its caption in the captions' slice,
-    pub from_captions : {w : List ℕ} {v : ℕ} → HasLine c.now (name_of s.now k x) w v → r.ptr ≡ (c.ref_ptr.0, c.ref_ptr.1 + v)
+    pub from_captions : {w : List ℕ} {v : ℕ} → HasLine c.now (name_of s.now k x) w v → r.ref_ptr ≡ (c.ref_ptr.0, c.ref_ptr.1 + v)
     from_captions g = (line_part g).points
 
     -- and else to the name in the sheet's.
-    pub from_sheet : NoLine c.now (name_of s.now k x) → r.ptr ≡ (s.ref_ptr.0, s.ref_ptr.1 + get_or k.places x 0)
+    pub from_sheet : NoLine c.now (name_of s.now k x) → r.ref_ptr ≡ (s.ref_ptr.0, s.ref_ptr.1 + get_or k.places x 0)
     from_sheet n = (name_part_lem n).points
 
   -- A part that is shown has a byte.

@@ -124,7 +124,7 @@ module _ (names : List (List ℕ)) (W : ℕ) (d : List ℕ) where
     pub other_id : (y : ℕ) (w : List ℕ) → LineAt d p (signal_line y w) → (y ≡ x → ⊥) → DumpFault names W d 22 p
     other_id y w a n = other_fault h (λ m e c r. right c r n) (λ m i o. out o n) (line_no_end a)
       where
-        right : {m : List ℕ} {x : ℕ} {e : Next} → LineAt d p m → Right names W (signal x) m e → (y ≡ x → ⊥) → ⊥
+        right : {x : ℕ} {m : List ℕ} {e : Next} → LineAt d p m → Right names W (signal x) m e → (y ≡ x → ⊥) → ⊥
         right c (Right.declared {x} l) n = n (signal_one y x w (get_or names x []) (line_one a c))
         right c (Right.upscoped l) n = not_upscope y w (line_one a c)
 
@@ -138,7 +138,7 @@ module _ (names : List (List ℕ)) (W : ℕ) (d : List ℕ) where
         same : (x : ℕ) (w : List ℕ) → LineAt d p (signal_line x w) → LineAt d p (signal_line x (get_or names y [])) → w ≡ get_or names y []
         same x w c a = append_cancel_right w (get_or names y []) (bytes " $end") (value_one (var_key x) c a)
 
-        right : {m : List ℕ} {x : ℕ} {e : Next} → LineAt d p m → Right names W (signal x) m e → LineAt d p (signal_line x (get_or names y [])) → (y ≡ x → ⊥) → ⊥
+        right : {x : ℕ} {m : List ℕ} {e : Next} → LineAt d p m → Right names W (signal x) m e → LineAt d p (signal_line x (get_or names y [])) → (y ≡ x → ⊥) → ⊥
         right c (Right.declared {x} i) a n = n (sym (differ x y i l (same x (get_or names x []) c a)))
         right c (Right.upscoped {x} i) a n = not_upscope x (get_or names y []) (line_one a c)
 

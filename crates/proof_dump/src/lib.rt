@@ -1,3 +1,2 @@
 // The user's sentences about dumps, as theorems over what writing and reading them promise: definitions and theorems, and no function.
 #![tactic(auto)]
-

@@ -1,3 +1,2 @@
 // Value change dumps: definitions and theorems, and no function.
 #![tactic(auto)]
-

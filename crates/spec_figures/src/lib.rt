@@ -1,7 +1,6 @@
 // What the figures of several runs are, as a lent list of records has them. Definitions in specs/, theorems in proofs/, and no function.
 #![tactic(auto)]
 
-
 // A signal's figures: how many ticks of the runs it was true, false and unsettled, how many ticks the clashing runs have, and the first tick that
 // was settled, or NO_TICK.
 #[repr(C)]

@@ -1,7 +1,6 @@
 // Every limit by its name, for the code. specs/Limits.antt has each number's definition, with the sentence that it comes from. Assumes nothing.
 #![tactic(auto)]
 
-
 // most_bytes: of a sheet, and of readings.
 pub const BYTES: usize = 32768;
 

@@ -9,7 +9,7 @@ use native.Mathlib.Omega.{arith}
 use borrow.Author.Tests.{eqb-true}
 use lib.Dec.{eqb}
 use lib.ListN.{length, length-append}
-use Rattle.read_bytes.specs.Bytes.{byte, bytes, peek, digit, letter, name_byte, one_of, starts}
+use Rattle.read_bytes.specs.Bytes.{byte, bytes, peek, digit, name_byte, one_of, starts}
 use Rattle.spec_tilco.specs.Formula.{Op, And, Or, Implies, Iff, Written}
 use Rattle.write_bytes.proofs.Standing.{starts_both, Standing, stands_then, stands_whole}
 use Rattle.read_parts.specs.FormulaText.{sign_text}

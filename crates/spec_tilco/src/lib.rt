@@ -1,3 +1,2 @@
 // What a sheet means: definitions in specs/, theorems in proofs/, and no function.
 #![tactic(auto)]
-

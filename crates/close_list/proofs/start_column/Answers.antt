@@ -3,7 +3,6 @@ use native.Mathlib.Omega.{arith}
 use Prim.Native.Nat.{ℕ, ◌+◌, ◌-◌}
 use mathlib.Core.Path.{sym, ap, ap₂, ◌∙◌, refl}
 use mathlib.Core.Bool.{true, false}
-use mathlib.Core.Logic.{⊎_elim}
 use lib.Bits.{bit_or}
 use lib.ListN.{get_or}
 use Rattle.table_marks.proofs.Places.{two_blocks, first_block, second_block}

@@ -60,6 +60,9 @@ returns c =
     let a = c.args in
     let t = c.requires.sees in
     let f = part_of_lem.ensures in
-    let b = part_beside a.up _ _ _ _ f.0 f.1 (omega (arith, if1.false)) in record { looks_from = part_some _ _ _ _ _ _ _ _ _ _ _ (part_of_lem.result.e - a.offset / 64) _ _ c.requires.row_lt_count.2 (omega (arith, if1.false, f.0))
+    let b = part_beside a.up _ _ _ _ f.0 f.1 (omega (arith, if1.false)) in record {
+      looks_from = part_some _ _ _ _ _ _ _ _ _ _ _ (part_of_lem.result.e - a.offset / 64) _ _ c.requires.row_lt_count.2 (omega (arith, if1.false, f.0))
           (gives_as _ shift.ensures (from_child _ _ _ _ _ _ _ _ _ a.up b window-beside.ensures (omega (arith, good)) (omega (arith, good)) t.reads)) c.store_look-j.ensures.joins
-          (gives_as _ c.shift-to_child.ensures (from_look _ _ _ _ _ _ _ _ _ a.up b t.window (omega (arith, c.store_look-j, good)) (omega (arith, c.store_look-j, good)) c.store_look-j.ensures.reads)) (rw f.2 at c.store_look-j.ensures.queues_if) c.join.ensures; sees_2 = record { within = t.within; window = t.window; reads = child_stays _ _ _ _ _ c.requires.row_lt_count.2 c.store_look-j.ensures.joins t.reads } }
+          (gives_as _ c.shift-to_child.ensures (from_look _ _ _ _ _ _ _ _ _ a.up b t.window (omega (arith, c.store_look-j, good)) (omega (arith, c.store_look-j, good)) c.store_look-j.ensures.reads)) (rw f.2 at c.store_look-j.ensures.queues_if) c.join.ensures;
+      sees_2 = record { within = t.within; window = t.window; reads = child_stays _ _ _ _ _ c.requires.row_lt_count.2 c.store_look-j.ensures.joins t.reads };
+    }

@@ -30,7 +30,10 @@ returns c =
     let l = c.requires.row_lt_count.0 in
     let below = c.requires.row_lt_count.1 in
     let lower = c.look_part-g.ensures.looks_from in
-    let upper = c.look_part.ensures.looks_from in record { visits_look = looks_by _ _ _ _ _ _ _ _ _ _ _ _ _ _ _ _ c.requires.workable.inside (look_steps _ _ _ _ _ _ _ _ _ _ _ _ _ _ below lower.steps upper.steps)
+    let upper = c.look_part.ensures.looks_from in record {
+      visits_look = looks_by _ _ _ _ _ _ _ _ _ _ _ _ _ _ _ _ c.requires.workable.inside (look_steps _ _ _ _ _ _ _ _ _ _ _ _ _ _ below lower.steps upper.steps)
           (λ e. notes_then _ _ _
           (notes_look _ _ _ _ _ k _ _ (q - a.offset / 64) _ l _ _ q q below e (λ z. omega (arith, lower.word z)) (λ w h. h) lower.enters)
-          (notes_look _ _ _ _ _ k _ _ (q + 1 - a.offset / 64) _ l _ _ (q + 1) (q + 2) below e (λ z. omega (arith, upper.word z)) (λ w. ⊎_elim (λ (h : w ≡ q + 1). inr (omega arith)) (λ h. inl (omega arith))) upper.enters)); sees_2 = c.look_part.ensures.sees_2 }
+          (notes_look _ _ _ _ _ k _ _ (q + 1 - a.offset / 64) _ l _ _ (q + 1) (q + 2) below e (λ z. omega (arith, upper.word z)) (λ w. ⊎_elim (λ (h : w ≡ q + 1). inr (omega arith)) (λ h. inl (omega arith))) upper.enters));
+      sees_2 = c.look_part.ensures.sees_2;
+    }

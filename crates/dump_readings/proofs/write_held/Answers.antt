@@ -17,13 +17,12 @@ write_tick-at-requires c =
     (c.requires.0, omega (arith, c.loop-tick-test.true, c.requires.2), c.loop-tick.invariant.3)
 
 pub loop-tick-preserved : goal.loop-tick-preserved
-loop-tick-preserved c =
-    (
-      left_rest _ c.loop-tick.invariant.0 c.write_tick-at.ensures (next_tick _ _ _ _ c.loop-tick-test.true),
-      as_long c.write_tick-at.ensures ∙ c.loop-tick.invariant.1,
-      omega arith,
-      tick_end c.requires.0 (omega (arith, c.loop-tick-test.true, c.requires.2)) c.loop-tick.invariant.3 c.write_tick-at.ensures,
-    )
+loop-tick-preserved c = (
+  left_rest _ c.loop-tick.invariant.0 c.write_tick-at.ensures (next_tick _ _ _ _ c.loop-tick-test.true),
+  as_long c.write_tick-at.ensures ∙ c.loop-tick.invariant.1,
+  omega arith,
+  tick_end c.requires.0 (omega (arith, c.loop-tick-test.true, c.requires.2)) c.loop-tick.invariant.3 c.write_tick-at.ensures,
+)
 
 pub returns : goal.returns
 returns c = (left_none c.loop-tick.invariant.0 (no_tick_lem _ _ _ _ c.loop-tick-test.false), omega (arith, c.loop-tick.invariant.2, c.loop-tick.invariant.3, c.loop-tick-test.false))

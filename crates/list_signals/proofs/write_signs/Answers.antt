@@ -21,12 +21,11 @@ pub push-at-requires : goal.push-at-requires
 push-at-requires c = sign_counted (λ t. Unsettled) _ _ (omega arith) (c.loop-t.invariant.2 (λ t. Unsettled))
 
 pub loop-t-preserved : goal.loop-t-preserved
-loop-t-preserved c =
-    (
-      search rules,
-      λ f a. left_rest _ (c.loop-t.invariant.1 f a) (signed (c.sign_at-sign.ensures (f c.loop-t.t) (a c.loop-t.t (omega arith))) c.push-at.ensures) (signs_next f _ _ (omega arith)),
-      λ f. signs_counted f _ _ (omega arith) (c.loop-t.invariant.2 f) c.push-at.ensures,
-    )
+loop-t-preserved c = (
+  search rules,
+  λ f a. left_rest _ (c.loop-t.invariant.1 f a) (signed (c.sign_at-sign.ensures (f c.loop-t.t) (a c.loop-t.t (omega arith))) c.push-at.ensures) (signs_next f _ _ (omega arith)),
+  λ f. signs_counted f _ _ (omega arith) (c.loop-t.invariant.2 f) c.push-at.ensures,
+)
 
 pub returns : goal.returns
 returns c = λ f a. left_none (c.loop-t.invariant.1 f a) (signs_end f _ _ (omega arith))

@@ -1,7 +1,6 @@
 -- `find` meets its contract. The invariant: the names from some number on are searched, and `link` leads to the last of the others in the slot.
 -- Assumes nothing.
 use native.Mathlib.Omega.{arith}
-use mathlib.Core.Logic.{⊎_elim}
 use mir.Facts.{Fits-widen}
 use Rattle.read_bytes.specs.Bytes.{name_byte}
 use Rattle.read_names.specs.Spellings.{spelling_at}
@@ -80,7 +79,7 @@ pub loop-link-preserved : goal.loop-link-preserved
 loop-link-preserved c =
     let cut = run_slice name_byte c.args.r.now c.args.at c.slot_at-k.result.end c.slot_at-k.ensures.ends in
     elim c.if-is_name.branch [
-      then-is_name w ↦ turn_here _ _ c.requires.0 c.loop-link.invariant (omega arith) _ (omega arith) cut c.is_name.ensures w.if-is_name.true (omega arith)
+      | then-is_name w ↦ turn_here _ _ c.requires.0 c.loop-link.invariant (omega arith) _ (omega arith) cut c.is_name.ensures w.if-is_name.true (omega arith)
       | else-is_name w ↦ turn_on _ _ c.requires.0 c.loop-link.invariant (omega arith) _ (omega arith) cut c.is_name.ensures w.if-is_name.false (omega arith)
     ]
 

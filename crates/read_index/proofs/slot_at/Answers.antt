@@ -2,7 +2,6 @@
 use native.Mathlib.Omega.{arith}
 use mathlib.Core.Path.{refl}
 use mathlib.Core.Logic.{⊎_elim}
-use Prim.Native.Nat.{◌-◌}
 use lib.ListN.{get_or}
 use Rattle.read_bytes.specs.Bytes.{byte, name_byte}
 use Rattle.read_bytes.proofs.Tests.{between_in, between_low, between_high}

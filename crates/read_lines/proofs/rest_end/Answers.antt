@@ -1,7 +1,6 @@
 -- `rest_end` meets its contract. The invariant: the line at `at` ends where that at `i` does. Assumes nothing.
 use native.Mathlib.Omega.{arith}
 use mathlib.Core.Path.{refl, sym, ◌∙◌}
-use Prim.Native.Nat.{◌-◌}
 use Rattle.read_bytes.proofs.Runs.{end_more, end_here, end_past}
 use Rattle.read_lines.proofs.KeyedLines.{lf_ends, lf_not}
 use Rattle.read_lines.proofs.rest_end.Goals as goal

@@ -1,6 +1,5 @@
 -- `push` meets its contract. Assumes nothing.
 use native.Mathlib.Omega.{arith}
-use mathlib.Core.Logic.{⊎_elim}
 use Rattle.write_bytes.proofs.Writing.{stored, no_room, as_long}
 use Rattle.write_bytes.proofs.push.Goals as goal
 use Rattle.write_bytes.proofs.push.Goals.{then-used-out, else-used-out}

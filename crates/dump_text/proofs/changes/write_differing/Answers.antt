@@ -32,7 +32,7 @@ pub loop-x-preserved : goal.loop-x-preserved
 loop-x-preserved c =
     let f = row_sign c.args.n c.args.table.now in
     elim c.if-sign-old.branch [
-      then-sign-old w ↦
+      | then-sign-old w ↦
           (omega (arith, ap length w.out-is, as_long w.write_sign-at.ensures), omega arith, c.loop-x.invariant.2, rw (w.out-is, w.at-is) (left_rest _ c.loop-x.invariant.3 w.write_sign-at.ensures (changed_next f c.args.tick c.args.k c.loop-x.x (omega arith) c.row_sign-sign.ensures c.row_sign-old.ensures c.loop-x.invariant.2 w.if-sign-old.true)))
       | else-sign-old w ↦
           (omega (arith, ap length w.out-is), omega arith, c.loop-x.invariant.2, rw (w.out-is, w.at-is) (left_rest _ c.loop-x.invariant.3 nothing (same_next f c.args.tick c.args.k c.loop-x.x (omega arith) c.row_sign-sign.ensures c.row_sign-old.ensures c.loop-x.invariant.2 w.if-sign-old.false)))

@@ -2,7 +2,6 @@
 -- parents. Assumes nothing.
 use Prim.Native.Nat.{◌+◌, ◌*◌, ◌≤◌, max}
 use Rattle.read_arena.specs.NodeRules.{definings_at, NodeIn}
-use borrow.Author.Rules.{rules}
 use mathlib.Core.Path.{◌≡◌}
 use Rattle.lower_rule.proofs.rules.+both_definings_lower_definings.Given as goal
 

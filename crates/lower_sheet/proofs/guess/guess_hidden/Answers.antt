@@ -1,6 +1,5 @@
 -- `guess_hidden` meets its contract. Assumes nothing.
 use native.Mathlib.Omega.{arith}
-use mathlib.Core.Logic.{⊎_elim}
 use Prim.Native.Nat.{◌-◌}
 use Rattle.lower_sheet.proofs.guess.guess_hidden.Goals as goal
 

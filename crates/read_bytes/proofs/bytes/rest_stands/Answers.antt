@@ -2,7 +2,6 @@
 -- Assumes nothing.
 use native.Mathlib.Omega.{arith}
 use mathlib.Core.Path.{refl, sym, ◌∙◌}
-use Prim.Native.Nat.{◌-◌}
 use Rattle.read_bytes.proofs.Places.{peek_in, starts_done, starts_off, starts_on}
 use Rattle.read_bytes.proofs.bytes.rest_stands.Goals as goal
 

@@ -2,7 +2,6 @@
 -- Assumes nothing.
 use native.Mathlib.Omega.{arith}
 use mathlib.Core.Path.{sym, ◌∙◌}
-use Prim.Native.Nat.{◌-◌}
 use Rattle.read_bytes.proofs.Places.{starts_first}
 use Rattle.read_bytes.proofs.Fours.{fours_off, fours_on}
 use Rattle.read_bytes.proofs.bytes.stands_at.Goals as goal
@@ -18,13 +17,12 @@ returns-then-b-x c =
     (λ e. c.if-b-x.true (c.four_at-b.ensures ∙ e ∙ sym c.four_at-x.ensures)))
 
 pub loop-i-preserved : goal.loop-i-preserved
-loop-i-preserved c =
-    (
-      c.loop-i.invariant.0
-          ∙ fours_on _ _ (λ k. (c.shared_slice_known-1.given k).fits) (λ k. (c.shared_slice_known-2-1.given k).fits) _ c.requires _ (omega arith)
-          (sym c.four_at-b.ensures ∙ c.if-b-x.false ∙ c.four_at-x.ensures),
-      omega arith,
-    )
+loop-i-preserved c = (
+  c.loop-i.invariant.0
+      ∙ fours_on _ _ (λ k. (c.shared_slice_known-1.given k).fits) (λ k. (c.shared_slice_known-2-1.given k).fits) _ c.requires _ (omega arith)
+      (sym c.four_at-b.ensures ∙ c.if-b-x.false ∙ c.four_at-x.ensures),
+  omega arith,
+)
 
 pub returns : goal.returns
 returns c = c.rest_stands.ensures ∙ sym c.loop-i.invariant.0

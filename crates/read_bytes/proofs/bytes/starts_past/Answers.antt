@@ -2,7 +2,6 @@
 -- Assumes nothing.
 use native.Mathlib.Omega.{arith}
 use mathlib.Core.Path.{sym, ◌∙◌}
-use Prim.Native.Nat.{◌-◌}
 use Rattle.read_bytes.proofs.Places.{starts_done, starts_off, starts_on, starts_first}
 use Rattle.read_bytes.proofs.bytes.starts_past.Goals as goal
 
