@@ -22,12 +22,15 @@ use reading::read_sheet;
 use run_cases::print_number;
 use run_parts::{TEXT, clear, is_asked, read_text, times_asked};
 use spec_limits::{BYTES, ROWS, TOPS};
+use std::io;
+use std::io::Write;
+use std::rt::Env;
 use table_facts::count_facts;
 use table_marks::{TABLE_WORDS, words_of};
 use taking::take;
 
 // What a run does.
-#[derive(Drop)]
+#[derive(Clone, Copy)]
 enum Run {
     Read,
     Check,
@@ -112,57 +115,73 @@ fn words_for(s: &[u8]) -> usize
 }
 
 // Prints how many marks stand in a table: the ones in its words.
-fn print_marks(table: &[u64])
+fn print_marks<W: Write>(output: &mut W, table: &[u64]) -> io::Result<()>
     requires { length table.now ≤ most_table_words }
 {
     let marks = count_facts(table, 1, table.len() / 2);
-    print_number(b"marks=", marks as u64, b"\n");
+    print_number(output, b"marks=", marks as u64, b"\n")
 }
 
 // The run that is asked for; an add if none is.
-fn run_asked() -> Run {
-    if is_asked(b"read") {
+fn run_asked(rt: &impl Env) -> Run {
+    if is_asked(rt, b"read") {
         return Run::Read;
     }
-    if is_asked(b"check") {
+    if is_asked(rt, b"check") {
         return Run::Check;
     }
-    if is_asked(b"take") {
+    if is_asked(rt, b"take") {
         return Run::Take;
     }
-    if is_asked(b"spans") {
+    if is_asked(rt, b"spans") {
         return Run::Spans;
     }
-    if is_asked(b"singles") {
+    if is_asked(rt, b"singles") {
         return Run::Singles;
     }
     Run::Add
 }
 
 // Does what is asked for with a table and a buffer for a text, and prints it.
-fn run_table(run: Run, s: &[u8], readings: &[u8], table: &mut [u64], out: &mut [u8], times: usize)
+fn run_table<W: Write>(
+    output: &mut W,
+    run: Run,
+    s: &[u8],
+    readings: &[u8],
+    table: &mut [u64],
+    out: &mut [u8],
+    times: usize,
+) -> io::Result<()>
     requires { length table.old ≤ most_table_words }
 {
     let answer = run_times(run, s, readings, table, out, times);
-    print_answer(answer);
-    print_marks(table);
-    print_written(answer, out);
+    print_answer(output, answer)?;
+    print_marks(output, table)?;
+    print_written(output, answer, out)
 }
 
 // Does what is asked for with the two texts.
-fn run_texts(s: &[u8], readings: &[u8]) {
-    let times = times_asked();
-    let run = run_asked();
+fn run_texts<W: Write>(output: &mut W, rt: &impl Env, s: &[u8], readings: &[u8]) -> io::Result<()> {
+    let times = times_asked(rt);
+    let run = run_asked(rt);
     let words = words_for(s);
     let mut table = [0u64; TABLE_WORDS];
     let mut out = [0u8; BYTES];
-    run_table(run, s, readings, &mut table[..words], &mut out, times);
+    run_table(
+        output,
+        run,
+        s,
+        readings,
+        &mut table[..words],
+        &mut out,
+        times,
+    )
 }
 
-fn main() {
+fn main(rt: HostRuntime) -> io::Result<()> {
     let mut sheet = [0u8; TEXT];
     let mut readings = [0u8; TEXT];
-    let a = read_text(b"sheet.txt", &mut sheet);
-    let b = read_text(b"readings.txt", &mut readings);
-    run_texts(&sheet[..a], &readings[..b]);
+    let a = read_text(&rt, "sheet.txt", &mut sheet);
+    let b = read_text(&rt, "readings.txt", &mut readings);
+    run_texts(&mut rt.stdout(), &rt, &sheet[..a], &readings[..b])
 }

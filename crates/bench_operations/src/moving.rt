@@ -3,6 +3,8 @@ use crate::answers::Answer;
 use op_moves::moves::{to_readings, to_spans};
 use run_cases::print;
 use spec_operations::Writing;
+use std::io;
+use std::io::Write;
 
 // A move's answer as a run's.
 fn moved(m: Writing) -> Answer {
@@ -37,9 +39,10 @@ fn written(answer: Answer) -> usize {
 }
 
 // Prints the text that a run has written.
-pub fn print_written(answer: Answer, out: &[u8]) {
+pub fn print_written<W: Write>(output: &mut W, answer: Answer, out: &[u8]) -> io::Result<()> {
     let n = written(answer);
     if n <= out.len() {
-        print(&out[..n]);
+        print(output, &out[..n])?;
     }
+    Ok(())
 }

@@ -6,7 +6,7 @@ use Prim.Native.Nat.{ℕ, ◌<◌, ◌≤◌}
 use native.Mathlib.Omega.{arith}
 use lib.ListN.{length}
 use lib.Seq.{length-take-le}
-use Rattle.io.specs.Counts.{IsPrefixLen}
+use Rattle.run_parts.specs.Prefixes.{IsPrefixLen}
 use Rattle.read_lines.specs.Lines.{in_line, line_end}
 use Rattle.read_bytes.proofs.Places.{Reach}
 use Rattle.read_bytes.proofs.Runs.{end_reach}

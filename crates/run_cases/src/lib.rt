@@ -2,14 +2,19 @@
 // `-` after the word leaves out the text's last LF, and `*` with a number repeats the text so often.
 #![tactic(auto)]
 
-ghost use Rattle.std.specs.Prelude.{◌<◌, ◌≤◌, length};
-ghost use Rattle.io.specs.Counts.{IsPrefixLen};
+ghost use Rattle.std.specs.Prelude.{◌<◌, ◌≤◌, ◌++◌, length, OnOk, codes, decimal};
+ghost use Rattle.std.specs.Io.KnownBytes.{Appends};
+ghost use Rattle.run_parts.specs.Prefixes.{IsPrefixLen};
 
-use libc::STDOUT_FILENO;
 use read_bytes::bytes::{byte_at, starts_at};
 use read_bytes::numbers::{Number, number_at};
 use read_lines::line_end;
 use read_names::spelling_end;
+use std::io;
+use std::io::Write;
+
+// The most bytes of a text of the cases.
+pub const TEXT_ROOM: usize = 65536;
 
 // The place of the line after the one at `at`.
 pub fn next_line(cases: &[u8], at: usize) -> usize
@@ -97,19 +102,30 @@ pub fn text_under(cases: &[u8], at: usize, out: &mut [u8]) -> usize
 }
 
 // Prints a text.
-pub fn print(text: &[u8]) {
-    io::write_all(STDOUT_FILENO, text);
+pub fn print<W: Write>(output: &mut W, text: &[u8]) -> io::Result<()>
+    ensures { OnOk result (Appends (W.contents output.old) (W.contents output.new) text.now) }
+{
+    output.write_all(text)
 }
 
 // Prints a number between two texts.
-pub fn print_number(before: &[u8], number: u64, after: &[u8]) {
-    print(before);
-    io::print_decimal(STDOUT_FILENO, number);
-    print(after);
+pub fn print_number<W: Write>(
+    output: &mut W,
+    before: &[u8],
+    number: u64,
+    after: &[u8],
+) -> io::Result<()>
+    ensures { OnOk result (Appends (W.contents output.old) (W.contents output.new) (before.now ++ (decimal number ++ after.now))) }
+{
+    print(output, before)?;
+    write!(output, "{number}")?;
+    print(output, after)
 }
 
 // Prints a refusal's number and place.
-pub fn print_refusal(number: usize, place: usize) {
-    print_number(b"--- refused ", number as u64, b" at ");
-    print_number(b"", place as u64, b"\n");
+pub fn print_refusal<W: Write>(output: &mut W, number: usize, place: usize) -> io::Result<()>
+    ensures { OnOk result (Appends (W.contents output.old) (W.contents output.new)
+        (codes "--- refused " ++ (decimal number ++ (codes " at " ++ (decimal place ++ codes "\n"))))) }
+{
+    writeln!(output, "--- refused {number} at {place}")
 }

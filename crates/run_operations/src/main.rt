@@ -14,19 +14,21 @@ mod texts;
 mod words;
 
 ghost use Rattle.std.specs.Prelude.{◌≡◌, ◌<◌, ◌≤◌, length};
-ghost use Rattle.io.specs.Counts.{IsPrefixLen};
+ghost use Rattle.run_parts.specs.Prefixes.{IsPrefixLen};
 ghost use Rattle.spec_limits.specs.Limits.{most_listed_words};
 
 use captions::run_caption;
 use figures::run_figures;
-use libc::STDIN_FILENO;
 use numbers::{decimal_at, next_word};
 use op_add::{Adding, add};
 use op_ask::{Asking, ask};
 use op_check::{Checking, check};
 use read_bytes::bytes::starts_at;
-use run_cases::{heading, next_line, print, print_number, print_refusal, text_under};
+use run_cases::{TEXT_ROOM, heading, next_line, print, print_number, print_refusal, text_under};
+use run_parts::read_full;
 use spec_limits::LISTED_WORDS;
+use std::io;
+use std::io::Write;
 use table_marks::Value;
 use texts::{run_dump, run_text};
 use words::print_words;
@@ -68,79 +70,98 @@ fn length_at(cases: &[u8], at: usize) -> usize
 }
 
 // Checks the sheet.
-fn run_check(s: &[u8]) {
+fn run_check<W: Write>(output: &mut W, s: &[u8]) -> io::Result<()> {
     let answer = check(s);
     match answer {
-        Checking::Rows(n) => print_number(b"--- rows ", n as u64, b"\n"),
-        Checking::Refused(number, place) => print_refusal(number, place),
+        Checking::Rows(n) => print_number(output, b"--- rows ", n as u64, b"\n"),
+        Checking::Refused(number, place) => print_refusal(output, number, place),
     }
 }
 
 // Adds the readings under the heading at `at`, and prints the table after it.
-fn run_add(s: &[u8], cases: &[u8], at: usize, words: &mut [u64])
+fn run_add<W: Write>(
+    output: &mut W,
+    s: &[u8],
+    cases: &[u8],
+    at: usize,
+    words: &mut [u64],
+) -> io::Result<()>
     requires { at < length cases.now }
 {
-    let mut buffer = io::large_buffer();
+    let mut buffer = [0u8; TEXT_ROOM];
     let n = text_under(cases, at, &mut buffer);
     let answer = add(s, &buffer[..n], words);
     match answer {
         Adding::Added { new, clash } => {
-            print_number(b"--- new facts ", new as u64, b", clash ");
-            print_number(b"", clash as u64, b"\n");
+            print_number(output, b"--- new facts ", new as u64, b", clash ")?;
+            print_number(output, b"", clash as u64, b"\n")?;
         }
-        Adding::Refused(number, place) => print_refusal(number, place),
+        Adding::Refused(number, place) => print_refusal(output, number, place)?,
     }
-    print_words(words);
+    print_words(output, words)
 }
 
 // Prints what a cell says.
-fn print_value(v: Value) {
+fn print_value<W: Write>(output: &mut W, v: Value) -> io::Result<()> {
     match v {
-        Value::Unsettled => print(b"--- unsettled\n"),
-        Value::True => print(b"--- true\n"),
-        Value::False => print(b"--- false\n"),
-        Value::Contradiction => print(b"--- contradiction\n"),
+        Value::Unsettled => print(output, b"--- unsettled\n"),
+        Value::True => print(output, b"--- true\n"),
+        Value::False => print(output, b"--- false\n"),
+        Value::Contradiction => print(output, b"--- contradiction\n"),
     }
 }
 
 // Asks for the cell that the heading names, whose numbers start at `at`.
-fn run_ask(s: &[u8], cases: &[u8], at: usize, words: &[u64]) {
+fn run_ask<W: Write>(
+    output: &mut W,
+    s: &[u8],
+    cases: &[u8],
+    at: usize,
+    words: &[u64],
+) -> io::Result<()> {
     let signal = decimal_at(cases, at) as usize;
     let second = next_word(cases, at);
     let tick = decimal_at(cases, second) as usize;
     let answer = ask(s, words, signal, tick);
     match answer {
-        Asking::Given(v) => print_value(v),
-        Asking::Refused(number, place) => print_refusal(number, place),
+        Asking::Given(v) => print_value(output, v),
+        Asking::Refused(number, place) => print_refusal(output, number, place),
     }
 }
 
 // Runs the operation of the heading at `at`, if it names one, on the sheet under the heading at `above` and the first `used` words.
-fn run_operation(cases: &[u8], above: usize, at: usize, words: &mut [u64], used: usize)
+fn run_operation<W: Write>(
+    output: &mut W,
+    cases: &[u8],
+    above: usize,
+    at: usize,
+    words: &mut [u64],
+    used: usize,
+) -> io::Result<()>
     requires { (above < length cases.now) × (at < length cases.now) × IsPrefixLen used words.old }
 {
-    let mut lines = io::large_buffer();
+    let mut lines = [0u8; TEXT_ROOM];
     let n = text_under(cases, above, &mut lines);
     let s = &lines[..n];
     if starts_at(cases, at, b"=== check") {
-        run_check(s);
+        run_check(output, s)
     } else if starts_at(cases, at, b"=== add") {
-        run_add(s, cases, at, &mut words[..used]);
+        run_add(output, s, cases, at, &mut words[..used])
     } else if starts_at(cases, at, b"=== ask") {
-        run_ask(s, cases, at + 8, &words[..used]);
+        run_ask(output, s, cases, at + 8, &words[..used])
     } else if starts_at(cases, at, b"=== figures") {
-        run_figures(s, cases, at, &mut words[..used]);
+        run_figures(output, s, cases, at, &mut words[..used])
     } else if starts_at(cases, at, b"=== dump") {
-        run_dump(s, cases, at, &words[..used]);
+        run_dump(output, s, cases, at, &words[..used])
     } else if starts_at(cases, at, b"=== caption") {
-        run_caption(s, cases, at);
+        run_caption(output, s, cases, at)
     } else {
-        run_text(s, cases, at);
+        run_text(output, s, cases, at)
     }
 }
 
 // Runs each case.
-fn run_all(cases: &[u8]) {
+fn run_all<W: Write>(output: &mut W, cases: &[u8]) -> io::Result<()> {
     let mut words = [0u64; LISTED_WORDS];
     let mut used = 0;
     let mut above = 0;
@@ -148,21 +169,22 @@ fn run_all(cases: &[u8]) {
     while at < cases.len() {
         let line = next_line(cases, at);
         let end = heading(cases, line);
-        print(&cases[at..end]);
+        print(output, &cases[at..end])?;
         if starts_at(cases, at, b"=== sheet") {
             above = at;
         } else if starts_at(cases, at, b"=== table") {
             words = words_from(cases, line, end);
             used = length_at(cases, at + 4);
         } else {
-            run_operation(cases, above, at, &mut words, used);
+            run_operation(output, cases, above, at, &mut words, used)?;
         }
         at = end;
     }
+    Ok(())
 }
 
-fn main() {
+fn main(rt: HostRuntime) -> io::Result<()> {
     let mut cases = [0u8; CASES];
-    let n = io::read_full(STDIN_FILENO, &mut cases);
-    run_all(&cases[..n]);
+    let n = read_full(&mut rt.stdin(), &mut cases)?;
+    run_all(&mut rt.stdout(), &cases[..n])
 }

@@ -7,8 +7,10 @@ use op_dump::writing::write_dump;
 use op_moves::moves::{to_readings, to_spans};
 use op_print::print_rule;
 use read_bytes::bytes::starts_at;
-use run_cases::{print, print_number, print_refusal, text_under};
+use run_cases::{TEXT_ROOM, print, print_number, print_refusal, text_under};
 use spec_operations::Writing;
+use std::io;
+use std::io::Write;
 
 // The largest buffer that is lent.
 const ROOM: usize = 65536;
@@ -36,124 +38,151 @@ fn room_at(cases: &[u8], at: usize) -> usize
 }
 
 // Prints the text in the first n bytes of the buffer, and what is to follow it.
-fn print_text(out: &[u8], n: usize, after: &[u8]) {
+fn print_text<W: Write>(output: &mut W, out: &[u8], n: usize, after: &[u8]) -> io::Result<()> {
     if n <= out.len() {
         if n <= WHOLE {
-            print(&out[0..n]);
+            print(output, &out[0..n])?;
         } else {
-            print(b"--- its end\n");
-            print(&out[n - END..n]);
+            print(output, b"--- its end\n")?;
+            print(output, &out[n - END..n])?;
         }
-        print(after);
+        print(output, after)?;
     }
+    Ok(())
 }
 
 // Prints the byte at n, if the buffer has one.
-fn print_then(out: &[u8], n: usize) {
+fn print_then<W: Write>(output: &mut W, out: &[u8], n: usize) -> io::Result<()> {
     if n < out.len() {
-        print(b"--- then ");
-        print(&out[n..n + 1]);
-        print(b"\n");
+        print(output, b"--- then ")?;
+        print(output, &out[n..n + 1])?;
+        print(output, b"\n")?;
     }
+    Ok(())
 }
 
 // Prints what an operation that writes a text answers, and what is in the buffer after it. `after` ends the text's last line, if the text does not.
-fn print_written(answer: Writing, out: &[u8], after: &[u8]) {
+fn print_written<W: Write>(
+    output: &mut W,
+    answer: Writing,
+    out: &[u8],
+    after: &[u8],
+) -> io::Result<()> {
     match answer {
         Writing::Written(n) => {
-            print_number(b"--- length ", n as u64, b"\n");
-            print_text(out, n, after);
-            print_then(out, n);
+            print_number(output, b"--- length ", n as u64, b"\n")?;
+            print_text(output, out, n, after)?;
+            print_then(output, out, n)
         }
         Writing::Refused(number, place) => {
-            print_refusal(number, place);
-            print_then(out, 0);
+            print_refusal(output, number, place)?;
+            print_then(output, out, 0)
         }
     }
 }
 
 // Writes the readings as spans, or one by one.
-fn run_move(spans: bool, s: &[u8], readings: &[u8], out: &mut [u8]) {
+fn run_move<W: Write>(
+    output: &mut W,
+    spans: bool,
+    s: &[u8],
+    readings: &[u8],
+    out: &mut [u8],
+) -> io::Result<()> {
     if spans {
         let answer = to_spans(s, readings, out);
-        print_written(answer, out, b"");
+        print_written(output, answer, out, b"")
     } else {
         let answer = to_readings(s, readings, out);
-        print_written(answer, out, b"");
+        print_written(output, answer, out, b"")
     }
 }
 
 // Moves the readings under the heading at `at`.
-fn run_moves(spans: bool, s: &[u8], cases: &[u8], at: usize)
+fn run_moves<W: Write>(
+    output: &mut W,
+    spans: bool,
+    s: &[u8],
+    cases: &[u8],
+    at: usize,
+) -> io::Result<()>
     requires { at < length cases.now }
 {
-    let mut buffer = io::large_buffer();
+    let mut buffer = [0u8; TEXT_ROOM];
     let n = text_under(cases, at, &mut buffer);
     let room = room_at(cases, at + 4);
     let mut space = dots();
-    run_move(spans, s, &buffer[..n], &mut space[0..room]);
+    run_move(output, spans, s, &buffer[..n], &mut space[0..room])
 }
 
 // Prints a rule back, and then what was written.
-fn print_back(s: &[u8], rule: usize, out: &mut [u8]) {
+fn print_back<W: Write>(output: &mut W, s: &[u8], rule: usize, out: &mut [u8]) -> io::Result<()> {
     let answer = print_rule(s, rule, out);
-    print_written(answer, out, b"\n");
+    print_written(output, answer, out, b"\n")
 }
 
 // Prints back the rule that the heading at `at` names, into a buffer with the room that it names after it.
-fn run_print(s: &[u8], cases: &[u8], at: usize)
+fn run_print<W: Write>(output: &mut W, s: &[u8], cases: &[u8], at: usize) -> io::Result<()>
     requires { at < length cases.now }
 {
     let number = word_after(cases, at + 4);
     let rule = decimal_at(cases, number) as usize;
     let room = room_at(cases, number);
     let mut space = dots();
-    print_back(s, rule, &mut space[0..room]);
+    print_back(output, s, rule, &mut space[0..room])
 }
 
 // Writes the dump of the table, and prints it.
-fn print_dump(s: &[u8], table: &[u64], out: &mut [u8]) {
+fn print_dump<W: Write>(output: &mut W, s: &[u8], table: &[u64], out: &mut [u8]) -> io::Result<()> {
     let answer = write_dump(s, table, out);
-    print_written(answer, out, b"");
+    print_written(output, answer, out, b"")
 }
 
 // Writes the table as a dump, into a buffer with the room that the heading at `at` names.
-pub fn run_dump(s: &[u8], cases: &[u8], at: usize, table: &[u64])
+pub fn run_dump<W: Write>(
+    output: &mut W,
+    s: &[u8],
+    cases: &[u8],
+    at: usize,
+    table: &[u64],
+) -> io::Result<()>
     requires { at < length cases.now }
 {
     let room = room_at(cases, at + 4);
     let mut space = dots();
-    print_dump(s, table, &mut space[0..room]);
+    print_dump(output, s, table, &mut space[0..room])
 }
 
 // Reads a dump, and prints its readings.
-fn print_undump(s: &[u8], dump: &[u8], out: &mut [u8]) {
+fn print_undump<W: Write>(output: &mut W, s: &[u8], dump: &[u8], out: &mut [u8]) -> io::Result<()> {
     let answer = read_dump(s, dump, out);
-    print_written(answer, out, b"");
+    print_written(output, answer, out, b"")
 }
 
 // Reads the dump under the heading at `at`, into a buffer with the room that the heading names.
-fn run_undump(s: &[u8], cases: &[u8], at: usize)
+fn run_undump<W: Write>(output: &mut W, s: &[u8], cases: &[u8], at: usize) -> io::Result<()>
     requires { at < length cases.now }
 {
-    let mut buffer = io::large_buffer();
+    let mut buffer = [0u8; TEXT_ROOM];
     let n = text_under(cases, at, &mut buffer);
     let room = room_at(cases, at + 4);
     let mut space = dots();
-    print_undump(s, &buffer[..n], &mut space[0..room]);
+    print_undump(output, s, &buffer[..n], &mut space[0..room])
 }
 
 // Runs the operation of the heading at `at`, if it names one that is lent no table.
-pub fn run_text(s: &[u8], cases: &[u8], at: usize)
+pub fn run_text<W: Write>(output: &mut W, s: &[u8], cases: &[u8], at: usize) -> io::Result<()>
     requires { at < length cases.now }
 {
     if starts_at(cases, at, b"=== spans") {
-        run_moves(true, s, cases, at);
+        run_moves(output, true, s, cases, at)
     } else if starts_at(cases, at, b"=== singles") {
-        run_moves(false, s, cases, at);
+        run_moves(output, false, s, cases, at)
     } else if starts_at(cases, at, b"=== print") {
-        run_print(s, cases, at);
+        run_print(output, s, cases, at)
     } else if starts_at(cases, at, b"=== undump") {
-        run_undump(s, cases, at);
+        run_undump(output, s, cases, at)
+    } else {
+        Ok(())
     }
 }

@@ -1,26 +1,42 @@
-// What programs share that read their texts from files: a file's bytes, what the arguments ask for, and a table emptied. Assumes nothing.
+// What programs share that read their texts from files or from standard input: the bytes, what the arguments ask for, and a table emptied. Assumes nothing.
 #![tactic(auto)]
 
-ghost use Rattle.io.specs.Counts.{IsPrefixLen};
+ghost use Rattle.std.specs.Prelude.{IfOk};
+ghost use Rattle.run_parts.specs.Prefixes.{IsPrefixLen};
 
 use read_bytes::numbers::{Number, number_at};
 use read_names::is_spelled;
 use spec_limits::BYTES;
+use std::io::Read;
+use std::rt::{Env, Files};
+use std::{fs, io};
 
 // Of a file over a text's length, enough is read to see that it is.
 pub const TEXT: usize = BYTES + 1;
 
-// The file's bytes at the start of the buffer, as far as they fit: how many.
-pub fn read_text(path: &[u8], buffer: &mut [u8]) -> usize
+// Reads until the buffer is full or the input ends: how many bytes stand at the buffer's start.
+pub fn read_full<R: Read>(input: &mut R, buffer: &mut [u8]) -> io::Result<usize>
+    ensures { IfOk result (λ n. IsPrefixLen n buffer.new) }
+{
+    let mut done = 0;
+    while done < buffer.len() {
+        let n = input.read(&mut buffer[done..])?;
+        if n == 0 {
+            break;
+        }
+        done += n;
+    }
+    Ok(done)
+}
+
+// The file's bytes at the start of the buffer, as far as they fit: how many. A file that can't be read counts as empty.
+pub fn read_text<R: Files>(rt: &R, path: &str, buffer: &mut [u8]) -> usize
     ensures { IsPrefixLen result buffer.new }
 {
-    let file = os::open_read(path);
-    if file < 0 {
-        return 0;
+    match fs::open(rt, path) {
+        Ok(mut file) => read_full(&mut file, buffer).unwrap_or(0),
+        Err(_) => 0,
     }
-    let n = io::read_full(file, buffer);
-    libc::close(file);
-    n
 }
 
 // The number that a text starts with, or 0.
@@ -33,16 +49,16 @@ fn number_of(text: &[u8]) -> usize {
 }
 
 // How often the first argument asks for a run.
-pub fn times_asked() -> usize {
+pub fn times_asked(rt: &impl Env) -> usize {
     let mut word = [0u8; 8];
-    let n = os::arg(1, &mut word);
+    let n = rt.arg(1, &mut word).unwrap_or(0);
     number_of(&word[..n])
 }
 
 // Does the second argument ask for this?
-pub fn is_asked(name: &[u8]) -> bool {
+pub fn is_asked(rt: &impl Env, name: &[u8]) -> bool {
     let mut word = [0u8; 8];
-    let n = os::arg(2, &mut word);
+    let n = rt.arg(2, &mut word).unwrap_or(0);
     is_spelled(&word[..n], 0, name)
 }
 

@@ -2,20 +2,21 @@
 // read counts as empty.
 #![tactic(auto)]
 
-use libc::STDOUT_FILENO;
 use list_captioned::settle_captioned;
 use run_parts::{TEXT, read_text};
 use spec_limits::{CAPTIONED, LISTED_WORDS};
+use std::io;
+use std::io::Write;
 
-fn main() {
+fn main(rt: HostRuntime) -> io::Result<()> {
     let mut sheet = [0u8; TEXT];
     let mut readings = [0u8; TEXT];
     let mut captions = [0u8; TEXT];
     let mut table = [0u64; LISTED_WORDS];
     let mut out = [0u8; CAPTIONED];
-    let a = read_text(b"sheet.txt", &mut sheet);
-    let b = read_text(b"readings.txt", &mut readings);
-    let c = read_text(b"captions.txt", &mut captions);
+    let a = read_text(&rt, "sheet.txt", &mut sheet);
+    let b = read_text(&rt, "readings.txt", &mut readings);
+    let c = read_text(&rt, "captions.txt", &mut captions);
     let n = settle_captioned(
         &sheet[..a],
         &readings[..b],
@@ -23,5 +24,5 @@ fn main() {
         &mut table,
         &mut out,
     );
-    io::write_all(STDOUT_FILENO, &out[..n]);
+    rt.stdout().write_all(&out[..n])
 }

@@ -1,6 +1,5 @@
 -- `append` meets its contract. The invariant: the bytes in use lie in the buffer. Assumes nothing.
 use native.Mathlib.Omega.{arith}
-use Prim.Native.Nat.{◌-◌}
 use lib.ListN.{length-set}
 use Rattle.run_cases.proofs.Places.{counted}
 use Rattle.run_cases.proofs.append.Goals as goal

@@ -1,5 +1,4 @@
 -- `repeat` meets its contract. The invariant: the bytes in use lie in the buffer. Assumes nothing.
-use Prim.Native.Nat.{◌-◌}
 use Rattle.run_cases.proofs.Places.{counted}
 use Rattle.run_cases.proofs.repeat.Goals as goal
 

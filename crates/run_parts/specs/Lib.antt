@@ -1,0 +1,2 @@
+-- The definitions that the contracts cite, one idea a file.
+pub mod Prefixes
