@@ -1,16 +1,16 @@
 # For the scripts that count instructions, sourced by them from the repository's folder: brings our program and the baseline up to date, and says how
 # they are run and counted. Sets `home` (that folder), `links` (a folder that is removed at the end), `ours` and `baseline` (the programs).
 home=$PWD
-rt check bench_operations >/dev/null
 . tests/x86_64.sh
+program_for_x86_64 bench_operations "program whose instructions are counted"
 rust_for_x86_64
 "$cargo" build --quiet --release --target "$target" --manifest-path bench/baseline/Cargo.toml
 
 # A program's path stands on its stack, and moves the arrays there by as much: paths of one length everywhere.
 links=$(mktemp -d /tmp/bench.XXXXXX)
 trap 'rm -rf "$links"' EXIT
-ln -s "$home/target/bin/bench_operations" "$home/bench/baseline/target/$target/release/baseline" "$links"
-ln -s "$(dirname "$(dirname "$(rt doc)")")/on/$(uname -m)/toolchain/lib" "$links"
+ln -s "$home/$program" "$home/bench/baseline/target/$target/release/baseline" "$links"
+ln -s "$(dirname "$(rt doc)")/toolchain/lib" "$links"
 ours=$links/bench_operations
 baseline=$links/baseline
 export BENCH_LIB=$links/lib

@@ -1,6 +1,6 @@
 /* Mikhakun for C: check, add, ask, the moves between readings and spans, the figures of several readings texts, a rule printed back, value change dumps and
  * captions.
- * Link target/staticlib/libc_api.a, which `rt staticlib c_api` proves and builds (x86-64 Linux).
+ * Link crates/c_api/out/libc_api.a, which `rt lib` in crates/c_api proves and builds (x86-64 Linux).
  *
  * Each call answers 0, or the number of a refusal. `place` is written at a refusal only, the other results at acceptance only.
  * A refusal changes no word of a table, no byte of a buffer and no record. Nothing is kept between calls but the table that you lend.

@@ -1,4 +1,4 @@
-//! Finds the static library of the proved reader: at MIKHAKUN_LIB, else where `rt staticlib c_api` puts it in the repository.
+//! Finds the static library of the proved reader: at MIKHAKUN_LIB, else where `rt lib` in crates/c_api puts it.
 
 use std::path::{Path, PathBuf};
 use std::{env, process};
@@ -12,7 +12,7 @@ fn main() {
     }
     if !archive.is_file() {
         stop(&format!(
-            "there is no static library {}.\nBuild it with `rt staticlib c_api` in the repository, or set MIKHAKUN_LIB to a copy of libc_api.a",
+            "there is no static library {}.\nBuild it with `rt lib` in the folder crates/c_api of the repository, or set MIKHAKUN_LIB to a copy of libc_api.a",
             archive.display()
         ));
     }
@@ -25,7 +25,7 @@ fn main() {
 fn archive() -> PathBuf {
     match env::var_os("MIKHAKUN_LIB") {
         Some(path) => PathBuf::from(path),
-        None => Path::new(&env::var_os("CARGO_MANIFEST_DIR").expect("cargo sets it")).join("../target/staticlib/libc_api.a"),
+        None => Path::new(&env::var_os("CARGO_MANIFEST_DIR").expect("cargo sets it")).join("../crates/c_api/out/libc_api.a"),
     }
 }
 

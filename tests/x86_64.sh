@@ -23,26 +23,46 @@ if [ "$(uname -m)" != x86_64 ]; then
   from_debian /lib64/ld-linux-x86-64.so.2 libc6:amd64
 fi
 
-# up_to_date FILE NAME COMMAND..: has the command build the file if it is missing or older than a source.
+# up_to_date FILE NAME COMMAND..: has the command build the file if it is missing or older than a source of the crates.
 up_to_date() {
-  [ ! -f "$1" ] || [ -n "$(find crates crates.txt -newer "$1" | head -n 1)" ] || return 0
+  [ ! -f "$1" ] || [ -n "$(find crates.txt crates/*/{src,specs,proofs} -newer "$1" -print -quit)" ] || return 0
   command -v rt >/dev/null || stop "the Rattle kit is needed to build the $2, and its program rt is not on the path"
-  said=$("${@:3}" 2>&1) || stop "$said"
+  began=$(mktemp)
+  said=$("${@:3}" 2>&1) || { rm -f "$began" && stop "$said"; }
+  [ -f "$1" ] || { rm -f "$began" && stop "the $2 was to be built, and there is no $1"; }
+  # As new as the sources that were read.
+  touch -r "$began" "$1"
+  rm -f "$began"
+}
+
+# library_of CRATE: proves and builds a static library.
+library_of() { (cd "crates/$1" && rt lib); }
+
+# program_of CRATE: proves and builds a program. rt run then runs it, on nothing; whether it was built is told by what rt says and not by the status, which is the program's.
+program_of() {
+  local told
+  told=$(cd "crates/$1" && rt run 2>&1 >/dev/null </dev/null) || :
+  grep -q "^rt: running out/$1;" <<<"$told" || { echo "$told" && return 1; }
 }
 
 # Brings the static library up to date: sets `library`.
 library_for_x86_64() {
-  library=target/staticlib/libc_api.a
-  up_to_date "$library" "static library" rt staticlib c_api
+  library=crates/c_api/out/libc_api.a
+  up_to_date "$library" "static library" library_of c_api
+}
+
+# program_for_x86_64 CRATE NAME: brings a program up to date: sets `program`.
+program_for_x86_64() {
+  program=crates/$1/out/$1
+  up_to_date "$program" "$2" program_of "$1"
 }
 
 # Brings the listing programs up to date: sets `settle`, and `settle_captioned`, which takes captions.
 settle_for_x86_64() {
-  settle=target/bin/settle
-  settle_captioned=target/bin/settle_captioned
-  for program in "$settle" "$settle_captioned"; do
-    up_to_date "$program" "listing program" rt check "${program##*/}"
-  done
+  program_for_x86_64 settle "listing program"
+  settle=$program
+  program_for_x86_64 settle_captioned "listing program with captions"
+  settle_captioned=$program
 }
 
 # Says how Rust is built for x86-64: sets `cargo` and `target`. On another processor a Rust without the std for x86-64 gives way to Debian's.

@@ -181,7 +181,7 @@ fn run_texts<W: Write>(output: &mut W, rt: &impl Env, s: &[u8], readings: &[u8])
 fn main(rt: HostRuntime) -> io::Result<()> {
     let mut sheet = [0u8; TEXT];
     let mut readings = [0u8; TEXT];
-    let a = read_text(&rt, "sheet.txt", &mut sheet);
-    let b = read_text(&rt, "readings.txt", &mut readings);
+    let a = read_text(&rt, b"sheet.txt", &mut sheet);
+    let b = read_text(&rt, b"readings.txt", &mut readings);
     run_texts(&mut rt.stdout(), &rt, &sheet[..a], &readings[..b])
 }

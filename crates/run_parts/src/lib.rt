@@ -9,7 +9,7 @@ use read_names::is_spelled;
 use spec_limits::BYTES;
 use std::io::Read;
 use std::rt::{Env, Files};
-use std::{fs, io};
+use std::{fs, io, str};
 
 // Of a file over a text's length, enough is read to see that it is.
 pub const TEXT: usize = BYTES + 1;
@@ -30,10 +30,13 @@ pub fn read_full<R: Read>(input: &mut R, buffer: &mut [u8]) -> io::Result<usize>
 }
 
 // The file's bytes at the start of the buffer, as far as they fit: how many. A file that can't be read counts as empty.
-pub fn read_text<R: Files>(rt: &R, path: &str, buffer: &mut [u8]) -> usize
+pub fn read_text<R: Files>(rt: &R, path: &[u8], buffer: &mut [u8]) -> usize
     ensures { IsPrefixLen result buffer.new }
 {
-    match fs::open(rt, path) {
+    let Ok(name) = str::from_utf8(path) else {
+        return 0;
+    };
+    match fs::open(rt, name) {
         Ok(mut file) => read_full(&mut file, buffer).unwrap_or(0),
         Err(_) => 0,
     }

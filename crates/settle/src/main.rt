@@ -12,8 +12,8 @@ fn main(rt: HostRuntime) -> io::Result<()> {
     let mut readings = [0u8; TEXT];
     let mut table = [0u64; LISTED_WORDS];
     let mut out = [0u8; LISTED];
-    let a = read_text(&rt, "sheet.txt", &mut sheet);
-    let b = read_text(&rt, "readings.txt", &mut readings);
+    let a = read_text(&rt, b"sheet.txt", &mut sheet);
+    let b = read_text(&rt, b"readings.txt", &mut readings);
     let n = settle(&sheet[..a], &readings[..b], &mut table, &mut out);
     rt.stdout().write_all(&out[..n])
 }

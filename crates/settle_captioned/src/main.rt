@@ -14,9 +14,9 @@ fn main(rt: HostRuntime) -> io::Result<()> {
     let mut captions = [0u8; TEXT];
     let mut table = [0u64; LISTED_WORDS];
     let mut out = [0u8; CAPTIONED];
-    let a = read_text(&rt, "sheet.txt", &mut sheet);
-    let b = read_text(&rt, "readings.txt", &mut readings);
-    let c = read_text(&rt, "captions.txt", &mut captions);
+    let a = read_text(&rt, b"sheet.txt", &mut sheet);
+    let b = read_text(&rt, b"readings.txt", &mut readings);
+    let c = read_text(&rt, b"captions.txt", &mut captions);
     let n = settle_captioned(
         &sheet[..a],
         &readings[..b],
