@@ -4,12 +4,12 @@ use crate::moves::is_of_spans;
 use crate::Explanation;
 use std::fmt;
 
-/// Why a call was refused: a number, 1 to 24, and a place counted in bytes from 0.
+/// Why a call was refused: a number, 1 to 23, of caption 1 to 24, and a place counted in bytes from 0.
 #[derive(Clone, Copy, Debug, PartialEq, Eq, Hash)]
 pub struct Refusal {
     number: u64,
     place: usize,
-    /// The text that the place is in, of a number that is otherwise of readings.
+    /// The text that the place is in, of a number that is otherwise of readings or of no call.
     not_in_readings: Option<Text>,
 }
 
@@ -31,12 +31,12 @@ impl Refusal {
         Refusal { number, place, not_in_readings: None }
     }
 
-    /// The same of a call that reads another text than readings: its 12 and 13 are placed there.
+    /// The same of a call that reads another text than readings: its 12, 13 and 24 are placed there.
     pub(crate) fn placed_in(self, text: Text) -> Self {
-        Refusal { not_in_readings: matches!(self.number, 12 | 13).then_some(text), ..self }
+        Refusal { not_in_readings: matches!(self.number, 12 | 13 | 24).then_some(text), ..self }
     }
 
-    /// Its number, 1 to 24.
+    /// Its number, 1 to 23, of caption 1 to 24.
     pub fn number(&self) -> u64 {
         self.number
     }
@@ -53,7 +53,7 @@ impl Refusal {
             2..=8 => Some(Text::Sheet),
             11..=14 | 21 => self.not_in_readings.or(Some(Text::Readings)),
             22 => Some(Text::Dump),
-            24 => Some(Text::Captions),
+            24 => self.not_in_readings,
             _ => None,
         }
     }
@@ -89,7 +89,7 @@ impl Refusal {
             21 => "the span's to= is below its from=",
             22 => "a dump line is missing, not one that may stand there, or without LF",
             23 => "the table clashes: a row is both true and false at one tick",
-            24 => "a caption's line is not of its form or without LF, or an earlier one has its name",
+            24 if self.not_in_readings == Some(Text::Captions) => "a caption's line is not of its form or without LF, or an earlier one has its name",
             _ => "there is no refusal of this number",
         }
     }
@@ -195,9 +195,9 @@ mod tests {
     #[test]
     fn each_number_has_its_own_sentence() {
         let none = Refusal::new(0, 0).sentence();
-        let sentences: std::collections::HashSet<_> = (0..=24).map(|n| Refusal::new(n, 0).sentence()).collect();
-        assert_eq!(sentences.len(), 25);
-        for number in [25, 29, u64::MAX] {
+        let sentences: std::collections::HashSet<_> = (0..=23).map(|n| Refusal::new(n, 0).sentence()).collect();
+        assert_eq!(sentences.len(), 24);
+        for number in [24, 29, u64::MAX] {
             assert_eq!(Refusal::new(number, 0).sentence(), none);
         }
     }
