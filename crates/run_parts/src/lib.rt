@@ -1,7 +1,6 @@
 // What programs share that read their texts from files or from standard input: the bytes, what the arguments ask for, and a table emptied. Assumes nothing.
 #![tactic(auto)]
 
-ghost use Rattle.std.specs.Prelude.{IfOk};
 ghost use Rattle.run_parts.specs.Prefixes.{IsPrefixLen};
 
 use read_bytes::numbers::{Number, number_at};
@@ -9,24 +8,24 @@ use read_names::is_spelled;
 use spec_limits::BYTES;
 use std::io::Read;
 use std::rt::{Env, Files};
-use std::{fs, io, str};
+use std::{fs, str};
 
 // Of a file over a text's length, enough is read to see that it is.
 pub const TEXT: usize = BYTES + 1;
 
-// Reads until the buffer is full or the input ends: how many bytes stand at the buffer's start.
-pub fn read_full<R: Read>(input: &mut R, buffer: &mut [u8]) -> io::Result<usize>
-    ensures { IfOk result (λ n. IsPrefixLen n buffer.new) }
+// Reads until the buffer is full, the input ends or a read fails: how many bytes stand at the buffer's start.
+pub fn read_full<R: Read>(input: &mut R, buffer: &mut [u8]) -> usize
+    ensures { IsPrefixLen result buffer.new }
 {
     let mut done = 0;
     while done < buffer.len() {
-        let n = input.read(&mut buffer[done..])?;
+        let n = input.read(&mut buffer[done..]).unwrap_or(0);
         if n == 0 {
             break;
         }
         done += n;
     }
-    Ok(done)
+    done
 }
 
 // The file's bytes at the start of the buffer, as far as they fit: how many. A file that can't be read counts as empty.
@@ -37,7 +36,7 @@ pub fn read_text<R: Files>(rt: &R, path: &[u8], buffer: &mut [u8]) -> usize
         return 0;
     };
     match fs::open(rt, name) {
-        Ok(mut file) => read_full(&mut file, buffer).unwrap_or(0),
+        Ok(mut file) => read_full(&mut file, buffer),
         Err(_) => 0,
     }
 }
