@@ -14,14 +14,15 @@ ghost use Rattle.table_marks.specs.Sizes.{most_table_words};
 
 use answers::{Answer, print_answer};
 use moving::{print_written, singles, spans};
-use op_add::{Adding, add};
-use op_check::{Checking, check};
-use open_sheet::{Opening, open_sheet};
+use op_add::add;
+use op_check::check;
+use open_sheet::open_sheet;
 use read_index::INDEX;
 use reading::read_sheet;
-use run_cases::print_number;
-use run_parts::{TEXT, clear, is_asked, read_text, times_asked};
+use run_cases::{print, print_number};
+use run_parts::{TEXT, is_asked, read_text, times_asked};
 use spec_limits::{BYTES, ROWS, TOPS};
+use spec_refusals::Refusal;
 use std::io;
 use std::io::Write;
 use std::rt::Env;
@@ -41,32 +42,35 @@ enum Run {
 }
 
 // Checks the sheet.
-fn check_once(s: &[u8]) -> Answer {
-    let c = check(s);
-    match c {
-        Checking::Rows(n) => Answer::Rows(n),
-        Checking::Refused(n, p) => Answer::Refused(n, p),
-    }
+fn check_once(s: &[u8]) -> Result<Answer, Refusal> {
+    let rows = check(s)?;
+    Ok(Answer::Rows(rows))
 }
 
 // Takes the readings into the table, after it is emptied.
-fn take_once(s: &[u8], readings: &[u8], table: &mut [u64]) -> Answer {
-    clear(table);
+fn take_once(s: &[u8], readings: &[u8], table: &mut [u64]) -> Result<Answer, Refusal> {
+    table.fill(0);
     take(s, readings, table)
 }
 
 // Adds the readings to the table, after it is emptied.
-fn add_once(s: &[u8], readings: &[u8], table: &mut [u64]) -> Answer {
-    clear(table);
-    let a = add(s, readings, table);
-    match a {
-        Adding::Added { new, clash } => Answer::Added { new, clash },
-        Adding::Refused(n, p) => Answer::Refused(n, p),
-    }
+fn add_once(s: &[u8], readings: &[u8], table: &mut [u64]) -> Result<Answer, Refusal> {
+    table.fill(0);
+    let added = add(s, readings, table)?;
+    Ok(Answer::Added {
+        new: added.new,
+        clash: added.clash,
+    })
 }
 
 // One run.
-fn run_once(run: Run, s: &[u8], readings: &[u8], table: &mut [u64], out: &mut [u8]) -> Answer {
+fn run_once(
+    run: Run,
+    s: &[u8],
+    readings: &[u8],
+    table: &mut [u64],
+    out: &mut [u8],
+) -> Result<Answer, Refusal> {
     match run {
         Run::Read => read_sheet(s),
         Run::Check => check_once(s),
@@ -77,7 +81,7 @@ fn run_once(run: Run, s: &[u8], readings: &[u8], table: &mut [u64], out: &mut [u
     }
 }
 
-// So many runs: what the last one answers.
+// So many runs: what the last one answers, and nothing if there is none.
 fn run_times(
     run: Run,
     s: &[u8],
@@ -85,12 +89,10 @@ fn run_times(
     table: &mut [u64],
     out: &mut [u8],
     times: usize,
-) -> Answer {
-    let mut last = Answer::Refused(0, 0);
-    let mut i = 0;
-    while i < times {
-        last = run_once(run, s, readings, table, out);
-        i += 1;
+) -> Option<Result<Answer, Refusal>> {
+    let mut last = None;
+    for _ in 0..times {
+        last = Some(run_once(run, s, readings, table, out));
     }
     last
 }
@@ -102,15 +104,9 @@ fn words_for(s: &[u8]) -> usize
     let mut names = [0u16; INDEX];
     let mut rows = [8u64; ROWS];
     let mut tops = [0u16; TOPS];
-    let o = open_sheet(s, &mut names, &mut rows, &mut tops);
-    match o {
-        Opening::Sheet {
-            window,
-            signals: _,
-            tops: _,
-            count,
-        } => 2 * count * words_of(window),
-        Opening::Refused(_, _) => 0,
+    match open_sheet(s, &mut names, &mut rows, &mut tops) {
+        Ok(sheet) => 2 * sheet.count * words_of(sheet.window),
+        Err(_) => 0,
     }
 }
 
@@ -154,7 +150,10 @@ fn run_table<W: Write>(
 ) -> io::Result<()>
     requires { length table.old ≤ most_table_words }
 {
-    let answer = run_times(run, s, readings, table, out, times);
+    let Some(answer) = run_times(run, s, readings, table, out, times) else {
+        print(output, b"--- refused 0 at 0\n")?;
+        return print_marks(output, table);
+    };
     print_answer(output, answer)?;
     print_marks(output, table)?;
     print_written(output, answer, out)

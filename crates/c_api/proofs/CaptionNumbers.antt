@@ -9,6 +9,8 @@ use lib.Dec.{T, eqb, ltb}
 use native.Mathlib.Omega.{arith}
 use lib.ListN.{length, get_or, set}
 use Rattle.spec_limits.specs.Limits.{most_caption_bytes}
+use Rattle.std.specs.Prelude.{Option, Some, None}
+use Rattle.std.specs.Option.{is_some}
 use Rattle.read_bytes.specs.Read.{Read, and_then}
 use Rattle.read_bytes.specs.Read.Read.{got, refused as unread}
 use Rattle.read_bytes.specs.Bytes.{byte, peek, pick, between, run_end}
@@ -60,22 +62,22 @@ pick_numbered true X Y x y = x
 pick_numbered false X Y x y = y
 
 module _ (names : List (List ℕ)) (c : List ℕ) where
-  caption_line_numbered : (at : List ℕ) (p : ℕ) → CaptionNumbered (caption_line names c at p)
+  caption_line_numbered : (at : List (Option ℕ)) (p : ℕ) → CaptionNumbered (caption_line names c at p)
   unfolding caption_line caption_form given_once
   caption_line_numbered at p =
       let x = find_name (name_part c p) names in
       then_numbered (caption_form c p) (λ v e. given_once at (length names) p (e + 1) x)
       (pick_numbered (eqb (peek c (run_end before_equals c p)) (byte "=") && between 1 most_caption_bytes (length (caption_at c (caption_place c p))) && lf_at c (caption_end c (caption_place c p)))
       (got (caption_place c p) (caption_end c (caption_place c p))) (unread 24 p) tt tt)
-      (λ v e. pick_numbered (ltb x (length names)) (pick (eqb (get_or at x 0) 0) (λ _. got x (e + 1)) (unread 24 p)) (unread 12 p)
-      (pick_numbered (eqb (get_or at x 0) 0) (got x (e + 1)) (unread 24 p) tt tt) tt)
+      (λ v e. pick_numbered (ltb x (length names)) (pick (is_some (get_or at x None)) (λ _. unread 24 p) (got x (e + 1))) (unread 12 p)
+      (pick_numbered (is_some (get_or at x None)) (unread 24 p) (got x (e + 1)) tt tt) tt)
 
-  caption_lines_numbered : (n : ℕ) (at : List ℕ) (p : ℕ) → CaptionNumbered (caption_lines names c n at p)
+  caption_lines_numbered : (n : ℕ) (at : List (Option ℕ)) (p : ℕ) → CaptionNumbered (caption_lines names c n at p)
   unfolding caption_lines
   caption_lines_numbered zero at p = tt
   caption_lines_numbered (suc n) at p =
-      pick_numbered (ltb p (length c)) (and_then (caption_line names c at p) (λ x q. caption_lines names c n (set at x (caption_place c p)) q)) (got at p)
-      (then_numbered (caption_line names c at p) _ (caption_line_numbered at p) (λ x q. caption_lines_numbered n (set at x (caption_place c p)) q)) tt
+      pick_numbered (ltb p (length c)) (and_then (caption_line names c at p) (λ x q. caption_lines names c n (set at x (Some (caption_place c p))) q)) (got at p)
+      (then_numbered (caption_line names c at p) _ (caption_line_numbered at p) (λ x q. caption_lines_numbered n (set at x (Some (caption_place c p))) q)) tt
 
   pub captions_numbered : CaptionNumbered (captions_in names c)
   unfolding captions_in
@@ -87,8 +89,8 @@ pick_told true x n p h = tt
 pick_told false x n p h = h
 
 module _ (s : List ℕ) where
-  captioned_told : (c places : List ℕ) (signal : ℕ) (R : Read (List ℕ)) → CaptionNumbered R → CaptionTold (part_by s c places signal R)
-  captioned_told c places signal (got at q) h = pick_told (ltb signal (length places)) (shown_part s c (get_or places signal 0) (get_or at signal 0)) 17 0 tt
+  captioned_told : (c places : List ℕ) (signal : ℕ) (R : Read (List (Option ℕ))) → CaptionNumbered R → CaptionTold (part_by s c places signal R)
+  captioned_told c places signal (got at q) h = pick_told (ltb signal (length places)) (shown_part s c (get_or places signal 0) (get_or at signal None)) 17 0 tt
   captioned_told c places signal (unread n p) h = h
 
   part_told : (c : List ℕ) (signal : ℕ) (R : Result Contents) → CaptionTold R → CaptionTold (part_of s c signal R)

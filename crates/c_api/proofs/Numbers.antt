@@ -2,17 +2,16 @@
 -- Assumes nothing.
 use mathlib.Core.Bool.{Bool, true, false, ◌&&◌, ◌||◌}
 use mathlib.Core.List.{List, [], ◌∷◌, ◌++◌}
-use mathlib.Core.Option.{Option, none, some}
+use mathlib.Core.Option as maybe
 use Prim.Native.Nat.{ℕ, zero, suc, ◌+◌, ◌-◌}
 use lib.Dec.{T, ltb, leb, eqb}
 use lib.ListN.{length, take}
+use Rattle.std.specs.Prelude.{Option as Maybe, Some, None, Ok, Err}
+use Rattle.spec_refusals.specs.declared.Fault.TheVariants.{Formula, Interval}
+use Rattle.spec_refusals.specs.Numbers.{fault_number}
 use Rattle.spec_limits.specs.Limits.{most_bytes, most_ticks, most_signals, most_rules, most_rule_bytes, most_open}
 use Rattle.read_bytes.specs.declared.bytes.Class.{Class}
 use Rattle.read_bytes.specs.declared.bytes.Class.TheVariants.{Letter, Digit, Sign, Bracket, Other}
-use Rattle.read_names.specs.declared.NameRead.{NameRead}
-use Rattle.read_names.specs.declared.NameRead.TheVariants as word
-use Rattle.read_bytes.specs.declared.numbers.Number.{Number}
-use Rattle.read_bytes.specs.declared.numbers.Number.TheVariants.{Value, Missing}
 use Rattle.read_bytes.specs.Read.{Read, and_then}
 use Rattle.read_bytes.specs.Read.Read.{got, refused}
 use Rattle.read_bytes.specs.Bytes.{byte, bytes, peek, pick, between, one_of, class_of, starts}
@@ -20,9 +19,7 @@ use Rattle.read_names.specs.Spellings.{spelling_at, spelling_end, names_at, find
 use Rattle.read_bytes.specs.Numbers.{number}
 use Rattle.read_lines.specs.Lines.{line_end, keyed_at, line, whole_number, whole_name, number_line, ranged_line, name_line, in_turn, up_to}
 use Rattle.spec_tilco.specs.Formula.{Op, And, Or, Implies, Iff, Written}
-use Rattle.read_interval.specs.declared.Offsets.{Offsets}
-use Rattle.read_interval.specs.declared.Offsets.TheVariants as offsets
-use Rattle.read_interval.specs.Interval.{end_at, end_then, end_after_lem, near, left_out, offsets_of, close_at, comma_at, interval}
+use Rattle.read_interval.specs.Interval.{Offsets, refusing, end_at, end_then, end_after_lem, near, left_out, offsets_of, close_at, comma_at, interval}
 use Rattle.read_parts.specs.FormulaText.{Reader, declared, offsets_then, times, timed_part, sign_text, repeats, more, level, formula, negated, then_paren, in_parens, second, arguments, since_until, name_or_keep, plain_part_by, plain_part_in, inside, plain_part, rule}
 use Rattle.read_head.specs.SheetHead.{signal_line, head_of, head}
 use Rattle.read_sheet.specs.Sheet.{rule_to, rule_line, rules, contents, sheet_of}
@@ -75,9 +72,9 @@ module _ (s : List ℕ) (p : ℕ) (key : List ℕ) (form : ℕ) (f : Listed form
   unfolding number_line
   number_numbered = then_numbered (line s p key form) (λ v e. whole_number p form e (number s v)) line_numbered (λ v e. go e (number s v))
     where
-      go : (e : ℕ) (x : Number) → Numbered (whole_number p form e x)
-      go e (Value x q) = pick_numbered (eqb q e) (got x (e + 1)) (refused form p) tt f
-      go e Missing = f
+      go : (e : ℕ) (x : Maybe (ℕ × ℕ)) → Numbered (whole_number p form e x)
+      go e (Some (x, q)) = pick_numbered (eqb q e) (got x (e + 1)) (refused form p) tt f
+      go e None = f
 
   ranged_numbered : (content lo hi : ℕ) → Listed content → Numbered (ranged_line s p key form content lo hi)
   unfolding ranged_line
@@ -89,15 +86,15 @@ module _ (s : List ℕ) (p : ℕ) (key : List ℕ) (form : ℕ) (f : Listed form
   unfolding name_line
   name_numbered content c = then_numbered (line s p key form) (λ v e. whole_name v content e (name_at s v)) line_numbered (λ v e. go v e (name_at s v))
     where
-      go : (v e : ℕ) (x : NameRead) → Numbered (whole_name v content e x)
-      go v e (word.Name q n) = pick_numbered (eqb q e) (got v (e + 1)) (refused content v) tt c
-      go v e word.Other = c
+      go : (v e : ℕ) (x : Maybe (ℕ × Maybe ℕ)) → Numbered (whole_name v content e x)
+      go v e (Some (q, n)) = pick_numbered (eqb q e) (got v (e + 1)) (refused content v) tt c
+      go v e None = c
 
 -- ---- intervals
 
 abbrev OffsetsNumbered : Offsets → Type 0
-OffsetsNumbered (offsets.Over first more q) = Unit {0}
-OffsetsNumbered (offsets.Refused n p) = Listed n
+OffsetsNumbered (Ok x) = Unit {0}
+OffsetsNumbered (Err r) = Listed (fault_number r.fault)
 
 pick_offsets : (b : Bool) (X Y : Offsets) → OffsetsNumbered X → OffsetsNumbered Y → OffsetsNumbered (pick b (λ _. X) Y)
 pick_offsets true X Y x y = x
@@ -105,34 +102,34 @@ pick_offsets false X Y x y = y
 
 end_after : (b : Bool) (s : List ℕ) (p : ℕ) (k : ℕ → ℕ → Offsets) → ((v q : ℕ) → OffsetsNumbered (k v q)) → OffsetsNumbered (end_after_lem b s p k)
 unfolding end_after_lem
-end_after b s p k h = pick_offsets b (end_then (end_at s (p + 1)) (p + 1) k) (offsets.Refused 5 p) (go (end_at s (p + 1))) tt
+end_after b s p k h = pick_offsets b (end_then (end_at s (p + 1)) (p + 1) k) (refusing Formula p) (go (end_at s (p + 1))) tt
   where
-    go : (x : Number) → OffsetsNumbered (end_then x (p + 1) k)
-    go (Value v q) = h v q
-    go Missing = tt
+    go : (x : Maybe (ℕ × ℕ)) → OffsetsNumbered (end_then x (p + 1) k)
+    go (Some (v, q)) = h v q
+    go None = tt
 
 offsets_numbered : (p o v w c x : ℕ) → OffsetsNumbered (offsets_of p o v w c x)
 unfolding offsets_of
 offsets_numbered p o v w c x =
     let lo = v + left_out o (byte "(") in
     let hi = w - left_out c (byte ")") in
-    pick_offsets (near v && near w && leb lo hi) (offsets.Over (lo - 9936) (hi - lo) x) (offsets.Refused 7 p) tt tt
+    pick_offsets (near v && near w && leb lo hi) (Ok (lo - 9936, hi - lo, x)) (refusing Interval p) tt tt
 
 interval_numbered : (s : List ℕ) (p : ℕ) → OffsetsNumbered (interval s p)
 unfolding interval comma_at close_at
 interval_numbered s p =
     end_after (one_of (peek s p) (bytes "[(")) s p (comma_at s p (peek s p)) (λ v q.
     end_after (eqb (peek s q) (byte ",")) s q (close_at s p (peek s p) v) (λ w x.
-    pick_offsets (one_of (peek s x) (bytes "])")) (offsets_of p (peek s p) v w (peek s x) (x + 1)) (offsets.Refused 5 x) (offsets_numbered p (peek s p) v w (peek s x) (x + 1)) tt))
+    pick_offsets (one_of (peek s x) (bytes "])")) (offsets_of p (peek s p) v w (peek s x) (x + 1)) (refusing Formula x) (offsets_numbered p (peek s p) v w (peek s x) (x + 1)) tt))
 
 -- ---- formulas
 
 abbrev Reads : Reader → Type 0
 Reads P = (p : ℕ) → Numbered (P p)
 
-abbrev ReadsIn : Option Reader → Type 0
-ReadsIn none = Unit {0}
-ReadsIn (some P) = Reads P
+abbrev ReadsIn : maybe.Option Reader → Type 0
+ReadsIn maybe.none = Unit {0}
+ReadsIn (maybe.some P) = Reads P
 
 module _ (s : List ℕ) where
   times_numbered : (k : ℕ) (f : Written) → Reads (times s k f)
@@ -146,8 +143,8 @@ module _ (s : List ℕ) where
       K first more q = times s k (Written.time (eqb (peek s p) (byte "@")) first more f) q
 
       go : (x : Offsets) → OffsetsNumbered x → ((first more q : ℕ) → Numbered (K first more q)) → Numbered (offsets_then x K)
-      go (offsets.Over first more q) h r = r first more q
-      go (offsets.Refused n q) h r = h
+      go (Ok (first, more, q)) h r = r first more q
+      go (Err x) h r = h
 
   timed_numbered : (P : Reader) → Reads P → Reads (timed_part P s)
   unfolding timed_part
@@ -170,18 +167,18 @@ module _ (s : List ℕ) where
   formula_numbered : (P : Reader) → Reads P → Reads (formula P s)
   formula_numbered P r = level_numbered Iff _ (level_numbered Implies _ (level_numbered Or _ (level_numbered And _ (timed_numbered P r))))
 
-  negated_numbered : (inner : Option Reader) → ReadsIn inner → Reads (negated inner)
-  negated_numbered none r p = tt
-  negated_numbered (some P) r p = then_numbered (P (p + 1)) (λ f q. got (Written.neg f) q) (r (p + 1)) (λ f q. tt)
+  negated_numbered : (inner : maybe.Option Reader) → ReadsIn inner → Reads (negated inner)
+  negated_numbered maybe.none r p = tt
+  negated_numbered (maybe.some P) r p = then_numbered (P (p + 1)) (λ f q. got (Written.neg f) q) (r (p + 1)) (λ f q. tt)
 
   closed_numbered : (R : Read Written) → Numbered R → Numbered (then_paren s R)
   closed_numbered R r =
       then_numbered R (λ f q. pick (eqb (peek s q) (byte ")")) (λ _. got f (q + 1)) (refused 5 q)) r
       (λ f q. pick_numbered (eqb (peek s q) (byte ")")) (got f (q + 1)) (refused 5 q) tt tt)
 
-  parens_numbered : (inner : Option Reader) → ReadsIn inner → Reads (in_parens inner s)
-  parens_numbered none r p = tt
-  parens_numbered (some P) r p = closed_numbered (formula P s (p + 1)) (formula_numbered P r (p + 1))
+  parens_numbered : (inner : maybe.Option Reader) → ReadsIn inner → Reads (in_parens inner s)
+  parens_numbered maybe.none r p = tt
+  parens_numbered (maybe.some P) r p = closed_numbered (formula P s (p + 1)) (formula_numbered P r (p + 1))
 
   second_numbered : (b : Bool) (F : Reader) → Reads F → (f : Written) → Reads (second b F s f)
   unfolding second
@@ -189,12 +186,12 @@ module _ (s : List ℕ) where
       pick_numbered (eqb (peek s p) (byte ",")) (then_paren s (and_then (F (p + 1)) (λ g q. got (Written.keep b f g) q))) (refused 5 p)
       (closed_numbered (and_then (F (p + 1)) (λ g q. got (Written.keep b f g) q)) (then_numbered (F (p + 1)) (λ g q. got (Written.keep b f g) q) (r (p + 1)) (λ g q. tt))) tt
 
-  arguments_numbered : (inner : Option Reader) → ReadsIn inner → (b : Bool) → Reads (arguments inner b s)
-  arguments_numbered none r b p = tt
-  arguments_numbered (some P) r b p =
+  arguments_numbered : (inner : maybe.Option Reader) → ReadsIn inner → (b : Bool) → Reads (arguments inner b s)
+  arguments_numbered maybe.none r b p = tt
+  arguments_numbered (maybe.some P) r b p =
       then_numbered (formula P s (p + 1)) (λ f q. second b (formula P s) s f q) (formula_numbered P r (p + 1)) (λ f q. second_numbered b (formula P s) (formula_numbered P r) f q)
 
-  kept_numbered : (inner : Option Reader) → ReadsIn inner → (b : Bool) → Reads (since_until inner b s)
+  kept_numbered : (inner : maybe.Option Reader) → ReadsIn inner → (b : Bool) → Reads (since_until inner b s)
   unfolding since_until
   kept_numbered inner r b p = pick_numbered (eqb (peek s p) (byte "(")) (arguments inner b s p) (refused 5 p) (arguments_numbered inner r b p) tt
 
@@ -204,21 +201,21 @@ module _ (names : List (List ℕ)) (s : List ℕ) where
   declared_numbered p =
       pick_numbered (ltb (find_name (spelling_at s p) names) (length names)) (got (Written.name (find_name (spelling_at s p) names)) (spelling_end s p)) (refused 6 p) tt tt
 
-  worded_numbered : (inner : Option Reader) → ReadsIn inner → Reads (name_or_keep inner names s)
+  worded_numbered : (inner : maybe.Option Reader) → ReadsIn inner → Reads (name_or_keep inner names s)
   unfolding name_or_keep
   worded_numbered inner r p =
       pick_numbered (is_spelled s p (bytes "since")) (since_until inner true s (p + 5)) (pick (is_spelled s p (bytes "until")) (λ _. since_until inner false s (p + 5)) (declared names s p))
       (kept_numbered s inner r true (p + 5))
       (pick_numbered (is_spelled s p (bytes "until")) (since_until inner false s (p + 5)) (declared names s p) (kept_numbered s inner r false (p + 5)) (declared_numbered p))
 
-  plain_by : (k : Class) (inner : Option Reader) → ReadsIn inner → Reads (plain_part_by k inner names s)
+  plain_by : (k : Class) (inner : maybe.Option Reader) → ReadsIn inner → Reads (plain_part_by k inner names s)
   plain_by Letter inner r p = worded_numbered inner r p
   plain_by Digit inner r p = tt
   plain_by Sign inner r p = pick_numbered (eqb (peek s p) (byte "!")) (negated inner p) (refused 5 p) (negated_numbered s inner r p) tt
   plain_by Bracket inner r p = pick_numbered (eqb (peek s p) (byte "(")) (in_parens inner s p) (refused 5 p) (parens_numbered s inner r p) tt
   plain_by Other inner r p = tt
 
-  plain_in_numbered : (inner : Option Reader) → ReadsIn inner → Reads (plain_part_in inner names s)
+  plain_in_numbered : (inner : maybe.Option Reader) → ReadsIn inner → Reads (plain_part_in inner names s)
   unfolding plain_part_in
   plain_in_numbered inner r p = plain_by (class_of (peek s p)) inner r p
 

@@ -2,45 +2,54 @@
 // A caller lends memory of the length given behind each pointer, and no two of one call overlap.
 #![tactic(auto)]
 
-ghost use Rattle.std.specs.Prelude.{◌≡◌, true, false, List, [], ◌∷◌};
-ghost use Rattle.open_sheet.specs.Results.{Result};
-ghost use Rattle.spec_figures.specs.declared.Record.{Record};
-ghost use Rattle.figure_runs.specs.FigureWords.{outcome_of};
+ghost use Rattle.std.specs.Prelude.{◌≡◌, true, false, [], ◌∷◌};
+ghost use Rattle.spec_refusals.specs.Numbers.{fault_number};
 ghost use Rattle.table_marks.specs.Values.{value_says};
 ghost use Rattle.spec_operations.specs.WritingSays.{writing_says};
-ghost use Rattle.c_api.specs.Leaves.{left, leaves, one_value_lem, answer_values, part_values, CheckLeaves, AddLeaves, AskLeaves, MoveLeaves, PrintLeaves, WriteDumpLeaves, ReadDumpLeaves, CaptionLeaves, no_values, FigureLeaves};
+ghost use Rattle.c_api.specs.Leaves.{left, leaves, one_value_lem, answer_values, part_values, CheckLeaves, AddLeaves, AskLeaves, MoveLeaves, PrintLeaves, WriteDumpLeaves, ReadDumpLeaves, CaptionLeaves, FigureLeaves};
 
-use op_add::{Adding, add};
-use op_ask::{Asking, ask};
-use op_caption::{Captioning, caption_part};
-use op_check::{Checking, check};
+use op_add::add;
+use op_ask::ask;
+use op_caption::caption_part;
+use op_check::check;
 use op_dump::reading::read_dump;
 use op_dump::writing::write_dump;
 use op_figures::figures;
 use op_moves::moves::{to_readings, to_spans};
 use op_print::print_rule;
 use read_captions::Part;
-use read_readings::whole::Outcome;
 use spec_figures::Record;
-use spec_operations::Writing;
+use spec_refusals::Refusal;
 use table_marks::Value;
+
+// Tells a refusal: its place, and its number.
+fn tell_refusal(refusal: Refusal, place: &mut u64) -> u64
+    ensures { (result ≡ fault_number refusal.fault) × (place.new ≡ refusal.place) }
+{
+    *place = refusal.place as u64;
+    refusal.number() as u64
+}
+
+// Tells an answer that is a number, a row count or a text's length: 0 and the number, or a refusal's number and its place.
+fn tell_number(answer: Result<usize, Refusal>, number: &mut u64, place: &mut u64) -> u64
+    ensures { left result place.new (number.new ∷ []) ≡ leaves one_value_lem place.old (number.old ∷ []) (writing_says answer) }
+{
+    match answer {
+        Ok(n) => {
+            *number = n as u64;
+            0
+        }
+        Err(r) => tell_refusal(r, place),
+    }
+}
 
 // Checks the sheet: 0 and the row count, or a refusal's number and its place.
 #[unsafe(no_mangle)]
 pub extern "C" fn mikhakun_check(sheet: &[u8], rows: &mut u64, place: &mut u64) -> u64
     ensures { CheckLeaves sheet.now place.old (rows.old ∷ []) (left result place.new (rows.new ∷ [])) }
 {
-    let c = check(sheet);
-    match c {
-        Checking::Rows(n) => {
-            *rows = n as u64;
-            0
-        }
-        Checking::Refused(n, p) => {
-            *place = p as u64;
-            n as u64
-        }
-    }
+    let answer = check(sheet);
+    tell_number(answer, rows, place)
 }
 
 // Adds the readings to the table: 0, how many facts are new and whether there is a clash, or a refusal's number and its place.
@@ -55,17 +64,13 @@ pub extern "C" fn mikhakun_add(
 ) -> u64
     ensures { AddLeaves sheet.now readings.now table.old table.new place.old (new_facts.old ∷ clash.old ∷ []) (left result place.new (new_facts.new ∷ clash.new ∷ [])) }
 {
-    let a = add(sheet, readings, table);
-    match a {
-        Adding::Added { new, clash: c } => {
-            *new_facts = new as u64;
-            *clash = c as u64;
+    match add(sheet, readings, table) {
+        Ok(added) => {
+            *new_facts = added.new as u64;
+            *clash = added.clash as u64;
             0
         }
-        Adding::Refused(n, p) => {
-            *place = p as u64;
-            n as u64
-        }
+        Err(r) => tell_refusal(r, place),
     }
 }
 
@@ -93,32 +98,12 @@ pub extern "C" fn mikhakun_ask(
 ) -> u64
     ensures { AskLeaves sheet.now table.now signal tick place.old (value.old ∷ []) (left result place.new (value.new ∷ [])) }
 {
-    let a = ask(sheet, table, signal as usize, tick as usize);
-    match a {
-        Asking::Given(v) => {
+    match ask(sheet, table, signal as usize, tick as usize) {
+        Ok(v) => {
             *value = number_of(v);
             0
         }
-        Asking::Refused(n, p) => {
-            *place = p as u64;
-            n as u64
-        }
-    }
-}
-
-// Tells the answer of an operation that writes a text: 0 and the text's length, or a refusal's number and its place.
-fn tell_writing(w: Writing, length: &mut u64, place: &mut u64) -> u64
-    ensures { left result place.new (length.new ∷ []) ≡ leaves one_value_lem place.old (length.old ∷ []) (writing_says w) }
-{
-    match w {
-        Writing::Written(n) => {
-            *length = n as u64;
-            0
-        }
-        Writing::Refused(n, p) => {
-            *place = p as u64;
-            n as u64
-        }
+        Err(r) => tell_refusal(r, place),
     }
 }
 
@@ -134,7 +119,7 @@ pub extern "C" fn mikhakun_to_spans(
     ensures { MoveLeaves true sheet.now readings.now out.old out.new place.old (length.old ∷ []) (left result place.new (length.new ∷ [])) }
 {
     let w = to_spans(sheet, readings, out);
-    tell_writing(w, length, place)
+    tell_number(w, length, place)
 }
 
 // Writes the readings one by one, each once, in the same order.
@@ -149,7 +134,7 @@ pub extern "C" fn mikhakun_to_readings(
     ensures { MoveLeaves false sheet.now readings.now out.old out.new place.old (length.old ∷ []) (left result place.new (length.new ∷ [])) }
 {
     let w = to_readings(sheet, readings, out);
-    tell_writing(w, length, place)
+    tell_number(w, length, place)
 }
 
 // Prints a rule back.
@@ -164,7 +149,7 @@ pub extern "C" fn mikhakun_print_rule(
     ensures { PrintLeaves sheet.now rule out.old out.new place.old (length.old ∷ []) (left result place.new (length.new ∷ [])) }
 {
     let w = print_rule(sheet, rule as usize, out);
-    tell_writing(w, length, place)
+    tell_number(w, length, place)
 }
 
 // Writes a table as a dump.
@@ -179,7 +164,7 @@ pub extern "C" fn mikhakun_write_dump(
     ensures { WriteDumpLeaves sheet.now table.now out.old out.new place.old (length.old ∷ []) (left result place.new (length.new ∷ [])) }
 {
     let w = write_dump(sheet, table, out);
-    tell_writing(w, length, place)
+    tell_number(w, length, place)
 }
 
 // Writes the readings of a dump.
@@ -194,7 +179,7 @@ pub extern "C" fn mikhakun_read_dump(
     ensures { ReadDumpLeaves sheet.now dump.now out.old out.new place.old (length.old ∷ []) (left result place.new (length.new ∷ [])) }
 {
     let w = read_dump(sheet, dump, out);
-    tell_writing(w, length, place)
+    tell_number(w, length, place)
 }
 
 // Tells a part: whether it is in the captions' text, where it starts, and its length.
@@ -228,29 +213,12 @@ pub extern "C" fn mikhakun_caption(
 ) -> u64
     ensures { CaptionLeaves sheet.now captions.now signal place.old (in_captions.old ∷ start.old ∷ length.old ∷ []) (left result place.new (in_captions.new ∷ start.new ∷ length.new ∷ [])) }
 {
-    let a = caption_part(sheet, captions, signal as usize);
-    match a {
-        Captioning::Shown(part) => {
+    match caption_part(sheet, captions, signal as usize) {
+        Ok(part) => {
             tell_part(part, in_captions, start, length);
             0
         }
-        Captioning::Refused(n, p) => {
-            *place = p as u64;
-            n as u64
-        }
-    }
-}
-
-// Tells an outcome: 0, or a refusal's number and its place.
-fn tell_outcome(o: Outcome, place: &mut u64) -> u64
-    ensures { (x : Result (List Record)) → o ≡ outcome_of x → left result place.new [] ≡ leaves no_values place.old [] x }
-{
-    match o {
-        Outcome::Accepted => 0,
-        Outcome::Refused(n, p) => {
-            *place = p as u64;
-            n as u64
-        }
+        Err(r) => tell_refusal(r, place),
     }
 }
 
@@ -266,6 +234,8 @@ pub extern "C" fn mikhakun_figures(
 ) -> u64
     ensures { FigureLeaves sheet.now texts.now lengths.now work.old work.new records.old records.new place.old (left result place.new []) }
 {
-    let o = figures(sheet, texts, lengths, work, records);
-    tell_outcome(o, place)
+    match figures(sheet, texts, lengths, work, records) {
+        Ok(()) => 0,
+        Err(r) => tell_refusal(r, place),
+    }
 }

@@ -1,7 +1,7 @@
 -- A visit by the kind in the row code. Assumes nothing.
 use mathlib.Core.Path.{◌≡◌, refl, sym, ap, subst}
 use mathlib.Core.List.{List}
-use Prim.Native.Nat.{ℕ, zero, suc, ◌≤◌, ◌<◌}
+use Prim.Native.Nat.{ℕ, ◌≤◌, ◌<◌}
 use native.Mathlib.Omega.{arith}
 use Rattle.lower_rows.specs.RowCodes.{unpacked}
 use Rattle.spec_tilco.specs.Inference.{not_of, Marks}
@@ -37,11 +37,3 @@ module _ (count : ℕ) (B : List ℕ) (n r q W : ℕ) where
         (subst (SettledIn q W (Stands n T) r) (sym (node_as count B r 0 e P c)) tt);
     past = λ h. refl;
   }
-
--- A kind that is no signal's, no gate's and no look's is a not-row's.
-pub past_looks : (k : ℕ) → (k ≡ 0 → ⊥) → (k ≡ 1 → ⊥) → (k ≡ 2 → ⊥) → (k ≡ 3 → ⊥) → 4 ≤ k
-past_looks zero a b c d = absurd (a refl)
-past_looks (suc zero) a b c d = absurd (b refl)
-past_looks (suc (suc zero)) a b c d = absurd (c refl)
-past_looks (suc (suc (suc zero))) a b c d = absurd (d refl)
-past_looks (suc (suc (suc (suc k)))) a b c d = omega arith

@@ -7,6 +7,7 @@ use Rattle.close_rules.specs.Codes.{Coded}
 use Rattle.close_rules.specs.Effects.{TableFits}
 use Rattle.close_parents.specs.Links.{Linked}
 use Rattle.close_list.specs.Items.{ListFits}
+use Rattle.close_list.specs.declared.Closing.{Closing}
 
 -- Items can be put on the list: the row codes are a program's, the lists of parents are theirs, and the list has a bit for every item.
 pub record Queueable (count n : ℕ) (B H N D : List ℕ) : Type 0 where
@@ -28,3 +29,10 @@ pub record Closable (count n W : ℕ) (B D T : List ℕ) : Type 0 where
   pub roomy : ListFits count n D
   pub sized : TableFits n count W T
   pub inside : Inside W (Stands n T)
+
+-- The same of what stays while a table is closed.
+abbrev pub CanQueue : Closing → ℕ → List ℕ → Type 0
+CanQueue c n D = Queueable c.count n c.rows.now c.heads.now c.nexts.now D
+
+abbrev pub CanWork : Closing → ℕ → List ℕ → List ℕ → Type 0
+CanWork c n D T = Workable c.count n c.window c.rows.now c.heads.now c.nexts.now D T

@@ -8,10 +8,21 @@ ghost use Rattle.lower_rows.specs.RowCodes.{row_at};
 ghost use Rattle.close_rules.specs.Codes.{Coded};
 ghost use Rattle.close_parents.specs.Links.{Reach, Falls, Ended};
 ghost use Rattle.close_list.specs.Items.{per, ListFits, Queues, OwnItem, ItemsOf, ParentsAt, QueuesResting, QueuesMarked, SettledOffList};
-ghost use Rattle.close_list.specs.Workable.{Queueable};
+ghost use Rattle.close_list.specs.Workable.{CanQueue};
 
-use close_parents::index;
-use spec_limits::{ABOVE, KINDS};
+use close_rules::{Kind, kind_of};
+use spec_limits::ABOVE;
+
+// What stays while a table is closed: the row codes and how many there are, the window, and the lists of parents. How many words a row has for each
+// value, n, is passed beside it, for the loops to have at hand.
+#[derive(Clone, Copy)]
+pub struct Closing<'a> {
+    pub rows: &'a [u64],
+    pub count: usize,
+    pub window: usize,
+    pub heads: &'a [u16],
+    pub nexts: &'a [u16],
+}
 
 // Sets row y's bit in the words of the list from place i on.
 fn enter(todo: &mut [u64], i: usize, y: usize)
@@ -31,7 +42,7 @@ fn enter_parents(count: usize, head: usize, nexts: &[u16], todo: &mut [u64], i: 
     let mut h = head;
     while h != 0 {
         enter(todo, i, h / 2);
-        h = index(nexts[h]);
+        h = nexts[h] as usize;
     }
 }
 
@@ -51,111 +62,71 @@ pub fn enter_before(todo: &mut [u64], stride: usize, n: usize, p: usize, x: usiz
 }
 
 // The items of row x itself that rest on its word q: none of a signal, two of a look.
-fn enter_own(rows: &[u64], count: usize, n: usize, q: usize, x: usize, todo: &mut [u64])
-    requires coded { Coded count rows.now }
-    requires x_lt_count { (x < count) × (q < n) }
-    requires list_fits { ListFits count n todo.old }
-    ensures { Queues (ItemsOf (per count) x (λ p. (p < n) × OwnItem (row_at rows.now x) q p)) todo.old todo.new }
+fn enter_own(on: &Closing, n: usize, q: usize, x: usize, todo: &mut [u64])
+    requires coded { Coded on.now.count on.now.rows.now }
+    requires x_lt_count { (x < on.now.count) × (q < n) }
+    requires list_fits { ListFits on.now.count n todo.old }
+    ensures { Queues (ItemsOf (per on.now.count) x (λ p. (p < n) × OwnItem (row_at on.now.rows.now x) q p)) todo.old todo.new }
 {
-    let w = rows[x];
-    let kind = w % KINDS;
-    let stride = (count + 63) / 64;
-    if kind == 0 {
-        return;
+    let w = on.rows[x];
+    let stride = (on.count + 63) / 64;
+    match kind_of(w) {
+        Kind::Signal => {}
+        Kind::Look => {
+            let seen = q + (w / ABOVE / 64) as usize;
+            enter_before(todo, stride, n, seen, x);
+            enter_before(todo, stride, n, seen + 1, x);
+        }
+        _ => enter(todo, q * stride, x),
     }
-    if kind == 3 {
-        let seen = q + (w / ABOVE / 64) as usize;
-        enter_before(todo, stride, n, seen, x);
-        enter_before(todo, stride, n, seen + 1, x);
-        return;
-    }
-    enter(todo, q * stride, x);
 }
 
 // Puts the items at word q of row x's parents on the list.
-pub fn queue_parents(
-    count: usize,
-    n: usize,
-    q: usize,
-    x: usize,
-    heads: &[u16],
-    nexts: &[u16],
-    todo: &mut [u64],
-)
-    requires x_lt_count { (x < count) × (q < n) }
-    requires ended { Ended count heads.now nexts.now }
-    requires list_fits { ListFits count n todo.old }
-    ensures { Queues (ParentsAt (per count) heads.now nexts.now x q) todo.old todo.new }
+pub fn queue_parents(on: &Closing, n: usize, q: usize, x: usize, todo: &mut [u64])
+    requires x_lt_count { (x < on.now.count) × (q < n) }
+    requires ended { Ended on.now.count on.now.heads.now on.now.nexts.now }
+    requires list_fits { ListFits on.now.count n todo.old }
+    ensures { Queues (ParentsAt (per on.now.count) on.now.heads.now on.now.nexts.now x q) todo.old todo.new }
 {
-    let stride = (count + 63) / 64;
-    let head = index(heads[x]);
-    enter_parents(count, head, nexts, todo, q * stride);
+    let stride = (on.count + 63) / 64;
+    let head = on.heads[x] as usize;
+    enter_parents(on.count, head, on.nexts, todo, q * stride);
 }
 
 // Row x's word q changed: puts every item that rests on it on the list.
-pub fn queue_resting(
-    rows: &[u64],
-    count: usize,
-    n: usize,
-    q: usize,
-    x: usize,
-    heads: &[u16],
-    nexts: &[u16],
-    todo: &mut [u64],
-)
-    requires queueable { Queueable count n rows.now heads.now nexts.now todo.old }
-    requires x_lt_count { (x < count) × (q < n) }
-    ensures { QueuesResting count rows.now n x q todo.old todo.new }
+pub fn queue_resting(on: &Closing, n: usize, q: usize, x: usize, todo: &mut [u64])
+    requires queueable { CanQueue on.now n todo.old }
+    requires x_lt_count { (x < on.now.count) × (q < n) }
+    ensures { QueuesResting on.now.count on.now.rows.now n x q todo.old todo.new }
 {
-    enter_own(rows, count, n, q, x, todo);
-    queue_parents(count, n, q, x, heads, nexts, todo);
+    enter_own(on, n, q, x, todo);
+    queue_parents(on, n, q, x, todo);
 }
 
 // Puts every item on the list that rests on a mark in word q of a row.
-fn start_column(
-    rows: &[u64],
-    count: usize,
-    n: usize,
-    q: usize,
-    heads: &[u16],
-    nexts: &[u16],
-    todo: &mut [u64],
-    marks: &[u64],
-)
-    requires queueable { Queueable count n rows.now heads.now nexts.now todo.old }
-    requires q_lt_n { (q < n) × HasRows n marks.now count }
-    ensures { QueuesMarked count rows.now n (λ x p. (x < count) × (p ≡ q)) marks.now todo.old todo.new }
+fn start_column(on: &Closing, n: usize, q: usize, todo: &mut [u64], marks: &[u64])
+    requires queueable { CanQueue on.now n todo.old }
+    requires q_lt_n { (q < n) × HasRows n marks.now on.now.count }
+    ensures { QueuesMarked on.now.count on.now.rows.now n (λ x p. (x < on.now.count) × (p ≡ q)) marks.now todo.old todo.new }
 {
-    let mut x: usize = 0;
     let mut place = q;
-    while x < count {
+    for x in 0..on.count {
         let yes = marks[place];
         let no = marks[place + n];
         if yes | no != 0 {
-            queue_resting(rows, count, n, q, x, heads, nexts, todo);
+            queue_resting(on, n, q, x, todo);
         }
         place += 2 * n;
-        x += 1;
     }
 }
 
 // Puts every item on the list that rests on a mark: a rule has a premise, so what is not on it then is settled.
-pub fn start(
-    rows: &[u64],
-    count: usize,
-    n: usize,
-    heads: &[u16],
-    nexts: &[u16],
-    todo: &mut [u64],
-    marks: &[u64],
-)
-    requires queueable { Queueable count n rows.now heads.now nexts.now todo.old }
-    requires has_rows { HasRows n marks.now count }
-    ensures { (W : ℕ) → SettledOffList count rows.now W n marks.now todo.new }
+pub fn start(on: &Closing, n: usize, todo: &mut [u64], marks: &[u64])
+    requires queueable { CanQueue on.now n todo.old }
+    requires has_rows { HasRows n marks.now on.now.count }
+    ensures { (W : ℕ) → SettledOffList on.now.count on.now.rows.now W n marks.now todo.new }
 {
-    let mut q: usize = 0;
-    while q < n {
-        start_column(rows, count, n, q, heads, nexts, todo, marks);
-        q += 1;
+    for q in 0..n {
+        start_column(on, n, q, todo, marks);
     }
 }

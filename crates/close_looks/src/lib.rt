@@ -9,10 +9,11 @@ ghost use Rattle.table_words.specs.WordTicks.{HasRow};
 ghost use Rattle.close_shift.specs.ShiftedWords.{end_of, apart};
 ghost use Rattle.close_parents.specs.Links.{Ended};
 ghost use Rattle.close_list.specs.Items.{ListFits};
-ghost use Rattle.close_list.specs.Workable.{Workable};
+ghost use Rattle.close_list.specs.Workable.{CanWork};
 ghost use Rattle.close_store.specs.Visits.{VisitsLook};
 ghost use Rattle.close_looks.specs.Parts.{Sees, GatheredFor, next_of, LooksFrom};
 
+use close_list::Closing;
 use close_shift::{join, shift, window_beside};
 use close_store::store_look;
 use table_words::{Words, window_word, words_at};
@@ -72,25 +73,22 @@ fn part_of(q: usize, offset: u64, up: bool) -> Part
 
 // A part of a look's rules, if the row has such a word. What they give the child is joined to `given`.
 fn look_part(
-    count: usize,
-    row: usize,
+    on: &Closing,
     n: usize,
-    window: usize,
+    row: usize,
     child: Child,
     offset: u64,
     up: bool,
     given: Words,
-    heads: &[u16],
-    nexts: &[u16],
     todo: &mut [u64],
     marks: &mut [u64],
 ) -> Words
-    requires row_lt_count { (row < count) × HasRow n marks.old row × (child.row < row) × (n ≡ words window) }
-    requires sees { Sees n window marks.old child }
-    requires ended { Ended count heads.now nexts.now }
-    requires list_fits { ListFits count n todo.old }
-    ensures looks_from { LooksFrom (end_of up child.q) (next_of up child.q) count heads.now nexts.now row offset child.row child.q window n (GatheredFor child given) (GatheredFor child result) marks.old marks.new todo.old todo.new }
-    ensures sees_2 { Sees n window marks.new child }
+    requires row_lt_count { (row < on.now.count) × HasRow n marks.old row × (child.row < row) × (n ≡ words on.now.window) }
+    requires sees { Sees n on.now.window marks.old child }
+    requires ended { Ended on.now.count on.now.heads.now on.now.nexts.now }
+    requires list_fits { ListFits on.now.count n todo.old }
+    ensures looks_from { LooksFrom (end_of up child.q) (next_of up child.q) on.now.count on.now.heads.now on.now.nexts.now row offset child.row child.q on.now.window n (GatheredFor child given) (GatheredFor child result) marks.old marks.new todo.old todo.new }
+    ensures sees_still { Sees n on.now.window marks.new child }
 {
     let q = child.q;
     let part = part_of(q, offset, up);
@@ -106,9 +104,9 @@ fn look_part(
         return given;
     }
     let seen = child.words;
-    let there = window_beside(window, p, q, child.here);
+    let there = window_beside(on.window, p, q, child.here);
     let ticks = shift(seen, part.k, up, there);
-    let j = store_look(count, n, p, part.m, row, ticks, heads, nexts, todo, marks);
+    let j = store_look(on, n, p, part.m, row, ticks, todo, marks);
     let own = j.words;
     let to_child = shift(own, part.k, !up, child.here);
     join(given, to_child)
@@ -117,29 +115,21 @@ fn look_part(
 // A visit to a row that looks at a child, at an offset written with 64 added, for the ticks of the child's word at hand. What it gives the child is joined to
 // `given`.
 pub fn visit_look(
-    rows: &[u64],
-    count: usize,
-    row: usize,
+    on: &Closing,
     n: usize,
-    window: usize,
+    row: usize,
     child: Child,
     offset: u64,
     given: Words,
-    heads: &[u16],
-    nexts: &[u16],
     todo: &mut [u64],
     marks: &mut [u64],
 ) -> Words
-    requires workable { Workable count n window rows.now heads.now nexts.now todo.old marks.old }
-    requires row_lt_count { (row < count) × (child.row < row) }
-    requires sees { Sees n window marks.old child }
-    ensures visits_look { VisitsLook offset child.row count rows.now row child.q window n (GatheredFor child given) (GatheredFor child result) marks.old marks.new todo.old todo.new }
-    ensures sees_2 { Sees n window marks.new child }
+    requires workable { CanWork on.now n todo.old marks.old }
+    requires row_lt_count { (row < on.now.count) × (child.row < row) }
+    requires sees { Sees n on.now.window marks.old child }
+    ensures visits_look { VisitsLook offset child.row on.now.count on.now.rows.now row child.q on.now.window n (GatheredFor child given) (GatheredFor child result) marks.old marks.new todo.old todo.new }
+    ensures sees_still { Sees n on.now.window marks.new child }
 {
-    let g = look_part(
-        count, row, n, window, child, offset, true, given, heads, nexts, todo, marks,
-    );
-    look_part(
-        count, row, n, window, child, offset, false, g, heads, nexts, todo, marks,
-    )
+    let g = look_part(on, n, row, child, offset, true, given, todo, marks);
+    look_part(on, n, row, child, offset, false, g, todo, marks)
 }

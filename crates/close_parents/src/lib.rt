@@ -8,17 +8,11 @@ ghost use Rattle.spec_limits.specs.Limits.{most_rows};
 ghost use Rattle.close_rules.specs.Codes.{Coded};
 ghost use Rattle.close_parents.specs.Links.{LinkedTo, Linked};
 
+use close_rules::{Kind, kind_of};
 use spec_limits::{ABOVE, KINDS, NUMBERS, ROWS};
 
 // Each row has at most two edges.
 pub const EDGES: usize = 2 * ROWS;
-
-// A stored number as a place.
-pub fn index(number: u16) -> usize
-    ensures { result ≡ number }
-{
-    number as usize
-}
 
 // Puts an edge before row x's list.
 fn link(heads: &mut [u16], nexts: &mut [u16], x: usize, edge: usize)
@@ -37,16 +31,16 @@ fn link_row(rows: &[u64], count: usize, r: usize, heads: &mut [u16], nexts: &mut
     ensures { LinkedTo count rows.now heads.new nexts.new (r + 1) }
 {
     let w = rows[r];
-    let kind = w % KINDS;
     let a = (w / KINDS % NUMBERS) as usize;
     let b = (w / ABOVE) as usize;
     let edge = 2 * r;
-    if kind == 0 {
-        return;
-    }
-    link(heads, nexts, a, edge);
-    if kind <= 2 {
-        link(heads, nexts, b, edge + 1);
+    match kind_of(w) {
+        Kind::Signal => {}
+        Kind::And | Kind::Or => {
+            link(heads, nexts, a, edge);
+            link(heads, nexts, b, edge + 1);
+        }
+        Kind::Look | Kind::Not => link(heads, nexts, a, edge),
     }
 }
 
@@ -56,9 +50,7 @@ pub fn link_rows(rows: &[u64], count: usize, heads: &mut [u16], nexts: &mut [u16
     requires count_in_bounds { (count ≤ length heads.old) × (2 * count ≤ length nexts.old) × ((x : ℕ) → x < count → get_or heads.old x 0 ≡ 0) }
     ensures { Linked count rows.now heads.new nexts.new }
 {
-    let mut r: usize = 0;
-    while r < count {
+    for r in 0..count {
         link_row(rows, count, r, heads, nexts);
-        r += 1;
     }
 }

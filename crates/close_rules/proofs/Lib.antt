@@ -3,3 +3,4 @@ pub mod Inferring
 pub mod Settling
 pub mod RowRules
 pub mod Decoding
+pub mod KindNumbers

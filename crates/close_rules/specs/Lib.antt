@@ -2,3 +2,4 @@
 pub mod Codes
 pub mod Settled
 pub mod Effects
+pub mod Kinds

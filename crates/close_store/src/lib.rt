@@ -4,89 +4,82 @@
 #![tactic(auto)]
 
 ghost use Rattle.std.specs.Prelude.{true, ◌<◌};
-ghost use Rattle.table_words.specs.WordTicks.{HasRow, Sides, Bits, Reads, Joins};
+ghost use Rattle.table_words.specs.WordTicks.{HasRow, Sides, Bits, Reads, one_if, Joins};
 ghost use Rattle.close_parents.specs.Links.{Ended};
 ghost use Rattle.close_list.specs.Items.{per, ParentsAt, ListFits};
-ghost use Rattle.close_list.specs.Workable.{Queueable};
+ghost use Rattle.close_list.specs.Workable.{CanQueue};
 ghost use Rattle.close_store.specs.Visits.{StoresWord, QueuesIf, LookItems};
 
-use close_list::{enter_before, queue_parents, queue_resting};
+use close_list::{Closing, enter_before, queue_parents, queue_resting};
 use table_words::{Joined, Words, add_words};
 
 // Word q of a child's row x: ticks of value u and of the other value.
 pub fn store_child(
-    rows: &[u64],
-    count: usize,
+    on: &Closing,
     n: usize,
     q: usize,
     x: usize,
     u: bool,
     ticks: Words,
-    heads: &[u16],
-    nexts: &[u16],
     todo: &mut [u64],
     marks: &mut [u64],
 )
-    requires queueable { Queueable count n rows.now heads.now nexts.now todo.old }
-    requires x_lt_count { (x < count) × (q < n) × HasRow n marks.old x }
-    ensures { StoresWord count rows.now n q x u ticks.this ticks.other marks.old marks.new todo.old todo.new }
+    requires queueable { CanQueue on.now n todo.old }
+    requires x_lt_count { (x < on.now.count) × (q < n) × HasRow n marks.old x }
+    ensures { StoresWord on.now.count on.now.rows.now n q x u ticks.this ticks.other marks.old marks.new todo.old todo.new }
 {
     let j = add_words(marks, n, q, x, u, ticks);
-    if j.changed != 0 {
-        queue_resting(rows, count, n, q, x, heads, nexts, todo);
+    if j.changed {
+        queue_resting(on, n, q, x, todo);
     }
 }
 
 // Word q of the visited row: the same, and only its parents have items that are put on the list.
 pub fn store_own(
-    count: usize,
+    on: &Closing,
     n: usize,
     q: usize,
     row: usize,
     u: bool,
     ticks: Words,
-    heads: &[u16],
-    nexts: &[u16],
     todo: &mut [u64],
     marks: &mut [u64],
 ) -> Joined
-    requires row_lt_count { (row < count) × (q < n) × HasRow n marks.old row }
-    requires ended { Ended count heads.now nexts.now }
-    requires list_fits { ListFits count n todo.old }
-    ensures joins { Joins n (Sides row u q (Bits ticks.this) (Bits ticks.other)) marks.old marks.new result.changed }
+    requires row_lt_count { (row < on.now.count) × (q < n) × HasRow n marks.old row }
+    requires ended { Ended on.now.count on.now.heads.now on.now.nexts.now }
+    requires list_fits { ListFits on.now.count n todo.old }
+    ensures joins { Joins n (Sides row u q (Bits ticks.this) (Bits ticks.other)) marks.old marks.new (one_if result.changed) }
     ensures reads { Reads n marks.new q row u result.words.this result.words.other }
-    ensures queues_if { QueuesIf (ParentsAt (per count) heads.now nexts.now row q) todo.old todo.new result.changed }
+    ensures queues_if { QueuesIf (ParentsAt (per on.now.count) on.now.heads.now on.now.nexts.now row q) todo.old todo.new (one_if result.changed) }
 {
     let j = add_words(marks, n, q, row, u, ticks);
-    if j.changed != 0 {
-        queue_parents(count, n, q, row, heads, nexts, todo);
+    if j.changed {
+        queue_parents(on, n, q, row, todo);
     }
     j
 }
 
 // Word p of a visited row that looks at another: the same of value true and false, and its own item before word m.
 pub fn store_look(
-    count: usize,
+    on: &Closing,
     n: usize,
     p: usize,
     m: usize,
     row: usize,
     ticks: Words,
-    heads: &[u16],
-    nexts: &[u16],
     todo: &mut [u64],
     marks: &mut [u64],
 ) -> Joined
-    requires row_lt_count { (row < count) × (p < n) × HasRow n marks.old row }
-    requires ended { Ended count heads.now nexts.now }
-    requires list_fits { ListFits count n todo.old }
-    ensures joins { Joins n (Sides row true p (Bits ticks.this) (Bits ticks.other)) marks.old marks.new result.changed }
+    requires row_lt_count { (row < on.now.count) × (p < n) × HasRow n marks.old row }
+    requires ended { Ended on.now.count on.now.heads.now on.now.nexts.now }
+    requires list_fits { ListFits on.now.count n todo.old }
+    ensures joins { Joins n (Sides row true p (Bits ticks.this) (Bits ticks.other)) marks.old marks.new (one_if result.changed) }
     ensures reads { Reads n marks.new p row true result.words.this result.words.other }
-    ensures queues_if { QueuesIf (LookItems (per count) heads.now nexts.now n row p m) todo.old todo.new result.changed }
+    ensures queues_if { QueuesIf (LookItems (per on.now.count) on.now.heads.now on.now.nexts.now n row p m) todo.old todo.new (one_if result.changed) }
 {
-    let j = store_own(count, n, p, row, true, ticks, heads, nexts, todo, marks);
-    if j.changed != 0 {
-        let stride = (count + 63) / 64;
+    let j = store_own(on, n, p, row, true, ticks, todo, marks);
+    if j.changed {
+        let stride = (on.count + 63) / 64;
         enter_before(todo, stride, n, m, row);
     }
     j

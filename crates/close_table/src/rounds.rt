@@ -4,10 +4,10 @@ ghost use Rattle.std.specs.Prelude.{◌≡◌, false, ◌↔◌, ℕ, ◌+◌, �
 ghost use Rattle.close_table.specs.Closes.{ClosesAll};
 ghost use Rattle.close_table.specs.Rounds.{InColumn, InColumns, turn};
 ghost use Rattle.close_list.specs.Items.{SettledOffList};
-ghost use Rattle.close_list.specs.Workable.{Workable, Closable};
+ghost use Rattle.close_list.specs.Workable.{CanWork, Closable};
 ghost use Rattle.close_word.specs.VisitSeries.{WorksList};
 
-use close_list::start;
+use close_list::{Closing, start};
 use close_parents::{EDGES, link_rows};
 use close_word::work_word;
 use spec_limits::ROWS;
@@ -24,50 +24,25 @@ fn turned(up: bool, m: usize, i: usize) -> usize
 }
 
 // Visits the items of word q, in its words of the list from below or, if not `up`, from above.
-fn work_column(
-    up: bool,
-    rows: &[u64],
-    count: usize,
-    q: usize,
-    n: usize,
-    window: usize,
-    heads: &[u16],
-    nexts: &[u16],
-    todo: &mut [u64],
-    marks: &mut [u64],
-)
-    requires workable { Workable count n window rows.now heads.now nexts.now todo.old marks.old }
+fn work_column(on: &Closing, n: usize, up: bool, q: usize, todo: &mut [u64], marks: &mut [u64])
+    requires workable { CanWork on.now n todo.old marks.old }
     requires q_lt_n { q < n }
-    ensures { WorksList count rows.now window n (InColumn count q) marks.old marks.new todo.old todo.new }
+    ensures { WorksList on.now.count on.now.rows.now on.now.window n (InColumn on.now.count q) marks.old marks.new todo.old todo.new }
 {
-    let stride = (count + 63) / 64;
-    let mut i: usize = 0;
-    while i < stride {
+    let stride = (on.count + 63) / 64;
+    for i in 0..stride {
         let j = turned(up, stride, i);
-        work_word(rows, count, j, q, n, window, heads, nexts, todo, marks);
-        i += 1;
+        work_word(on, n, j, q, todo, marks);
     }
 }
 
 // Visits the items of every word; `up` is as in `work_column`.
-fn work_round(
-    up: bool,
-    rows: &[u64],
-    count: usize,
-    n: usize,
-    window: usize,
-    heads: &[u16],
-    nexts: &[u16],
-    todo: &mut [u64],
-    marks: &mut [u64],
-)
-    requires { Workable count n window rows.now heads.now nexts.now todo.old marks.old }
-    ensures { WorksList count rows.now window n (InColumns count n) marks.old marks.new todo.old todo.new }
+fn work_round(on: &Closing, n: usize, up: bool, todo: &mut [u64], marks: &mut [u64])
+    requires { CanWork on.now n todo.old marks.old }
+    ensures { WorksList on.now.count on.now.rows.now on.now.window n (InColumns on.now.count n) marks.old marks.new todo.old todo.new }
 {
-    let mut q: usize = 0;
-    while q < n {
-        work_column(up, rows, count, q, n, window, heads, nexts, todo, marks);
-        q += 1;
+    for q in 0..n {
+        work_column(on, n, up, q, todo, marks);
     }
 }
 
@@ -76,59 +51,34 @@ fn items_left(todo: &[u64], m: usize) -> bool
     requires { m ≤ length todo.now }
     ensures { (result ≡ false) ↔ ((j : ℕ) → j < m → get_or todo.now j 0 ≡ 0) }
 {
-    let mut j: usize = 0;
-    while j < m {
-        if todo[j] != 0 {
-            return true;
-        }
-        j += 1;
-    }
-    false
+    todo[..m].iter().any(|w| *w != 0)
 }
 
 // Rounds until no item is left: every row is settled in every word then. They go up and down in turn: what goes down from the tops meets so what goes up
 // from the readings.
-fn work_off(
-    rows: &[u64],
-    count: usize,
-    n: usize,
-    window: usize,
-    heads: &[u16],
-    nexts: &[u16],
-    todo: &mut [u64],
-    marks: &mut [u64],
-)
-    requires workable { Workable count n window rows.now heads.now nexts.now todo.old marks.old }
-    requires settled_off_list { SettledOffList count rows.now window n marks.old todo.old }
-    ensures { ClosesAll count rows.now window n marks.old marks.new }
+fn work_off(on: &Closing, n: usize, todo: &mut [u64], marks: &mut [u64])
+    requires workable { CanWork on.now n todo.old marks.old }
+    requires settled_off_list { SettledOffList on.now.count on.now.rows.now on.now.window n marks.old todo.old }
+    ensures { ClosesAll on.now.count on.now.rows.now on.now.window n marks.old marks.new }
 {
-    let m = (count + 63) / 64 * n;
+    let m = (on.count + 63) / 64 * n;
     let mut go = true;
     let mut up = false;
     while go {
         up = !up;
-        work_round(up, rows, count, n, window, heads, nexts, todo, marks);
+        work_round(on, n, up, todo, marks);
         go = items_left(todo, m);
     }
 }
 
 // Closes the table under the rules, although a clash appears: it has every consequence of its marks then, and no other mark.
 // The list is lent, empty at best: an item that it holds before costs a visit and changes nothing else. The lists of parents are made already.
-pub fn close_linked(
-    rows: &[u64],
-    count: usize,
-    n: usize,
-    window: usize,
-    heads: &[u16],
-    nexts: &[u16],
-    todo: &mut [u64],
-    marks: &mut [u64],
-)
-    requires { Workable count n window rows.now heads.now nexts.now todo.old marks.old }
-    ensures { ClosesAll count rows.now window n marks.old marks.new }
+pub fn close_linked(on: &Closing, n: usize, todo: &mut [u64], marks: &mut [u64])
+    requires { CanWork on.now n todo.old marks.old }
+    ensures { ClosesAll on.now.count on.now.rows.now on.now.window n marks.old marks.new }
 {
-    start(rows, count, n, heads, nexts, todo, marks);
-    work_off(rows, count, n, window, heads, nexts, todo, marks);
+    start(on, n, todo, marks);
+    work_off(on, n, todo, marks);
 }
 
 // The same, with lists of parents of its own.
@@ -146,5 +96,12 @@ pub fn close(
     let mut heads = [0u16; ROWS];
     let mut nexts = [1u16; EDGES];
     link_rows(rows, count, &mut heads, &mut nexts);
-    close_linked(rows, count, n, window, &heads, &nexts, todo, marks);
+    let on = Closing {
+        rows,
+        count,
+        window,
+        heads: &heads,
+        nexts: &nexts,
+    };
+    close_linked(&on, n, todo, marks);
 }

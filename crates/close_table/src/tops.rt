@@ -7,7 +7,7 @@ ghost use Rattle.close_table.specs.Closes.{RowTrue, TopMarks, ClosesWithTops};
 ghost use Rattle.close_list.specs.Workable.{Workable, Closable};
 
 use crate::rounds::{close, close_linked};
-use close_parents::index;
+use close_list::Closing;
 use table_words::{add_word, window_word};
 
 // Marks a row true at every tick of the window.
@@ -15,11 +15,9 @@ fn mark_true(marks: &mut [u64], n: usize, row: usize, window: usize)
     requires { (n ≡ words window) × HasRow n marks.old row }
     ensures { AddsMarks n (RowTrue window row) marks.old marks.new }
 {
-    let mut q: usize = 0;
-    while q < n {
+    for q in 0..n {
         let ticks = window_word(window, q);
         add_word(marks, n, q, row, true, ticks);
-        q += 1;
     }
 }
 
@@ -29,11 +27,8 @@ pub fn mark_tops(tops: &[u16], k: usize, n: usize, window: usize, marks: &mut [u
     requires by_index { (i : ℕ) → i < k → HasRow n marks.old (get_or tops.now i 0) }
     ensures { AddsMarks n (TopMarks window tops.now k) marks.old marks.new }
 {
-    let mut i: usize = 0;
-    while i < k {
-        let row = index(tops[i]);
-        mark_true(marks, n, row, window);
-        i += 1;
+    for top in &tops[..k] {
+        mark_true(marks, n, *top as usize, window);
     }
 }
 
@@ -55,7 +50,14 @@ pub fn close_linked_with_tops(
     ensures { ClosesWithTops count rows.now tops.now k window n marks.old marks.new }
 {
     mark_tops(tops, k, n, window, marks);
-    close_linked(rows, count, n, window, heads, nexts, todo, marks);
+    let on = Closing {
+        rows,
+        count,
+        window,
+        heads,
+        nexts,
+    };
+    close_linked(&on, n, todo, marks);
 }
 
 // The same, with lists of parents of its own.

@@ -8,11 +8,13 @@ ghost use Rattle.spec_ticks.specs.Ticks.{Has};
 ghost use Rattle.close_rules.specs.Codes.{LooksAt};
 ghost use Rattle.close_looks.specs.Parts.{Sees, GatheredFor};
 ghost use Rattle.close_list.specs.Items.{per};
-ghost use Rattle.close_list.specs.Workable.{Workable};
+ghost use Rattle.close_list.specs.Workable.{CanWork};
 ghost use Rattle.close_word.specs.VisitSeries.{ItemAt, WorksList, OneWord, TakesOff, TakesOffLook};
 
 use close_gates::visit;
+use close_list::Closing;
 use close_looks::{Child, child_at, visit_look};
+use close_rules::{Kind, kind_of};
 use close_store::store_child;
 use spec_limits::{ABOVE, KINDS};
 use table_words::Words;
@@ -58,125 +60,95 @@ fn next_look(rows: &[u64], start: usize, word: u64, from: u64, kind: u64) -> u64
 
 // Visits the look at `child` that bit k of word j of the list stands for, and takes it off the list after that. What it gives the child is joined to `given`.
 fn take_look(
-    rows: &[u64],
-    count: usize,
+    on: &Closing,
+    n: usize,
     i: usize,
     j: usize,
     k: u64,
-    n: usize,
-    window: usize,
     child: Child,
     given: Words,
-    heads: &[u16],
-    nexts: &[u16],
     todo: &mut [u64],
     marks: &mut [u64],
 ) -> Words
-    requires workable { Workable count n window rows.now heads.now nexts.now todo.old marks.old }
-    requires item_at { ItemAt count n child.q i j k todo.old × LooksAt rows.now (64 * i + k) child.row }
-    requires sees { Sees n window marks.old child }
-    ensures takes_off_look { TakesOffLook count rows.now window n j (GatheredFor child given) (GatheredFor child result) marks.old marks.new todo.old todo.new }
-    ensures sees_2 { Sees n window marks.new child }
+    requires workable { CanWork on.now n todo.old marks.old }
+    requires item_at { ItemAt on.now.count n child.q i j k todo.old × LooksAt on.now.rows.now (64 * i + k) child.row }
+    requires sees { Sees n on.now.window marks.old child }
+    ensures takes_off_look { TakesOffLook on.now.count on.now.rows.now on.now.window n j (GatheredFor child given) (GatheredFor child result) marks.old marks.new todo.old todo.new }
+    ensures sees_still { Sees n on.now.window marks.new child }
 {
     let row = 64 * i + (k as usize);
-    let offset = rows[row] / ABOVE;
-    let g = visit_look(
-        rows, count, row, n, window, child, offset, given, heads, nexts, todo, marks,
-    );
+    let offset = on.rows[row] / ABOVE;
+    let g = visit_look(on, n, row, child, offset, given, todo, marks);
     clear_bit(todo, j, k);
     g
 }
 
 // Visits the looks at one row whose bits follow each other in word j of the list, from bit `first` on. What they give the row is marked once, after them.
 fn take_looks(
-    rows: &[u64],
-    count: usize,
+    on: &Closing,
+    n: usize,
     i: usize,
     j: usize,
     first: u64,
     q: usize,
-    n: usize,
-    window: usize,
-    heads: &[u16],
-    nexts: &[u16],
     todo: &mut [u64],
     marks: &mut [u64],
 )
-    requires workable { Workable count n window rows.now heads.now nexts.now todo.old marks.old }
-    requires item_at { ItemAt count n q i j first todo.old × (get_or rows.now (64 * i + first) 0 % code_kinds ≡ 3) }
-    ensures { TakesOff count rows.now window n j marks.old marks.new todo.old todo.new }
+    requires workable { CanWork on.now n todo.old marks.old }
+    requires item_at { ItemAt on.now.count n q i j first todo.old × (get_or on.now.rows.now (64 * i + first) 0 % code_kinds ≡ 3) }
+    ensures { TakesOff on.now.count on.now.rows.now on.now.window n j marks.old marks.new todo.old todo.new }
 {
     let start = 64 * i;
-    let kind = rows[start + (first as usize)] % ABOVE;
+    let kind = on.rows[start + (first as usize)] % ABOVE;
     let c = (kind / KINDS) as usize;
-    let child = child_at(marks, n, q, c, window);
+    let child = child_at(marks, n, q, c, on.window);
     let mut given = Words { this: 0, other: 0 };
     let mut k = first;
     while k < 64 {
-        given = take_look(
-            rows, count, i, j, k, n, window, child, given, heads, nexts, todo, marks,
-        );
-        k = next_look(rows, start, todo[j], k, kind);
+        given = take_look(on, n, i, j, k, child, given, todo, marks);
+        k = next_look(on.rows, start, todo[j], k, kind);
     }
-    store_child(rows, count, n, q, c, true, given, heads, nexts, todo, marks);
+    store_child(on, n, q, c, true, given, todo, marks);
 }
 
 // Visits the item that bit k of word j of the list stands for, and takes it off the list after that; of a look also the looks at the same row after it.
 fn take(
-    rows: &[u64],
-    count: usize,
+    on: &Closing,
+    n: usize,
     i: usize,
     j: usize,
     k: u64,
     q: usize,
-    n: usize,
-    window: usize,
-    heads: &[u16],
-    nexts: &[u16],
     todo: &mut [u64],
     marks: &mut [u64],
 )
-    requires workable { Workable count n window rows.now heads.now nexts.now todo.old marks.old }
-    requires item_at { ItemAt count n q i j k todo.old }
-    ensures { TakesOff count rows.now window n j marks.old marks.new todo.old todo.new }
+    requires workable { CanWork on.now n todo.old marks.old }
+    requires item_at { ItemAt on.now.count n q i j k todo.old }
+    ensures { TakesOff on.now.count on.now.rows.now on.now.window n j marks.old marks.new todo.old todo.new }
 {
     let row = 64 * i + (k as usize);
-    let w = rows[row];
-    if w % KINDS == 3 {
-        take_looks(
-            rows, count, i, j, k, q, n, window, heads, nexts, todo, marks,
-        );
-        return;
+    let w = on.rows[row];
+    match kind_of(w) {
+        Kind::Look => take_looks(on, n, i, j, k, q, todo, marks),
+        _ => {
+            visit(on, n, row, w, q, todo, marks);
+            clear_bit(todo, j, k);
+        }
     }
-    visit(rows, count, row, w, q, n, window, heads, nexts, todo, marks);
-    clear_bit(todo, j, k);
 }
 
 // Visits the items of word q in its i-th word of the list, round and round, until none is left there.
-pub fn work_word(
-    rows: &[u64],
-    count: usize,
-    i: usize,
-    q: usize,
-    n: usize,
-    window: usize,
-    heads: &[u16],
-    nexts: &[u16],
-    todo: &mut [u64],
-    marks: &mut [u64],
-)
-    requires workable { Workable count n window rows.now heads.now nexts.now todo.old marks.old }
-    requires q_lt_n { (q < n) × (i < per count) }
-    ensures { WorksList count rows.now window n (OneWord (q * per count + i)) marks.old marks.new todo.old todo.new }
+pub fn work_word(on: &Closing, n: usize, i: usize, q: usize, todo: &mut [u64], marks: &mut [u64])
+    requires workable { CanWork on.now n todo.old marks.old }
+    requires q_lt_n { (q < n) × (i < per on.now.count) }
+    ensures { WorksList on.now.count on.now.rows.now on.now.window n (OneWord (q * per on.now.count + i)) marks.old marks.new todo.old todo.new }
 {
-    let stride = (count + 63) / 64;
+    let stride = (on.count + 63) / 64;
     let j = q * stride + i;
     let mut from: u64 = 0;
     while todo[j] != 0 {
         let k = next_bit(todo[j], from);
-        take(
-            rows, count, i, j, k, q, n, window, heads, nexts, todo, marks,
-        );
+        take(on, n, i, j, k, q, todo, marks);
         from = k;
     }
 }

@@ -44,10 +44,8 @@ pub fn word_changes(table: &[u64], n: usize, q: usize, k: usize) -> u64
     ensures { Ticks q result (Changes n table.now k) }
 {
     let mut ticks: u64 = 0;
-    let mut row = 0;
-    while row < k {
-        ticks = ticks | row_changes(table, n, q, row);
-        row += 1;
+    for row in 0..k {
+        ticks |= row_changes(table, n, q, row);
     }
     ticks
 }

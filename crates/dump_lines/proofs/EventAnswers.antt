@@ -13,20 +13,15 @@ use Rattle.read_lines.specs.Lines.{ranged_line}
 use Rattle.spec_dump.specs.DumpTexts.{time}
 use Rattle.spec_dump.specs.DumpLines.{sign_line, time_line, asked, event_at}
 
--- The line of a time. c is the refusal of a tick outside the window.
-module _ (W : ℕ) (d : List ℕ) (u p : ℕ) {c : ℕ} where
-  pub time_refused : {n q : ℕ} → ranged_line d p (bytes "#") 22 c 0 (W - 1) ≡ refused n q → c ≡ 13 → refused n q ≡ time_line W d u p
+-- The line of a time that was read: whether it is after u.
+module _ (W : ℕ) (d : List ℕ) (u p : ℕ) {t q : ℕ} (a : ranged_line d p (bytes "#") 22 13 0 (W - 1) ≡ got t q) where
+  pub time_is : u < t → got (time t) q ≡ time_line W d u p
   unfolding time_line
-  time_refused a thirteen = rw (rw thirteen at a)
+  time_is h = rw (a, lt-ltb u t h)
 
-  module _ {t q : ℕ} (a : ranged_line d p (bytes "#") 22 c 0 (W - 1) ≡ got t q) (thirteen : c ≡ 13) where
-    pub time_is : u < t → got (time t) q ≡ time_line W d u p
-    unfolding time_line
-    time_is h = rw (rw thirteen at a, lt-ltb u t h)
-
-    pub time_past : t ≤ u → refused 22 p ≡ time_line W d u p
-    unfolding time_line
-    time_past h = rw (rw thirteen at a, le-ltb u t h)
+  pub time_past : t ≤ u → refused 22 p ≡ time_line W d u p
+  unfolding time_line
+  time_past h = rw (a, le-ltb u t h)
 
 -- Where a sign is asked for, there is a signal that has none yet.
 pub asked_more : (N u k : ℕ) → asked N u k ≡ true → k < N

@@ -1,6 +1,6 @@
 -- The lines of the signals, one after the other: what is left to read after some of them.
 -- Assumes nothing.
-use mathlib.Core.Path.{◌≡◌, ap, ◌∙◌}
+use mathlib.Core.Path.{◌≡◌, sym, ap, ◌∙◌}
 use mathlib.Core.List.{List}
 use Prim.Native.Nat.{ℕ, suc, ◌+◌, ◌-◌, ◌<◌, ◌≤◌}
 use native.Mathlib.Numerals.{add-one}
@@ -18,13 +18,12 @@ use Rattle.dump_lines.proofs.HeadPlaces.{var_stays}
 -- After the lines of the first x of n signals, what is left to read from `at` on is what is to be read from p on.
 pub record VarsTo (names : List (List ℕ)) (d : List ℕ) (n p x at : ℕ) : Type 0 where
   pub left : var_lines names d (n - x) x at ≡ var_lines names d n 0 p
-  pub most : x ≤ n
   pub inside : at ≤ length d
 
 pub vars_none : {names : List (List ℕ)} {d : List ℕ} {n p : ℕ} → p ≤ length d → VarsTo names d n p 0 p
 vars_none {names} {d} {n} {p} h =
     let z : n - 0 ≡ n = omega arith in
-    record { left = ap (λ k. var_lines names d k 0 p) z; most = omega arith; inside = h }
+    record { left = ap (λ k. var_lines names d k 0 p) z; inside = h }
 
 module _ {names : List (List ℕ)} {d : List ℕ} {n p x at : ℕ} (h : VarsTo names d n p x at) where
   -- One is left.
@@ -39,7 +38,6 @@ module _ {names : List (List ℕ)} {d : List ℕ} {n p x at : ℕ} (h : VarsTo n
     vars_one e =
         record {
           left = rw add-one (rw e at one_left);
-          most = omega arith;
           inside = (stays_got Any (length d) (var_stays names d x at h.inside) e).1;
         }
 
@@ -48,11 +46,11 @@ module _ {names : List (List ℕ)} {d : List ℕ} {n p x at : ℕ} (h : VarsTo n
     vars_off e = hand_on _ e ∙ one_left
 
   -- None is left.
-  pub vars_all : n ≤ x → got x at ≡ var_lines names d n 0 p
+  pub vars_all : x ≡ n → got n at ≡ var_lines names d n 0 p
   unfolding var_lines
-  vars_all l =
+  vars_all i =
       let z : n - x ≡ 0 = omega arith in
-      rw z at h.left
+      ap (λ y. got y at) (sym i) ∙ (rw z at h.left)
 
 -- The names of an index are as many as it has places.
 pub vars_counted : (s T d : List ℕ) (q : ℕ) {R : Read ℕ} → R ≡ var_lines (names_in s T) d (name_count T) 0 q → R ≡ var_lines (names_in s T) d (length (names_in s T)) 0 q

@@ -1,2 +1,3 @@
 -- The definitions that the contracts cite.
+pub mod PlaceSays
 pub mod EventSays

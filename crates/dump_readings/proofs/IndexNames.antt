@@ -5,6 +5,8 @@ use mathlib.Core.List.{List}
 use Prim.Native.Nat.{ℕ, suc, ◌≤◌}
 use native.Mathlib.Omega.{arith}
 use lib.ListN.{length, take, drop, length-drop}
+use Rattle.std.specs.Prelude.{Result}
+use Rattle.spec_refusals.specs.declared.Refusal.{Refusal}
 use Rattle.spec_limits.specs.Limits.{most_signals, most_name_bytes}
 use Rattle.spec_tilco.proofs.Lists.{all_weaker}
 use Rattle.read_names.specs.Spellings.{names_at}
@@ -12,7 +14,6 @@ use Rattle.read_names.proofs.Names.{names_many}
 use Rattle.read_index.specs.NameTexts.{NameText}
 use Rattle.read_index.specs.Index.{links, name_count, names_in, IndexOf}
 use Rattle.read_index.proofs.Places.{places_part_lem}
-use Rattle.read_lines.specs.declared.Step.{Step}
 use Rattle.spec_dump.specs.DumpLines.{events_from}
 use Rattle.dump_readings.specs.HeldSigns.{CanHold}
 use Rattle.dump_readings.specs.TakenEvents.{EventsTaken}
@@ -35,6 +36,6 @@ module _ (s T : List ℕ) where
     signed = omega (arith, names_many s (places_part T), few_names i);
   }
 
-  pub of_index : (W : ℕ) (d : List ℕ) (p : ℕ) {m m' : List ℕ} {r : Step} → EventsTaken (events_from W (length (places_part T)) d (suc (length d)) 0 0 p) (names_at s (places_part T)) W m m' r
+  pub of_index : (W : ℕ) (d : List ℕ) (p : ℕ) {m m' : List ℕ} {r : Result ℕ Refusal} → EventsTaken (events_from W (length (places_part T)) d (suc (length d)) 0 0 p) (names_at s (places_part T)) W m m' r
       → EventsTaken (events_from W (name_count T) d (suc (length d)) 0 0 p) (names_in s T) W m m' r
   of_index W d p t = rw (places_length, places_part_lem) at t

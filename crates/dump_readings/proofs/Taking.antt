@@ -9,14 +9,16 @@ use native.Mathlib.Numerals.{add-one}
 use native.Mathlib.Omega.{arith}
 use lib.Dec.{ltb}
 use lib.ListN.{length, set, length-set, replicate, length-replicate, get_or-replicate}
+use Rattle.std.specs.Prelude.{Result, Ok, Err}
+use Rattle.spec_refusals.specs.declared.Refusal.{Refusal}
+use Rattle.spec_refusals.specs.Numbers.{fault_number}
 use Rattle.spec_limits.specs.Limits.{most_signals}
 use Rattle.read_bytes.specs.Read.{Read, and_then}
 use Rattle.read_bytes.specs.Read.Read.{got, refused}
 use Rattle.read_bytes.specs.Bytes.{byte}
-use Rattle.read_lines.specs.declared.Step.{Step}
-use Rattle.read_lines.specs.declared.Step.TheVariants.{Got, Refused}
+use Rattle.read_bytes.proofs.Answers.{answered}
 use Rattle.write_bytes.specs.Writes.{Wrote}
-use Rattle.write_bytes.proofs.Writing.{like, and_then_lem}
+use Rattle.write_bytes.proofs.Writing.{wrote_like, wrote_then}
 use Rattle.write_readings.specs.EntryTexts.{entries_text}
 use Rattle.write_readings.proofs.WholeTexts.{entries_append}
 use Rattle.spec_dump.specs.DumpTexts.{Event, time, sign}
@@ -24,6 +26,8 @@ use Rattle.spec_dump.specs.DumpLines.{asked, event_at, time_after, signal_after,
 use Rattle.spec_dump.specs.DumpSigns.{sign_at_lem, dump_sign, sign_readings}
 use Rattle.spec_dump.specs.Dumps.{readings_text}
 use Rattle.spec_dump.proofs.SignReadings.{readings_as}
+use Rattle.dump_lines.specs.declared.events.Event.{Event as Said}
+use Rattle.dump_lines.specs.EventSays.{event_of}
 use Rattle.dump_lines.proofs.EventPlaces.{EventGot, event_got}
 use Rattle.dump_readings.specs.HeldSigns.{held, held_text, most_tick_bytes}
 use Rattle.dump_readings.specs.TakenEvents.{EventsTaken}
@@ -34,10 +38,14 @@ use Rattle.dump_readings.proofs.SignsHeld.{signs_after, to_come, none_come, time
 abbrev text_to_come : List (List ℕ) → ℕ → ℕ → List ℕ → List Event → List ℕ
 text_to_come names W u signs es = entries_text false names (to_come (length names) W u signs es)
 
+-- What is read is what an event of the code says.
+pub event_as : {R : Read Event} {e x : Said} {q : ℕ} → got (event_of e) q ≡ R → e ≡ x → R ≡ got (event_of x) q
+event_as {q = q} h g = answered (λ e. got (event_of e) q) h g
+
 -- Of events that are read to R, what is still owed: the text of their readings, or the refusal.
-pub data Owed (R : Read (List Event)) (names : List (List ℕ)) (W u : ℕ) (signs : List ℕ) (used : ℕ) (m m' : List ℕ) : Step → Type 0 where
-  left : {es : List Event} {q v w : ℕ} → R ≡ got es q → Wrote (text_to_come names W u signs es) used m m' v → Owed R names W u signs used m m' (Got v w)
-  refused_there : {n p : ℕ} → R ≡ refused n p → Owed R names W u signs used m m' (Refused n p)
+pub data Owed (R : Read (List Event)) (names : List (List ℕ)) (W u : ℕ) (signs : List ℕ) (used : ℕ) (m m' : List ℕ) : Result ℕ Refusal → Type 0 where
+  left : {es : List Event} {q v : ℕ} → R ≡ got es q → Wrote (text_to_come names W u signs es) used m m' v → Owed R names W u signs used m m' (Ok v)
+  refused_there : {r : Refusal} → R ≡ refused (fault_number r.fault) r.place → Owed R names W u signs used m m' (Err r)
 
 -- Whatever gives what is owed here has taken all events.
 pub record Takes (W N : ℕ) (names : List (List ℕ)) (d : List ℕ) (p : ℕ) (m signs m₁ : List ℕ) (used u k at : ℕ) : Type 0 where
@@ -49,7 +57,7 @@ pub record Takes (W N : ℕ) (names : List (List ℕ)) (d : List ℕ) (p : ℕ) 
   pub follow : k ≤ N
   pub low : u < W
   pub room : used ≤ most_tick_bytes * u
-  pub gives : {m' : List ℕ} {r : Step} → Owed (events_from W N d fuel u k at) names W u signs used m₁ m' r → EventsTaken (events_from W N d (suc (length d)) 0 0 p) names W m m' r
+  pub gives : {m' : List ℕ} {r : Result ℕ Refusal} → Owed (events_from W N d fuel u k at) names W u signs used m₁ m' r → EventsTaken (events_from W N d (suc (length d)) 0 0 p) names W m m' r
 
 -- Is there a line more?
 abbrev pub more : ℕ → List ℕ → ℕ → ℕ → ℕ → Bool
@@ -74,32 +82,32 @@ record TextFirst (names : List (List ℕ)) (W : ℕ) (e : Event) (u : ℕ) (sign
   pub first : (es : List Event) {m' : List ℕ} {v : ℕ} → Wrote (text_to_come names W (time_after u e) signs₁ es) used₁ m₁ m' v → Wrote (text_to_come names W u signs (e ∷ es)) used m m' v
 
 -- What is owed after an event gives what is owed before it.
-event_owed : {names : List (List ℕ)} {W u : ℕ} {signs : List ℕ} {used : ℕ} {m signs₁ : List ℕ} {used₁ : ℕ} {m₁ m' : List ℕ} {R S : Read (List Event)} {r : Step} (e : Event)
+event_owed : {names : List (List ℕ)} {W u : ℕ} {signs : List ℕ} {used : ℕ} {m signs₁ : List ℕ} {used₁ : ℕ} {m₁ m' : List ℕ} {R S : Read (List Event)} {r : Result ℕ Refusal} (e : Event)
     → S ≡ and_then R (λ es q. got (e ∷ es) q) → TextFirst names W e u signs used m signs₁ used₁ m₁ → Owed R names W (time_after u e) signs₁ used₁ m₁ m' r → Owed S names W u signs used m m' r
 event_owed e g t (left {es} {q} h w) = left {es = e ∷ es} {q = q} (g ∙ rw h) (t.first es w)
-event_owed e g t (refused_there {n} {p} h) = refused_there {n = n} {p = p} (g ∙ rw h)
+event_owed e g t (refused_there {r} h) = refused_there {r = r} (g ∙ rw h)
 
 -- A sign is put among those held; before a time those held are written.
 sign_first : {names : List (List ℕ)} {W u : ℕ} {signs : List ℕ} {used : ℕ} {m : List ℕ} (x b : ℕ) → x < length signs → TextFirst names W (sign x b) u signs used m (set signs x b) used m
-sign_first {names} {W} {u} {signs} x b h = record { first = λ es w. like (ap (entries_text false names) (sign_comes (length names) W u signs x b es h)) w }
+sign_first {names} {W} {u} {signs} x b h = record { first = λ es w. wrote_like (ap (entries_text false names) (sign_comes (length names) W u signs x b es h)) w }
 
 time_first : {names : List (List ℕ)} {W u : ℕ} {signs : List ℕ} {used : ℕ} {m m₁ : List ℕ} {v t : ℕ} → u ≤ t → t ≤ W → Wrote (held_text names signs u t) used m m₁ v
     → TextFirst names W (time t) u signs used m signs v m₁
 time_first {names} {W} {u} {signs} {t = t} a b w = record {
-  first = λ es x. like (
+  first = λ es x. wrote_like (
       ap (entries_text false names) (time_comes (length names) W u signs t es a b)
       ∙ entries_append false names (sign_readings (held signs) (length names) u (t - u)) (to_come (length names) W t signs es)
-      ) (and_then_lem w x);
+      ) (wrote_then w x);
 }
 
 -- At the start all is owed, and no sign is settled.
-all_owed : {names : List (List ℕ)} {W : ℕ} {signs m m' : List ℕ} {R : Read (List Event)} {r : Step} → signs ≡ replicate most_signals (byte "x") → length names ≤ most_signals
+all_owed : {names : List (List ℕ)} {W : ℕ} {signs m m' : List ℕ} {R : Read (List Event)} {r : Result ℕ Refusal} → signs ≡ replicate most_signals (byte "x") → length names ≤ most_signals
     → Owed R names W 0 signs 0 m m' r → EventsTaken R names W m m' r
 unfolding readings_text
 all_owed {names} {W} {signs} e few (left {es} g w) =
     let all : W - 0 ≡ W = omega arith in
     let same = readings_as (dump_sign es) (signs_after signs es) (length names) 0 W (λ x l t a b. ap (λ (z : ℕ). sign_at_lem x t z es) (rw (e, get_or-replicate most_signals x (byte "x") 0 (omega arith)))) in
-    all_taken g (like (ap (entries_text false names) same) (rw all at w))
+    all_taken g (wrote_like (ap (entries_text false names) same) (rw all at w))
 all_owed e few (refused_there g) = refused_at g
 
 -- An event that may follow leaves the time in the window, and the next signal is one or none.
@@ -110,8 +118,8 @@ after_event (sign x b) l f = (l, omega (arith, f.fits.high))
 -- ---- the loop
 
 module _ {W N : ℕ} {names : List (List ℕ)} {d : List ℕ} {p : ℕ} {m : List ℕ} where
-  pub takes_start : {signs : List ℕ} → signs ≡ replicate most_signals (byte "x") → length names ≡ N → N ≤ most_signals → 1 ≤ W → p ≤ length d → Takes W N names d p m signs m 0 0 0 p
-  takes_start e same few w h = record {
+  pub takes_start : {signs : List ℕ} {used : ℕ} → used ≡ 0 → signs ≡ replicate most_signals (byte "x") → length names ≡ N → N ≤ most_signals → 1 ≤ W → p ≤ length d → Takes W N names d p m signs m used 0 0 p
+  takes_start z e same few w h = rw z (record {
     fuel = suc (length d);
     enough = omega arith;
     inside = h;
@@ -121,12 +129,12 @@ module _ {W N : ℕ} {names : List (List ℕ)} {d : List ℕ} {p : ℕ} {m : Lis
     low = w;
     room = omega arith;
     gives = λ o. all_owed e (omega arith) o;
-  }
+  })
 
   module _ {signs m₁ : List ℕ} {used u k at : ℕ} (z : Takes W N names d p m signs m₁ used u k at) where
     -- At the end the signs are held up to the window's end.
-    pub takes_end : {m₂ : List ℕ} {v : ℕ} → more N d u k at ≡ false → Wrote (held_text names signs u W) used m₁ m₂ v → EventsTaken (events_from W N d (suc (length d)) 0 0 p) names W m m₂ (Got v at)
-    takes_end h w = z.gives (left (events_end W N d u k at z.fuel h) (like (ap (entries_text false names) (none_come (length names) W u signs)) w))
+    pub takes_end : {m₂ : List ℕ} {v : ℕ} → more N d u k at ≡ false → Wrote (held_text names signs u W) used m₁ m₂ v → EventsTaken (events_from W N d (suc (length d)) 0 0 p) names W m m₂ (Ok v)
+    takes_end h w = z.gives (left (events_end W N d u k at z.fuel h) (wrote_like (ap (entries_text false names) (none_come (length names) W u signs)) w))
 
     -- What an event's numbers are good for: its sign has a place, its time is later, and the place after it is ahead.
     pub sign_inside : {x b q : ℕ} → event_at W N d u k at ≡ got (sign x b) q → x < length signs
@@ -140,8 +148,8 @@ module _ {W N : ℕ} {names : List (List ℕ)} {d : List ℕ} {p : ℕ} {m : Lis
 
     module _ (h : more N d u k at ≡ true) where
       -- A refusal is handed on.
-      pub takes_refusal : {n q : ℕ} → event_at W N d u k at ≡ refused n q → EventsTaken (events_from W N d (suc (length d)) 0 0 p) names W m m₁ (Refused n q)
-      takes_refusal {n} {q} e = z.gives (refused_there {n = n} {p = q} (events_next W N d u k at z.fuel (omega arith) h ∙ rw e))
+      pub takes_refusal : {r : Refusal} → event_at W N d u k at ≡ refused (fault_number r.fault) r.place → EventsTaken (events_from W N d (suc (length d)) 0 0 p) names W m m₁ (Err r)
+      takes_refusal {r} e = z.gives (refused_there {r = r} (events_next W N d u k at z.fuel (omega arith) h ∙ rw e))
 
       -- An event more.
       takes_event : {signs₁ m₂ : List ℕ} {used₁ : ℕ} {e : Event} {q : ℕ} → event_at W N d u k at ≡ got e q → length signs₁ ≡ most_signals → used₁ ≤ most_tick_bytes * time_after u e
@@ -168,3 +176,7 @@ module _ {W N : ℕ} {names : List (List ℕ)} {d : List ℕ} {p : ℕ} {m : Lis
       -- A time.
       pub takes_time : {t q v : ℕ} {m₂ : List ℕ} → event_at W N d u k at ≡ got (time t) q → Wrote (held_text names signs u t) used m₁ m₂ v → v ≤ most_tick_bytes * t → Takes W N names d p m signs m₂ v t 0 q
       takes_time g x r = takes_event g z.signed r (time_first (time_later g).0 (time_later g).1 x)
+
+-- In the lent buffer, under its own names, and the answer under its own.
+pub taken_there : {R : Read (List Event)} {names : List (List ℕ)} {W : ℕ} {m m₁ n n₁ : List ℕ} {r x : Result ℕ Refusal} → n ≡ m → n₁ ≡ m₁ → x ≡ r → EventsTaken R names W m m₁ r → EventsTaken R names W n n₁ x
+taken_there e f g t = rw (e, f, g) t

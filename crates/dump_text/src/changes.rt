@@ -2,7 +2,8 @@
 // Assumes that the table has the signals' rows, in words that cover the window, and that the places of a text can be counted.
 ghost use Rattle.std.specs.Prelude.{◌<◌};
 ghost use Rattle.spec_limits.specs.Limits.{most_signals};
-ghost use Rattle.write_bytes.specs.Writes.{Counted, Wrote};
+ghost use Rattle.write_bytes.specs.Writes.{Counted};
+ghost use Rattle.write_bytes.specs.Writers.{Writes};
 ghost use Rattle.spec_dump.specs.DumpTexts.{event_text};
 ghost use Rattle.spec_dump.specs.DumpTexts as line;
 ghost use Rattle.dump_changes.specs.WordSigns.{Changes};
@@ -10,128 +11,75 @@ ghost use Rattle.dump_text.specs.TableTexts.{CanDump, first_text, changes_text, 
 
 use dump_changes::{row_sign, word_changes};
 use table_words::window_word;
-use write_bytes::push;
+use write_bytes::Writer;
 use write_lines::write_number_line;
 
 // The line of a signal's sign.
-fn write_sign(signal: usize, sign: u8, out: &mut [u8], used: usize) -> usize
-    requires { (signal < most_signals) × Counted used (event_text (line.sign signal sign)) }
-    ensures { Wrote (event_text (line.sign signal sign)) used out.old out.new result }
+fn write_sign(w: &mut Writer, signal: usize, sign: u8)
+    requires { (signal < most_signals) × Counted w.old.used (event_text (line.sign signal sign)) }
+    ensures { Writes (event_text (line.sign signal sign)) w.old w.new }
 {
-    let id = push(sign, out, used);
-    let end = push((33 + signal) as u8, out, id);
-    push(b'\n', out, end)
+    let line = [sign, (33 + signal) as u8, b'\n'];
+    w.push_text(&line);
 }
 
 // Each signal's sign at tick 0.
-pub fn write_first(
-    table: &[u64],
-    n: usize,
-    k: usize,
-    window: usize,
-    out: &mut [u8],
-    used: usize,
-) -> usize
-    requires { CanDump k window n table.now × Counted used (first_text k n table.now 0) }
-    ensures { Wrote (first_text k n table.now 0) used out.old out.new result }
+pub fn write_first(w: &mut Writer, table: &[u64], n: usize, k: usize, window: usize)
+    requires { CanDump k window n table.now × Counted w.old.used (first_text k n table.now 0) }
+    ensures { Writes (first_text k n table.now 0) w.old w.new }
 {
-    let mut at = used;
-    let mut x = 0;
-    while x < k {
+    for x in 0..k {
         let sign = row_sign(table, n, x, 0);
-        at = write_sign(x, sign, out, at);
-        x += 1;
+        write_sign(w, x, sign);
     }
-    at
 }
 
 // The signs that change at a tick, of all signals.
-fn write_differing(
-    table: &[u64],
-    n: usize,
-    k: usize,
-    window: usize,
-    tick: usize,
-    out: &mut [u8],
-    used: usize,
-) -> usize
-    requires { CanDump k window n table.now × (tick < window) × Counted used (changes_text k n table.now tick 0) }
-    ensures { Wrote (changes_text k n table.now tick 0) used out.old out.new result }
+fn write_differing(w: &mut Writer, table: &[u64], n: usize, k: usize, window: usize, tick: usize)
+    requires { CanDump k window n table.now × (tick < window) × Counted w.old.used (changes_text k n table.now tick 0) }
+    ensures { Writes (changes_text k n table.now tick 0) w.old w.new }
 {
-    let earlier = if tick == 0 { 0 } else { tick - 1 };
-    let mut at = used;
-    let mut x = 0;
-    while x < k {
+    let earlier = tick.saturating_sub(1);
+    for x in 0..k {
         let sign = row_sign(table, n, x, tick);
         let old = row_sign(table, n, x, earlier);
         if sign != old {
-            at = write_sign(x, sign, out, at);
+            write_sign(w, x, sign);
         }
-        x += 1;
     }
-    at
 }
 
 // The time and the signs of a tick at which a sign changes.
-fn write_tick(
-    table: &[u64],
-    n: usize,
-    k: usize,
-    window: usize,
-    tick: usize,
-    out: &mut [u8],
-    used: usize,
-) -> usize
-    requires { CanDump k window n table.now × (tick < window) × Changes n table.now k tick × Counted used (tick_text k n table.now tick) }
-    ensures { Wrote (tick_text k n table.now tick) used out.old out.new result }
+fn write_tick(w: &mut Writer, table: &[u64], n: usize, k: usize, window: usize, tick: usize)
+    requires { CanDump k window n table.now × (tick < window) × Changes n table.now k tick × Counted w.old.used (tick_text k n table.now tick) }
+    ensures { Writes (tick_text k n table.now tick) w.old w.new }
 {
-    let signs = write_number_line(b"#", tick, out, used);
-    write_differing(table, n, k, window, tick, out, signs)
+    write_number_line(w, b"#", tick);
+    write_differing(w, table, n, k, window, tick);
 }
 
 // The changes at the ticks of word q: the lowest tick of those that are left is the next.
-fn write_word(
-    table: &[u64],
-    n: usize,
-    k: usize,
-    window: usize,
-    q: usize,
-    out: &mut [u8],
-    used: usize,
-) -> usize
-    requires { CanDump k window n table.now × (q < n) × Counted used (word_text k window n table.now q) }
-    ensures { Wrote (word_text k window n table.now q) used out.old out.new result }
+fn write_word(w: &mut Writer, table: &[u64], n: usize, k: usize, window: usize, q: usize)
+    requires { CanDump k window n table.now × (q < n) × Counted w.old.used (word_text k window n table.now q) }
+    ensures { Writes (word_text k window n table.now q) w.old w.new }
 {
     let mut left = word_changes(table, n, q, k) & window_word(window, q);
     let mut next = 64 * q;
-    let mut at = used;
     while left != 0 {
-        let b = u64::trailing_zeros(left) as usize;
+        let b = left.trailing_zeros() as usize;
         let tick = next + b;
-        at = write_tick(table, n, k, window, tick, out, at);
+        write_tick(w, table, n, k, window, tick);
         left = (left >> b) >> 1;
         next = tick + 1;
     }
-    at
 }
 
 // The changes at every tick, word by word.
-pub fn write_changes(
-    table: &[u64],
-    n: usize,
-    k: usize,
-    window: usize,
-    out: &mut [u8],
-    used: usize,
-) -> usize
-    requires { CanDump k window n table.now × Counted used (later_text k window n table.now 0) }
-    ensures { Wrote (later_text k window n table.now 0) used out.old out.new result }
+pub fn write_changes(w: &mut Writer, table: &[u64], n: usize, k: usize, window: usize)
+    requires { CanDump k window n table.now × Counted w.old.used (later_text k window n table.now 0) }
+    ensures { Writes (later_text k window n table.now 0) w.old w.new }
 {
-    let mut at = used;
-    let mut q = 0;
-    while q < n {
-        at = write_word(table, n, k, window, q, out, at);
-        q += 1;
+    for q in 0..n {
+        write_word(w, table, n, k, window, q);
     }
-    at
 }

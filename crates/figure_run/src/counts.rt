@@ -25,16 +25,14 @@ fn row_ticks(table: &[u64], n: usize, row: usize) -> RowTicks
     let mut held = 0;
     let mut failed = 0;
     let mut first = NO_TICK;
-    let mut q = n;
-    while 0 < q {
-        q -= 1;
+    for q in (0..n).rev() {
         let yes = word_at(table, n, q, row, true);
         let no = word_at(table, n, q, row, false);
-        held += u64::count_ones(yes) as u64;
-        failed += u64::count_ones(no) as u64;
+        held += yes.count_ones() as u64;
+        failed += no.count_ones() as u64;
         let marked = yes | no;
         if marked != 0 {
-            first = 64 * q as u64 + u64::trailing_zeros(marked) as u64;
+            first = 64 * q as u64 + marked.trailing_zeros() as u64;
         }
     }
     RowTicks {
@@ -84,11 +82,9 @@ pub fn count_run(words: &mut [u64], k: usize, table: &[u64], n: usize, window: u
     requires { CanCount k n window table.now clash words.old }
     ensures { RunCounted k n window table.now words.old words.new }
 {
-    let mut i = 0;
-    while i < k {
+    for i in 0..k {
         let r = record_in(words, i);
         let v = with_run(r, table, n, window, clash);
         put_record(words, i, v);
-        i += 1;
     }
 }

@@ -56,10 +56,7 @@ pub fn start_records(signals: &[u64], words: &mut [u64])
     requires { (record_words * length signals.now ≤ length words.old) × (record_words * length signals.now < 2 ^ 64) }
     ensures { Started signals.now words.old words.new }
 {
-    let mut i = 0;
-    while i < signals.len() {
-        let r = no_runs(signals[i]);
-        put_record(words, i, r);
-        i += 1;
+    for (i, x) in signals.iter().enumerate() {
+        put_record(words, i, no_runs(*x));
     }
 }

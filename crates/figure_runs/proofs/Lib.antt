@@ -1,5 +1,4 @@
 -- The laws, one idea a file, in the order in which they build on each other.
-pub mod Clearing
 pub mod Putting
 pub mod OpenedSheets
 pub mod Running

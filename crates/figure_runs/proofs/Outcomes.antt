@@ -6,6 +6,10 @@ use mathlib.Core.Logic.{◌↔◌}
 use Prim.Native.Nat.{ℕ, ◌*◌, ◌≤◌}
 use native.Mathlib.Omega.{arith}
 use lib.ListN.{length}
+use Rattle.std.specs.Prelude.{Result, Ok, Err}
+use Rattle.spec_refusals.specs.declared.Fault.TheVariants.{TableLength, Records, TextLengths}
+use Rattle.spec_refusals.specs.declared.Refusal.{Refusal}
+use Rattle.spec_refusals.specs.Numbers.{fault_number}
 use Rattle.read_bytes.specs.Read.Read.{got, refused as unread}
 use Rattle.read_names.specs.Spellings.{names_at}
 use Rattle.read_index.specs.Index.{places_in}
@@ -14,8 +18,6 @@ use Rattle.spec_tilco.specs.Lowering.{row_count_lem}
 use Rattle.spec_tilco.specs.Table.{words, table_words}
 use Rattle.close_parents.specs.Links.{Linked}
 use Rattle.read_sheet.specs.Sheet.{Contents, meant}
-use Rattle.read_readings.specs.declared.whole.Outcome.{Outcome}
-use Rattle.read_readings.specs.declared.whole.Outcome.TheVariants.{Accepted, Refused}
 use Rattle.open_sheet.specs.Results.{accepted, refused}
 use Rattle.open_table.proofs.Tables.{in_sheet}
 use Rattle.list_order.specs.Order.{in_order_lem}
@@ -32,9 +34,6 @@ use Rattle.figure_runs.proofs.OpenedSheets.{read_of_sheet}
 
 -- ---- the texts noted
 
-other_outcome : {n p : ℕ} → Accepted ≡ Refused n p → ⊥
-other_outcome e = let z : ◌≡◌ {A = ℕ} 0 1 = cc in omega arith
-
 -- What is known of texts that are all accepted.
 pub record AllNoted (names : List (List ℕ)) (W : ℕ) (ns j a cs : List ℕ) : Type 0 where
   pub marks : List (List Mark)
@@ -43,16 +42,11 @@ pub record AllNoted (names : List (List ℕ)) (W : ℕ) (ns j a cs : List ℕ) :
   pub notes : Kept names W ns j a cs
 
 module _ {names : List (List ℕ)} {W : ℕ} {ns j a cs : List ℕ} where
-  pub when_all_noted : {r : Outcome} → TextsNoted names W ns j a cs r → r ≡ Accepted → AllNoted names W ns j a cs
-  when_all_noted (all_noted mss q e k) x = record { marks = mss; place = q; hold = e; notes = k }
-  when_all_noted (refused_at n p e) x = absurd (other_outcome (sym x))
+  pub when_all_noted : {u : Unit {0}} → TextsNoted names W ns j a cs (Ok u) → AllNoted names W ns j a cs
+  when_all_noted (all_noted mss q e k) = record { marks = mss; place = q; hold = e; notes = k }
 
-  pub when_refused : {r : Outcome} {n p : ℕ} → TextsNoted names W ns j a cs r → r ≡ Refused n p → marks_from names W 0 (texts_in ns j) ≡ unread n p
-  when_refused (all_noted mss q e k) x = absurd (other_outcome x)
-  when_refused {n = n} {p = p} (refused_at m q e) x =
-      let i : m ≡ n = cc in
-      let h : q ≡ p = cc in
-      cc
+  pub when_refused : {r : Refusal} → TextsNoted names W ns j a cs (Err r) → marks_from names W 0 (texts_in ns j) ≡ unread (fault_number r.fault) r.place
+  when_refused (refused_at r e) = e
 
 -- So all of them can be run, with lists of parents that are made.
 pub all_runnable : {s names B tops j ns a cs H N D T ws part : List ℕ} {z : Sizes} → Runnable s names B tops z D T → Linked z.count B H N → LengthsFit ns (length j)
@@ -73,15 +67,15 @@ all_runnable {s} {ws = ws} r l fit n counts e fresh room = record {
 
 -- All of them are run.
 pub texts_run : {s names B tops j ns a cs T U ws : List ℕ} {z : Sizes} → OpenedFor s names B tops z → AllNoted (names_at s (places_in names)) z.window ns j a cs
-    → OfSheet s (λ l. (mss : List (List Mark)) → AllHold s j ns l mss → RunsTexts s mss U ws l) → OfSheet s (λ l. TextsRun s j ns T U ws l Accepted)
+    → OfSheet s (λ l. (mss : List (List Mark)) → AllHold s j ns l mss → RunsTexts s mss U ws l) → OfSheet s (λ l. TextsRun s j ns T U ws l (Ok tt))
 texts_run {j = j} {ns = ns} o n x l h =
     let e = read_of_sheet o (texts_in ns j) n.hold l h in
     all_run n.marks (n.place, e) (x l h n.marks (n.place, e))
 
 -- A text is refused, and the table keeps every word.
-pub texts_refused : {s names B tops j ns T ws : List ℕ} {z : Sizes} {n p : ℕ} → OpenedFor s names B tops z → marks_from (names_at s (places_in names)) z.window 0 (texts_in ns j) ≡ unread n p
-    → OfSheet s (λ l. TextsRun s j ns T T ws l (Refused n p))
-texts_refused {j = j} {ns = ns} {n = n} {p = p} o e l h = text-off n p (read_of_sheet o (texts_in ns j) e l h) refl
+pub texts_refused : {s names B tops j ns T ws : List ℕ} {z : Sizes} {r : Refusal} {a : Result (Unit {0}) Refusal} → OpenedFor s names B tops z
+    → marks_from (names_at s (places_in names)) z.window 0 (texts_in ns j) ≡ unread (fault_number r.fault) r.place → a ≡ Err r → OfSheet s (λ l. TextsRun s j ns T T ws l a)
+texts_refused {s} {j = j} {ns = ns} {T = T} {ws = ws} {r = r} o e is l h = subst (TextsRun s j ns T T ws l) (sym is) (text-off r (read_of_sheet o (texts_in ns j) e l h) refl)
 
 -- ---- the answers of figures
 
@@ -92,11 +86,11 @@ module _ {s names B tops : List ℕ} {z : Sizes} (o : OpenedFor s names B tops z
   words_same : 2 * z.count * z.n ≡ table_words (meant k)
   words_same = ap (λ (c : ℕ). 2 * c * z.n) o.sheet.rows ∙ ap (λ (n : ℕ). 2 * row_count_lem (meant k) * n) (o.words_are ∙ ap words o.sheet.window_is)
 
-  pub refused_15 : {ws : List ℕ} → (LongFor z T → ⊥) → FiguresInWords s j ns T T m ws (Refused 15 0)
+  pub refused_15 : {ws : List ℕ} → (LongFor z T → ⊥) → FiguresInWords s j ns T T m ws (Err (record { fault = TableLength; place = 0 }))
   refused_15 f = record { answer = refused 15 0; figures = not_the_table o.sheet.holds (λ e. f (e ∙ sym words_same)) refl; says = refl; holds = tt }
 
   module _ (long : LongFor z T) where
-    pub refused_18 : {ws : List ℕ} → (m ≡ length (places_in names) → ⊥) → FiguresInWords s j ns T T m ws (Refused 18 0)
+    pub refused_18 : {ws : List ℕ} → (m ≡ length (places_in names) → ⊥) → FiguresInWords s j ns T T m ws (Err (record { fault = Records; place = 0 }))
     refused_18 f = record {
       answer = refused 18 0;
       figures = not_the_records o.sheet.holds (long ∙ words_same) (λ e. f (e ∙ ap length (sym o.sheet.names_are))) refl;
@@ -105,7 +99,7 @@ module _ {s names B tops : List ℕ} {z : Sizes} (o : OpenedFor s names B tops z
     }
 
     module _ (many : m ≡ length (places_in names)) where
-      pub refused_19 : {ws : List ℕ} → (LengthsFit ns (length j) → ⊥) → FiguresInWords s j ns T T m ws (Refused 19 0)
+      pub refused_19 : {ws : List ℕ} → (LengthsFit ns (length j) → ⊥) → FiguresInWords s j ns T T m ws (Err (record { fault = TextLengths; place = 0 }))
       refused_19 f = record {
         answer = refused 19 0;
         figures = not_the_lengths o.sheet.holds (long ∙ words_same) (many ∙ ap length o.sheet.names_are) f refl;
@@ -114,20 +108,20 @@ module _ {s names B tops : List ℕ} {z : Sizes} (o : OpenedFor s names B tops z
       }
 
       -- What the texts come to is what figures answers.
-      pub of_texts : {U ws : List ℕ} {r : Outcome} → LengthsFit ns (length j) → RecordRoom ws → OfSheet s (λ l. TextsRun s j ns T U ws l r) → FiguresInWords s j ns T U m ws r
+      pub of_texts : {U ws : List ℕ} {r : Result (Unit {0}) Refusal} → LengthsFit ns (length j) → RecordRoom ws → OfSheet s (λ l. TextsRun s j ns T U ws l r) → FiguresInWords s j ns T U m ws r
       of_texts {U} {ws} fit room x = go (x k o.sheet.holds)
         where
           same : m ≡ length k.places
           same = many ∙ ap length o.sheet.names_are
 
-          go : {r : Outcome} → TextsRun s j ns T U ws k r → FiguresInWords s j ns T U m ws r
+          go : {r : Result (Unit {0}) Refusal} → TextsRun s j ns T U ws k r → FiguresInWords s j ns T U m ws r
           go (all_run mss h y) = record {
             answer = accepted (records_in ws (length k.places));
             figures = figured o.sheet.holds (long ∙ words_same) same fit h.1 y;
             says = refl;
             holds = (omega (arith, same, (in_sheet s o.sheet.holds).sizes.signals_high), ap (records_in ws) same);
           }
-          go (text-off n p e u) = record { answer = refused n p; figures = not_read o.sheet.holds (long ∙ words_same) same fit e u; says = refl; holds = tt }
+          go (text-off d e u) = record { answer = refused (fault_number d.fault) d.place; figures = not_read o.sheet.holds (long ∙ words_same) same fit e u; says = refl; holds = tt }
 
 -- Lengths that do not fit.
 pub not_fitting : {P : Type 0} {b : Bool} → (b ≡ true) ↔ P → b ≡ false → P → ⊥

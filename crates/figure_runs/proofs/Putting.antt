@@ -7,7 +7,8 @@ use Rattle.read_bytes.specs.Read.Read.{got}
 use Rattle.read_bytes.proofs.Answers.{not_both, same_value}
 use Rattle.spec_tilco.specs.Inference.{Mark}
 use Rattle.table_marks.specs.Puts.{Puts}
-use Rattle.read_readings.specs.declared.whole.Outcome.{Outcome}
+use Rattle.std.specs.Prelude.{Result}
+use Rattle.spec_refusals.specs.declared.Refusal.{Refusal}
 use Rattle.read_readings.specs.TakeReadings.{ReadingsTaken}
 use Rattle.read_readings.specs.TakeReadings.ReadingsTaken.{taken, kept}
 
@@ -17,6 +18,6 @@ module _ {R : Read (List Mark)} {n : ℕ} {T T' : List ℕ} {ms : List Mark} {q 
   puts_these f x = subst (λ (l : List Mark). Puts n l T T') (same_value (sym f ∙ e)) x
 
   -- An accepted text is taken.
-  pub taken_these : {o : Outcome} → ReadingsTaken R n T T' o → Puts n ms T T'
+  pub taken_these : {o : Result (Unit {0}) Refusal} → ReadingsTaken R n T T' o → Puts n ms T T'
   taken_these (taken ns p f x) = puts_these f x
-  taken_these (kept k p f x) = absurd (not_both (sym e ∙ f))
+  taken_these (kept r f x) = absurd (not_both (sym e ∙ f))

@@ -1,7 +1,9 @@
 -- One run after the other: what each needs, and what it makes of the work table and of the records.
 -- Assumes nothing. `s` is the sheet's text, j the joined readings texts, ns their lengths; T is the work table before and U after, ws' the records' words after.
-use Rattle.std.specs.Prelude.{◌≡◌, Bool, true, List, ◌↔◌, ℕ, ◌*◌, ◌<◌, ◌≤◌, length, get_or}
+use Rattle.std.specs.Prelude.{◌≡◌, Bool, true, List, ◌↔◌, ℕ, ◌*◌, ◌<◌, ◌≤◌, length, get_or, Result, Ok, Err}
 use Rattle.spec_limits.specs.Limits.{most_signals}
+use Rattle.spec_refusals.specs.declared.Refusal.{Refusal}
+use Rattle.spec_refusals.specs.Numbers.{fault_number}
 use Rattle.read_bytes.specs.Read.Read.{got, refused}
 use Rattle.spec_tilco.specs.Inference.{Mark, Clash}
 use Rattle.spec_tilco.specs.Lists.{All}
@@ -11,8 +13,6 @@ use Rattle.read_sheet.specs.Sheet.{Contents, meant}
 use Rattle.read_names.specs.Spellings.{names_at}
 use Rattle.read_index.specs.Index.{places_in, IndexOf}
 use Rattle.read_readings.specs.Readings.{readings}
-use Rattle.read_readings.specs.declared.whole.Outcome.{Outcome}
-use Rattle.read_readings.specs.declared.whole.Outcome.TheVariants.{Accepted, Refused}
 use Rattle.open_sheet.specs.Results.{accepted}
 use Rattle.open_sheet.specs.SheetIn.{sheet_in, names_in}
 use Rattle.open_sheet.specs.OpenedSheet.{OpenedSheet}
@@ -88,6 +88,6 @@ pub record AllRunnable (s names B tops : List ℕ) (z : Sizes) (j ns a cs H N D 
   pub fresh : FreshRecords (in_order_lem (names_at s (places_in names))) ws
 
 -- What each outcome of checking and running the texts says: all are accepted and run, or the first refusal is given, and every word of the table is kept.
-pub data TextsRun (s j ns T U ws' : List ℕ) (k : Contents) : Outcome → Type 0 where
-  all_run : (mss : List (List Mark)) → AllHold s j ns k mss → RunsTexts s mss U ws' k → TextsRun s j ns T U ws' k Accepted
-  not_read : (n p : ℕ) → marks_from (names_in s k) k.window 0 (texts_in ns j) ≡ refused n p → U ≡ T → TextsRun s j ns T U ws' k (Refused n p)
+pub data TextsRun (s j ns T U ws' : List ℕ) (k : Contents) : Result (Unit {0}) Refusal → Type 0 where
+  all_run : (mss : List (List Mark)) → AllHold s j ns k mss → RunsTexts s mss U ws' k → TextsRun s j ns T U ws' k (Ok tt)
+  not_read : (r : Refusal) → marks_from (names_in s k) k.window 0 (texts_in ns j) ≡ refused (fault_number r.fault) r.place → U ≡ T → TextsRun s j ns T U ws' k (Err r)

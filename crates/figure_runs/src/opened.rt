@@ -14,8 +14,8 @@ use figure_texts::note_texts;
 use list_order::signals_in_order;
 use op_add::{LONG, SHORT, SMALL};
 use read_index::LINKS;
-use read_readings::whole::Outcome;
 use spec_limits::{ROWS, RUNS, SIGNALS};
+use spec_refusals::Refusal;
 
 // So many entries of the texts can be noted, 16 KiB of them: while those of any text find room after them, a text's entries are kept for its run.
 const NOTES: usize = 4096;
@@ -51,28 +51,22 @@ fn check_and_run(
     todo: &mut [u64],
     table: &mut [u64],
     words: &mut [u64],
-) -> Outcome
+) -> Result<(), Refusal>
     requires runnable { Runnable s.now names.now rows.now tops.now z todo.old table.old }
     requires lengths_fit { LengthsFit lengths.now (length texts.now) × RecordRoom words.old }
     ensures { OfSheet s.now (λ k. TextsRun s.now texts.now lengths.now table.old table.new words.new k result) }
 {
     let mut noted = [1u32; NOTES];
     let mut kept = [1u64; RUNS];
-    let r = note_texts(s, names, z.window, texts, lengths, &mut noted, &mut kept);
-    match r {
-        Outcome::Accepted => {
-            start_in_order(s, &names[LINKS..], words);
-            let mut heads = [0u16; ROWS];
-            let mut nexts = [1u16; EDGES];
-            link_rows(rows, z.count, &mut heads, &mut nexts);
-            run_texts(
-                s, names, rows, tops, z, texts, lengths, &noted, &kept, &heads, &nexts, todo,
-                table, words,
-            );
-            Outcome::Accepted
-        }
-        Outcome::Refused(n, p) => Outcome::Refused(n, p),
-    }
+    note_texts(s, names, z.window, texts, lengths, &mut noted, &mut kept)?;
+    start_in_order(s, &names[LINKS..], words);
+    let mut heads = [0u16; ROWS];
+    let mut nexts = [1u16; EDGES];
+    link_rows(rows, z.count, &mut heads, &mut nexts);
+    run_texts(
+        s, names, rows, tops, z, texts, lengths, &noted, &kept, &heads, &nexts, todo, table, words,
+    );
+    Ok(())
 }
 
 // The same, with a list of work that is long enough for the table. Clearing the long one would cost a small sheet more than the rest of its closing.
@@ -86,7 +80,7 @@ pub fn run_opened(
     lengths: &[u64],
     table: &mut [u64],
     words: &mut [u64],
-) -> Outcome
+) -> Result<(), Refusal>
     requires opened_for { OpenedFor s.now names.now rows.now tops.now z × LongFor z table.old }
     requires lengths_fit { LengthsFit lengths.now (length texts.now) × RecordRoom words.old }
     ensures { OfSheet s.now (λ k. TextsRun s.now texts.now lengths.now table.old table.new words.new k result) }

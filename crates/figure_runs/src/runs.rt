@@ -1,7 +1,6 @@
 // One run after the other: the work table is cleared, a text's readings are put, the table is closed, and its figures are counted.
 // Assumes that the sheet is opened, that its lists of parents are made, that the table has its length, and that every text was accepted.
 ghost use Rattle.std.specs.Prelude.{◌≡◌, List, ℕ, length};
-ghost use Rattle.spec_ticks.specs.Ticks.{empty};
 ghost use Rattle.spec_tilco.specs.Inference.{Mark};
 ghost use Rattle.read_bytes.specs.Read.Read.{got};
 ghost use Rattle.read_index.specs.Index.{names_in};
@@ -28,17 +27,6 @@ pub struct Sizes {
     pub tops: usize,
 }
 
-// Empties the table.
-fn clear(table: &mut [u64])
-    ensures { table.new ≡ empty (length table.old) }
-{
-    let mut i = 0;
-    while i < table.len() {
-        table[i] = 0;
-        i += 1;
-    }
-}
-
 // Puts the readings of an accepted text into the table: as they were noted or, where its notes were not kept, by reading it again.
 fn put_text(
     s: &[u8],
@@ -55,7 +43,7 @@ fn put_text(
     if 0 < notes.len() {
         put_noted(notes, notes.len(), n, table);
     } else {
-        take_readings(s, names, window, n, text, table);
+        let _ = take_readings(s, names, window, n, text, table);
     }
 }
 
@@ -78,7 +66,7 @@ fn run_text(
     requires of_sheet { OfSheet s.now (λ k. (ms : List Mark) × Holds s.now text.now k ms) }
     ensures { RunsText s.now text.now table.new result }
 {
-    clear(table);
+    table.fill(0);
     put_text(s, names, z.window, z.n, text, notes, table);
     close_linked_with_tops(
         rows, z.count, tops, z.tops, z.n, z.window, heads, nexts, todo, table,
@@ -108,13 +96,11 @@ pub fn run_texts(
 {
     let signals = names.len() - LINKS;
     if lengths.len() == 0 {
-        clear(table);
-        return;
+        return table.fill(0);
     }
     let mut at = 0;
     let mut start = 0;
-    let mut i = 0;
-    while i < lengths.len() {
+    for i in 0..lengths.len() {
         let end = at + lengths[i] as usize;
         let last = start + kept[i] as usize;
         let clash = run_text(
@@ -133,6 +119,5 @@ pub fn run_texts(
         count_run(words, signals, table, z.n, z.window, clash);
         at = end;
         start = last;
-        i += 1;
     }
 }

@@ -5,10 +5,10 @@ ghost use Rattle.figure_runs.specs.FigureWords.{FiguresInWords};
 use crate::opened::run_opened;
 use crate::runs::Sizes;
 use figure_texts::lengths_fit;
-use open_sheet::{Opening, open_sheet};
+use open_sheet::open_sheet;
 use read_index::{INDEX, LINKS};
-use read_readings::whole::Outcome;
 use spec_limits::{ROWS, TOPS};
+use spec_refusals::{Fault, Refusal};
 use table_marks::words_of;
 
 // The figures of an opened sheet: 15 for the table, 18 for the records, 19 for the lengths, then the texts.
@@ -23,18 +23,27 @@ fn compare_and_run(
     m: usize,
     table: &mut [u64],
     words: &mut [u64],
-) -> Outcome
+) -> Result<(), Refusal>
     requires { OpenedFor s.now names.now rows.now tops.now z × RecordRoom words.old }
     ensures { FiguresInWords s.now texts.now lengths.now table.old table.new m words.new result }
 {
     if table.len() != 2 * z.count * z.n {
-        return Outcome::Refused(15, 0);
+        return Err(Refusal {
+            fault: Fault::TableLength,
+            place: 0,
+        });
     }
     if m != names.len() - LINKS {
-        return Outcome::Refused(18, 0);
+        return Err(Refusal {
+            fault: Fault::Records,
+            place: 0,
+        });
     }
     if !lengths_fit(lengths, texts.len()) {
-        return Outcome::Refused(19, 0);
+        return Err(Refusal {
+            fault: Fault::TextLengths,
+            place: 0,
+        });
     }
     run_opened(s, names, rows, tops, z, texts, lengths, table, words)
 }
@@ -47,41 +56,31 @@ pub fn figures_in_words(
     m: usize,
     table: &mut [u64],
     words: &mut [u64],
-) -> Outcome
+) -> Result<(), Refusal>
     requires { RecordRoom words.old }
     ensures { FiguresInWords s.now texts.now lengths.now table.old table.new m words.new result }
 {
     let mut names = [0u16; INDEX];
     let mut rows = [8u64; ROWS];
     let mut tops = [0u16; TOPS];
-    let o = open_sheet(s, &mut names, &mut rows, &mut tops);
-    match o {
-        Opening::Sheet {
-            window,
-            signals,
-            tops: k,
-            count,
-        } => {
-            let n = words_of(window);
-            let z = Sizes {
-                window,
-                n,
-                count,
-                tops: k,
-            };
-            compare_and_run(
-                s,
-                &names[..LINKS + signals],
-                &rows,
-                &tops,
-                z,
-                texts,
-                lengths,
-                m,
-                table,
-                words,
-            )
-        }
-        Opening::Refused(n, p) => Outcome::Refused(n, p),
-    }
+    let sheet = open_sheet(s, &mut names, &mut rows, &mut tops)?;
+    let n = words_of(sheet.window);
+    let z = Sizes {
+        window: sheet.window,
+        n,
+        count: sheet.count,
+        tops: sheet.tops,
+    };
+    compare_and_run(
+        s,
+        &names[..LINKS + sheet.signals],
+        &rows,
+        &tops,
+        z,
+        texts,
+        lengths,
+        m,
+        table,
+        words,
+    )
 }

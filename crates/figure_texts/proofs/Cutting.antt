@@ -10,7 +10,8 @@ use lib.Seq.{drop-cons, drop-drop}
 use Rattle.spec_tilco.specs.Inference.{Mark}
 use Rattle.read_bytes.specs.Read.{Read, and_then}
 use Rattle.read_bytes.specs.Read.Read.{got, refused}
-use Rattle.read_lines.specs.declared.Step.{Step}
+use Rattle.std.specs.Prelude.{Result}
+use Rattle.spec_refusals.specs.declared.Refusal.{Refusal}
 use Rattle.read_readings.specs.Readings.{entries, readings}
 use Rattle.read_readings.specs.SpanNumbers.{EntriesNoted}
 use Rattle.spec_figures.specs.Texts.{LengthsFit, texts_in, marks_from}
@@ -61,7 +62,7 @@ module _ {names : List (List ℕ)} {W : ℕ} {ns j : List ℕ} {i at : ℕ} (z :
   read_all h = z.same ∙ rw (drop_of_length-le ns h)
 
   -- What is noted of the part that is lent is noted of text i.
-  pub text_noted : {a : List ℕ} {v : Step} → EntriesNoted (entries names W (take (at + get_or ns i 0 - at) (drop at j))) a v → EntriesNoted (entries names W (text_at ns j i)) a v
+  pub text_noted : {a : List ℕ} {v : Result ℕ Refusal} → EntriesNoted (entries names W (take (at + get_or ns i 0 - at) (drop at j))) a v → EntriesNoted (entries names W (text_at ns j i)) a v
   text_noted {a} {v} = subst (λ r. EntriesNoted (entries names W r) a v) (part_lent j at (get_or ns i 0) ∙ rw z.start)
 
   module _ (h : i < length ns) where

@@ -1,15 +1,15 @@
 -- The entries of several texts noted as numbers in one array: which of them are kept for the runs.
 -- Assumes nothing. `names` are the declared names in sheet order, W the window, ns the texts' lengths, j the joined texts, a the array of notes and cs how many
 -- notes of each text are kept, one text's after the other's.
-use Rattle.std.specs.Prelude.{◌≡◌, List, ℕ, ◌+◌, ◌<◌, ◌≤◌, length, get_or, take, drop}
+use Rattle.std.specs.Prelude.{◌≡◌, List, ℕ, ◌+◌, ◌<◌, ◌≤◌, length, get_or, take, drop, Result, Ok, Err}
 use Rattle.spec_limits.specs.Limits.{most_readings}
+use Rattle.spec_refusals.specs.declared.Refusal.{Refusal}
+use Rattle.spec_refusals.specs.Numbers.{fault_number}
 use Rattle.spec_tilco.specs.Inference.{Mark}
 use Rattle.spec_tilco.specs.Lists.{total}
 use Rattle.read_bytes.specs.Read.Read.{got, refused}
 use Rattle.read_readings.specs.Readings.{entries}
 use Rattle.read_readings.specs.SpanNumbers.{spans_in}
-use Rattle.read_readings.specs.declared.whole.Outcome.{Outcome}
-use Rattle.read_readings.specs.declared.whole.Outcome.TheVariants.{Accepted, Refused}
 use Rattle.spec_figures.specs.Texts.{texts_in, marks_from}
 
 -- The first i numbers, added up: where text i starts in the joined slice, and where its notes start in the array.
@@ -30,9 +30,9 @@ abbrev pub Kept : List (List ℕ) → ℕ → List ℕ → List ℕ → List ℕ
 Kept names W ns j a cs = (i : ℕ) → i < length ns → NotesAt names W (text_at ns j i) a (sum_to cs i) (get_or cs i 0)
 
 -- What each outcome of noting says of the texts and the array: every text is accepted, or the first refusal is given.
-pub data TextsNoted (names : List (List ℕ)) (W : ℕ) (ns j a cs : List ℕ) : Outcome → Type 0 where
-  all_noted : (mss : List (List Mark)) (q : ℕ) → marks_from names W 0 (texts_in ns j) ≡ got mss q → Kept names W ns j a cs → TextsNoted names W ns j a cs Accepted
-  refused_at : (n p : ℕ) → marks_from names W 0 (texts_in ns j) ≡ refused n p → TextsNoted names W ns j a cs (Refused n p)
+pub data TextsNoted (names : List (List ℕ)) (W : ℕ) (ns j a cs : List ℕ) : Result (Unit {0}) Refusal → Type 0 where
+  all_noted : (mss : List (List Mark)) (q : ℕ) → marks_from names W 0 (texts_in ns j) ≡ got mss q → Kept names W ns j a cs → TextsNoted names W ns j a cs (Ok tt)
+  refused_at : (r : Refusal) → marks_from names W 0 (texts_in ns j) ≡ refused (fault_number r.fault) r.place → TextsNoted names W ns j a cs (Err r)
 
 -- Of so many notes, where the array has `room` places for them, all are kept if the entries of any text have places after them, or none.
 pub record Keeps (count room kept : ℕ) : Type 0 where

@@ -8,9 +8,9 @@ ghost use Rattle.read_readings.specs.SpanNumbers.{CanNote};
 ghost use Rattle.spec_figures.specs.Texts.{LengthsFit};
 ghost use Rattle.figure_texts.specs.Notes.{Keeps, TextsNoted};
 
-use read_lines::Step;
-use read_readings::whole::{Outcome, note_entries};
+use read_readings::whole::note_entries;
 use spec_limits::{READINGS, RUNS};
+use spec_refusals::Refusal;
 
 // Do the lengths fit a slice of m bytes? Each is taken off what is left, so that no sum wraps.
 pub fn lengths_fit(lengths: &[u64], m: usize) -> bool
@@ -20,14 +20,11 @@ pub fn lengths_fit(lengths: &[u64], m: usize) -> bool
         return false;
     }
     let mut left = m as u64;
-    let mut i = 0;
-    while i < lengths.len() {
-        let length = lengths[i];
-        if left < length {
+    for length in lengths {
+        if left < *length {
             return false;
         }
-        left -= length;
-        i += 1;
+        left -= *length;
     }
     left == 0
 }
@@ -49,27 +46,29 @@ pub fn note_texts(
     lengths: &[u64],
     noted: &mut [u32],
     kept: &mut [u64],
-) -> Outcome
+) -> Result<(), Refusal>
     requires can_note { CanNote s.now names.now window noted.old × LengthsFit lengths.now (length texts.now) }
     requires lengths_in_bounds { length lengths.now ≤ length kept.old }
     ensures { TextsNoted (names_in s.now names.now) window lengths.now texts.now noted.new kept.new result }
 {
     let mut at = 0;
     let mut used = 0;
-    let mut i = 0;
-    while i < lengths.len() {
+    for i in 0..lengths.len() {
         let end = at + lengths[i] as usize;
-        let c = note_entries(s, names, window, &texts[at..end], &mut noted[used..]);
-        match c {
-            Step::Got(count, _) => {
+        match note_entries(s, names, window, &texts[at..end], &mut noted[used..]) {
+            Ok(count) => {
                 let k = kept_of(count, noted.len() - used);
                 kept[i] = k as u64;
                 used += k;
             }
-            Step::Refused(n, p) => return Outcome::Refused(n, at + p),
+            Err(refusal) => {
+                return Err(Refusal {
+                    fault: refusal.fault,
+                    place: at + refusal.place,
+                });
+            }
         }
         at = end;
-        i += 1;
     }
-    Outcome::Accepted
+    Ok(())
 }

@@ -48,8 +48,7 @@ pub fn run_from(noted: &[u32], i: usize) -> Run
     let row = w / ROW_SPANS;
     let first = w / TICKS % TICKS;
     let mut last = w % TICKS;
-    let mut next = i + 1;
-    while next < noted.len() {
+    for next in i + 1..noted.len() {
         let v = noted[next] as usize;
         if !meets_run(row, last, v) {
             return Run {
@@ -60,12 +59,11 @@ pub fn run_from(noted: &[u32], i: usize) -> Run
             };
         }
         last = larger(last, v % TICKS);
-        next += 1;
     }
     Run {
         row,
         first,
         last,
-        next,
+        next: noted.len(),
     }
 }

@@ -2,77 +2,44 @@
 -- Assumes nothing.
 use mathlib.Core.Path.{◌≡◌, refl, sym, ap, ap₂, ◌∙◌, subst}
 use mathlib.Core.Bool.{Bool}
-use mathlib.Core.List.{List, [], ◌∷◌, ◌++◌}
-use Prim.Native.Nat.{ℕ, zero, suc, ◌+◌, ◌<◌, ◌≤◌}
+use mathlib.Core.List.{List, ◌++◌}
+use Prim.Native.Nat.{ℕ, ◌<◌}
 use native.Mathlib.Omega.{arith}
-use native.Mathlib.Nat.{zero-add}
-use lib.ListN.{length, get_or, take, drop}
+use lib.ListN.{length, take, drop}
 use lib.Seq.{sets}
-use Rattle.spec_limits.specs.Limits.{most_captioned}
+use Rattle.std.specs.Prelude.{Option}
 use Rattle.read_bytes.specs.Read.{Read}
 use Rattle.read_bytes.proofs.Answers.{not_both, same_value}
 use Rattle.read_captions.specs.Captions.{captions_in}
 use Rattle.read_captions.specs.Parts.{shown_texts}
-use Rattle.spec_tilco.specs.Lists.{All}
-use Rattle.spec_tilco.proofs.Lists.{all_weaker}
 use Rattle.spec_tilco.specs.Lowering.{row_count_lem}
-use Rattle.spec_tilco.specs.Table.{Standing, table_words, facts_of, Answer}
-use Rattle.spec_tilco.proofs.Demand1.{asked_one}
+use Rattle.spec_tilco.specs.Table.{table_words, facts_of, Answer}
 use Rattle.read_sheet.specs.Sheet.{Contents, meant}
 use Rattle.open_sheet.specs.Results.{Result, accepted}
-use Rattle.spec_operations.specs.Gain.{gain}
 use Rattle.open_sheet.specs.SheetIn.{sheet_in, names_in}
 use Rattle.open_table.proofs.Tables.{accepted_one, accepted_refused}
 use Rattle.spec_operations.proofs.Determined.{adds_one, refused_alike}
-use Rattle.list_order.specs.Order.{in_order_lem}
-use Rattle.list_order.proofs.Inserting.{order_placed}
-use Rattle.list_signals.specs.Signals.{sign_byte, signs, signal_text, signals_text, Answers}
 use Rattle.list_captioned.specs.ShownListing.{shown_listing}
 use Rattle.list_table.specs.Listing.{head_text}
 use Rattle.list_settled.specs.Prints.{text_of}
 use Rattle.list_captioned.specs.PrintsCaptioned.{ListsShown, PrintsCaptioned, WrittenCaptioned, SettlesCaptioned}
 use Rattle.list_captioned.specs.PrintsCaptioned.ListsShown.{not_added, listed}
 use Rattle.list_captioned.specs.PrintsCaptioned.PrintsCaptioned.{no_sheet, no_captions_lem, no_room, on_table}
-use Rattle.list_captioned.proofs.Printing.{captioned_most, written}
+use Rattle.list_settled.proofs.OneListing.{AnswersIn, one_signals, gain_clash, written_alike, written_some}
+use Rattle.list_captioned.proofs.Printing.{captioned_most}
 
--- ---- the same answers give the same listing
-
-signs_alike : (f g : ℕ → Answer) (t n : ℕ) → ((i : ℕ) → i < n → f (t + i) ≡ g (t + i)) → signs f t n ≡ signs g t n
-unfolding signs
-signs_alike f g t zero h = refl
-signs_alike f g t (suc n) h =
-    let e : t + 0 ≡ t = omega arith in
-    ap₂ (λ (x : ℕ) (l : List ℕ). x ∷ l) (ap sign_byte (subst (λ (i : ℕ). f i ≡ g i) e (h 0 (omega arith))))
-    (signs_alike f g (suc t) n (λ i l. let d : t + suc i ≡ suc t + i = omega arith in subst (λ (j : ℕ). f j ≡ g j) d (h (suc i) (omega arith))))
-
-signals_alike : (W : ℕ) (f g : ℕ → ℕ → Answer) (names : List (List ℕ)) (xs : List ℕ) → All (λ x. (t : ℕ) → t < W → f x t ≡ g x t) xs → signals_text W f names xs ≡ signals_text W g names xs
-unfolding signals_text
-signals_alike W f g names [] h = refl
-signals_alike W f g names (x ∷ xs) h =
-    ap₂ (λ (m l : List ℕ). signal_text (get_or names x []) m ++ l) (signs_alike (f x) (g x) 0 W (λ i l. h.0 (0 + i) (omega arith))) (signals_alike W f g names xs h.1)
-
--- ---- the same table gives the same answers
+-- ---- the same table gives the same listing
 
 -- The listing of a sheet's table.
 abbrev listing_of : List (List ℕ) → List ℕ → Contents → List ℕ → Bool → (ℕ → ℕ → Answer) → List ℕ
 listing_of shown s k U clash f = shown_listing (names_in s k) shown k.window (row_count_lem (meant k)) (facts_of (meant k) U) clash f
 
--- f is what ask answers of the table for each signal at each tick of the window.
-abbrev pub AnswersIn : Contents → List ℕ → (ℕ → ℕ → Answer) → Type 0
-AnswersIn k U f = Answers (Standing (meant k) U) (length k.places) k.window f
-
 one_shown : (shown : List (List ℕ)) (s : List ℕ) (k : Contents) (U : List ℕ) (clash : Bool) (f g : ℕ → ℕ → Answer) → AnswersIn k U f → AnswersIn k U g
     → listing_of shown s k U clash f ≡ listing_of shown s k U clash g
 unfolding shown_listing
-one_shown shown s k U clash f g p q =
-    ap (λ (l : List ℕ). head_text (row_count_lem (meant k)) (facts_of (meant k) U) clash ++ l)
-    (signals_alike k.window f g shown (in_order_lem (names_in s k))
-    (all_weaker (λ x. x < length k.places) _ (λ x i t u. asked_one (Standing (meant k) U) x t (p x i t u) (q x i t u)) (in_order_lem (names_in s k)) (order_placed s k.places)))
+one_shown shown s k U clash f g p q = ap (λ (l : List ℕ). head_text (row_count_lem (meant k)) (facts_of (meant k) U) clash ++ l) (one_signals shown s k U f g p q)
 
 -- ---- the outcomes
-
-gain_clash : {a b : ℕ} {x y : Bool} → accepted (gain a x) ≡ accepted (gain b y) → x ≡ y
-gain_clash e = cc
 
 module _ {shown : List (List ℕ)} {s r T : List ℕ} where
   lists_one : {U U' : List ℕ} {a b : Result (List ℕ)} → ListsShown shown s r T U a → ListsShown shown s r T U' b → (U ≡ U') × (a ≡ b)
@@ -93,7 +60,7 @@ module _ {shown : List (List ℕ)} {s r T : List ℕ} where
       )
 
 -- Two readings of a sheet and its captions are one.
-captions_one : (s c : List ℕ) {k k' : Contents} {R R' : Read (List ℕ)} → sheet_in s ≡ accepted k → sheet_in s ≡ accepted k' → captions_in (names_in s k) c ≡ R → captions_in (names_in s k') c ≡ R' → R ≡ R'
+captions_one : (s c : List ℕ) {k k' : Contents} {R R' : Read (List (Option ℕ))} → sheet_in s ≡ accepted k → sheet_in s ≡ accepted k' → captions_in (names_in s k) c ≡ R → captions_in (names_in s k') c ≡ R' → R ≡ R'
 captions_one s c e e' i j = sym i ∙ ap (λ (z : Contents). captions_in (names_in s z) c) (accepted_one (sym e ∙ e')) ∙ j
 
 module _ {s r c T : List ℕ} where
@@ -118,26 +85,16 @@ module _ {s r c T : List ℕ} where
       let z : k ≡ k' = accepted_one (sym e ∙ f) in
       let v : at ≡ at' = same_value (captions_one s c e f i j) in
       let w = subst (λ (k : Contents). ListsShown (shown_texts s c k.places at) s r (take (table_words (meant k)) T) U a) z x in
-      let o = lists_one (subst (λ (p : List ℕ). ListsShown (shown_texts s c k'.places p) s r (take (table_words (meant k')) T) U a) v w) y in
+      let o = lists_one (subst (λ (p : List (Option ℕ)). ListsShown (shown_texts s c k'.places p) s r (take (table_words (meant k')) T) U a) v w) y in
       (ap₂ (λ (X : List ℕ) (k : Contents). X ++ drop (table_words (meant k)) T) o.0 z, o.1)
 
 -- so two outcomes for one table and one buffer coincide, in the answer, in every word and in every byte,
-printed_alike : {R R' : Result (List ℕ) → Type 0} {U U' : List ℕ} → ((a b : Result (List ℕ)) → R a → R' b → (U ≡ U') × (a ≡ b)) → {m m₁ m₂ : List ℕ} {n₁ n₂ : ℕ} → WrittenCaptioned R m m₁ n₁ → WrittenCaptioned R' m m₂ n₂
-    → (n₁ ≡ n₂) × (U ≡ U') × (m₁ ≡ m₂)
-printed_alike one {m} x y =
-    let o = one x.told y.told x.tells y.tells in
-    let e = ap text_of o.1 in
-    (x.long ∙ ap length e ∙ sym y.long, o.0, x.holds ∙ ap (sets m 0) e ∙ sym y.holds)
-
 pub captioned_printed_one : {s r c T U U' m m₁ m₂ : List ℕ} {n₁ n₂ : ℕ} → WrittenCaptioned (PrintsCaptioned s r c T U) m m₁ n₁ → WrittenCaptioned (PrintsCaptioned s r c T U') m m₂ n₂ → (n₁ ≡ n₂) × (U ≡ U') × (m₁ ≡ m₂)
-captioned_printed_one x y = printed_alike (λ a b p q. captioned_one p q) x y
+captioned_printed_one x y = written_alike (λ a b p q. captioned_one p q) x y
 
 -- there is one for each buffer where something is told,
-told_some : (R : Result (List ℕ) → Type 0) (a : Result (List ℕ)) → R a → length (text_of a) ≤ most_captioned → (m : List ℕ) → WrittenCaptioned R m (sets m 0 (text_of a)) (length (text_of a))
-told_some R a p l m = written R p l (record { next = sym (zero-add (length (text_of a))); holds = refl })
-
 pub captioned_some : {s r c T U : List ℕ} {a : Result (List ℕ)} → PrintsCaptioned s r c T U a → (m : List ℕ) → WrittenCaptioned (PrintsCaptioned s r c T U) m (sets m 0 (text_of a)) (length (text_of a))
-captioned_some {s} {r} {c} {T} {U} {a} p m = told_some (PrintsCaptioned s r c T U) a p (captioned_most p) m
+captioned_some {s} {r} {c} {T} {U} p m = written_some (PrintsCaptioned s r c T U) p (captioned_most p) m
 
 -- and the listing program with captions prints one text.
 pub settles_captioned_one : {s r c l v : List ℕ} → SettlesCaptioned s r c l → SettlesCaptioned s r c v → l ≡ v

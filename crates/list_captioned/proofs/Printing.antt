@@ -1,14 +1,13 @@
 -- One add to a lent table, and its listing with a text to be shown of each signal: what each step asks, and what is printed then.
 -- Assumes nothing.
 use mathlib.Core.Path.{◌≡◌, sym, ap, ap₂, ◌∙◌, subst}
-use mathlib.Core.Bool.{Bool, true}
+use mathlib.Core.Bool.{Bool}
 use mathlib.Core.List.{List, ◌++◌}
-use mathlib.Core.Logic.{◌↔◌}
-use Prim.Native.Nat.{ℕ, ◌*◌, ◌^◌, ◌≤◌, ◌<◌}
-use native.Mathlib.Nat.{mul-le-mul_right, zero-add}
+use Prim.Native.Nat.{ℕ, ◌*◌, ◌≤◌, ◌<◌}
 use native.Mathlib.Omega.{arith}
 use lib.ListN.{length, take, drop}
-use Rattle.spec_limits.specs.Limits.{most_captioned, most_name_bytes, most_rows, most_signals, most_ticks}
+use Rattle.spec_limits.specs.Limits.{most_captioned, most_name_bytes, most_rows}
+use Rattle.std.specs.Prelude.{Option}
 use Rattle.read_bytes.specs.Read.Read.{got, refused as unread}
 use Rattle.read_names.specs.Spellings.{names_at}
 use Rattle.read_index.specs.Index.{links, places_in, name_count, names_in as indexed}
@@ -20,35 +19,27 @@ use Rattle.read_captions.proofs.ShownParts.{shown_many}
 use Rattle.read_captions.proofs.ShortTexts.{Short, shown_short, showable, texts_short}
 use Rattle.read_names.proofs.Names.{names_many}
 use Rattle.spec_tilco.specs.Lists.{All}
-use Rattle.spec_tilco.specs.Inference.{Clash}
 use Rattle.spec_tilco.specs.Lowering.{row_count_lem}
-use Rattle.spec_tilco.specs.Table.{words, Stands, Standing, table_words, facts, facts_of, Answer}
-use Rattle.spec_tilco.proofs.Order.{row_count}
+use Rattle.spec_tilco.specs.Table.{words, Stands, facts, facts_of, Answer}
 use Rattle.table_marks.specs.Sizes.{most_table_words}
 use Rattle.read_sheet.specs.Sheet.{Contents, meant}
 use Rattle.read_sheet.proofs.Wholes.{sheet_head}
 use Rattle.read_head.proofs.DeclaredNames.{head_names}
 use Rattle.write_bytes.specs.Writes.{Wrote, Counted}
-use Rattle.op_add.specs.declared.Adding.{Adding}
-use Rattle.op_add.specs.declared.Adding.TheVariants as adding
 use Rattle.open_sheet.specs.Results.{Result, accepted, refused}
 use Rattle.spec_operations.specs.Gain.{gain}
-use Rattle.op_add.specs.AddingSays.{adding_says}
 use Rattle.open_sheet.specs.SheetIn.{sheet_in, names_in}
-use Rattle.open_sheet.specs.OpenedSheet.{OpenedSheet}
 use Rattle.spec_operations.specs.Operations.{Adds}
-use Rattle.spec_operations.specs.Operations.Adds.{not_opened, not_read, added}
-use Rattle.open_table.proofs.Tables.{accepted_one, InSheet, in_sheet, names_stand, RowWords, row_words, table_most}
-use Rattle.spec_operations.proofs.Opened.{fitting}
-use Rattle.list_signals.specs.Signals.{Listable, Answers}
+use Rattle.open_table.proofs.Tables.{accepted_one, in_sheet, row_words, table_most}
+use Rattle.list_signals.specs.Signals.{Answers}
 use Rattle.list_captioned.specs.ShownListing.{shown_listing}
 use Rattle.list_table.specs.Listing.{refusal_text}
 use Rattle.list_settled.specs.Prints.{Begun, text_of}
 use Rattle.list_captioned.specs.PrintsCaptioned.{ListsShown, PrintsCaptioned, WrittenCaptioned, Captioned}
 use Rattle.list_captioned.specs.PrintsCaptioned.ListsShown.{not_added, listed}
 use Rattle.list_captioned.specs.PrintsCaptioned.PrintsCaptioned.{no_sheet, no_captions_lem, no_room, on_table}
+use Rattle.list_settled.proofs.Printing.{written, refused_keeps, known, named, same_words, answers, answers_are, answers_in, same_table}
 use Rattle.list_captioned.proofs.ShownLengths.{listing_most, refusal_most}
-use Rattle.list_signals.proofs.Answered.{answers_there}
 
 -- The listing of a sheet that was opened fits the listing's buffer, whatever its numbers and marks are, and so does whatever is told of its table.
 module _ (s : List ℕ) {k : Contents} (e : sheet_in s ≡ accepted k) (shown : List (List ℕ)) (short : All Short shown) (many : length shown ≡ length k.places) where
@@ -65,74 +56,26 @@ module _ (s : List ℕ) {k : Contents} (e : sheet_in s ≡ accepted k) (shown : 
       subst (λ (y : Contents). length (shown_listing (names_in s y) shown y.window (row_count_lem (meant y)) (facts_of (meant y) U) clash f) ≤ most_captioned) j
       (listing_fits (row_count_lem (meant k)) (facts_of (meant k) U) clash f)
 
--- What is told, if it fits, and was written.
-module _ (R : Result (List ℕ) → Type 0) {a : Result (List ℕ)} (x : R a) (fits : length (text_of a) ≤ most_captioned) where
-  pub written : {m m' : List ℕ} {n : ℕ} → Wrote (text_of a) 0 m m' n → WrittenCaptioned R m m' n
-  written {n = n} w =
-      let k : n ≡ length (text_of a) = w.next ∙ zero-add (length (text_of a)) in
-      record { told = a; tells = x; long = k; most = omega (arith, k, fits); holds = w.holds }
-
--- An add that is refused keeps every word.
-pub refused_keeps : {s r T U : List ℕ} {n p : ℕ} → Adds s r T U (refused n p) → U ≡ T
-refused_keeps (not_opened o e) = e
-refused_keeps (not_read o f e) = e
-
+-- An add that is refused is told.
 pub refused_lists : (shown : List (List ℕ)) {s r T U : List ℕ} {n p : ℕ} → Adds s r T U (refused n p) → ListsShown shown s r T U (refused n p)
 refused_lists shown {s} {r} {T} {U} {n} {p} x =
     let e : U ≡ T = refused_keeps x in
     subst (λ (X : List ℕ). ListsShown shown s r T X (refused n p)) (sym e) (not_added (subst (λ (X : List ℕ). Adds s r T X (refused n p)) e x))
-
--- What an accepted add says of the table that it makes.
-record Made (k : Contents) (U : List ℕ) (clash : Bool) : Type 0 where
-  size : length U ≡ table_words (meant k)
-  clashes : (clash ≡ true) ↔ Clash (Standing (meant k) U)
-
-made : {s r T U : List ℕ} {k : Contents} {new : ℕ} {clash : Bool} → sheet_in s ≡ accepted k → Adds s r T U (accepted (gain new clash)) → Made k U clash
-made {T = T} {U} {k} {new} {clash} holds (added {k = c} o e a n b) =
-    let i : c ≡ k = accepted_one (sym (fitting o).holds ∙ holds) in
-    record {
-      size = a.size ∙ (fitting o).long ∙ ap (λ (x : Contents). table_words (meant x)) i;
-      clashes = subst (λ (x : Contents). (clash ≡ true) ↔ Clash (Standing (meant x) U)) i b;
-    }
-
--- What add promises, by the answer that it gave.
-module _ {s r T U : List ℕ} {a : Adding} (x : Adds s r T U (adding_says a)) where
-  pub as_added : {new : ℕ} {clash : Bool} → a ≡ adding.Added new clash → Adds s r T U (accepted (gain new clash))
-  as_added e = subst (λ (z : Adding). Adds s r T U (adding_says z)) e x
-
-  pub as_refused : {n p : ℕ} → a ≡ adding.Refused n p → Adds s r T U (refused n p)
-  as_refused e = subst (λ (z : Adding). Adds s r T U (adding_says z)) e x
 
 -- The refusal of an add is written.
 pub prints_refusal : (shown : List (List ℕ)) {s r T U m m' : List ℕ} {v n p : ℕ} → Adds s r T U (refused n p) → Wrote (refusal_text n p) 0 m m' v → WrittenCaptioned (ListsShown shown s r T U) m m' v
 prints_refusal shown {s} {r} {T} {U} {n = n} {p} a w = written (ListsShown shown s r T U) (refused_lists shown a) (refusal_most n p) w
 
 module _ {s places : List ℕ} {w count : ℕ} (b : Begun s places w count) where
-  abbrev k : Contents
-  k = b.contents
-
-  known : InSheet s k
-  known = in_sheet s b.holds
-
-  pub window_most : w ≤ most_ticks
-  window_most = omega (arith, b.window_is, known.sizes.window_high)
-
-  -- The names stand in the text, and are at most 64.
-  pub named : All (λ p. p ≤ length s) places
-  named = subst (All (λ p. p ≤ length s)) (sym b.names_are) (names_stand s b.holds)
-
-  pub few : length places ≤ most_signals
-  few = omega (arith, ap length b.names_are, known.sizes.signals_high)
-
   -- The words of its table can be counted.
   pub words_fit : (n : ℕ) → n ≡ words w → (2 * count ≤ 2 * most_rows) × (2 * count * n ≤ most_table_words)
   words_fit n e =
-      let m : count ≤ most_rows = omega (arith, b.rows, known.rows) in
-      (omega arith, table_most m (row_words known.sizes.window_low known.sizes.window_high (e ∙ ap words b.window_is)).most)
+      let m : count ≤ most_rows = omega (arith, b.rows, (known b).rows) in
+      (omega arith, table_most m (row_words (known b).sizes.window_low (known b).sizes.window_high (e ∙ ap words b.window_is)).most)
 
   -- The names are short.
   pub names_short : All (λ n. length n ≤ most_name_bytes) (names_at s places)
-  names_short = subst (λ (p : List ℕ). All (λ n. length n ≤ most_name_bytes) (names_at s p)) (sym b.names_are) (head_names s (sheet_head s known.reads).2).short
+  names_short = subst (λ (p : List ℕ). All (λ n. length n ≤ most_name_bytes) (names_at s p)) (sym b.names_are) (head_names s (sheet_head s (known b).reads).2).short
 
   -- The places of the listing can be counted.
   pub listing_counted : (shown : List (List ℕ)) → All Short shown → length shown ≡ length places
@@ -141,86 +84,45 @@ module _ {s places : List ℕ} {w count : ℕ} (b : Begun s places w count) wher
       rw (b.names_are, b.window_is) (record { below = omega (arith, listing_fits s b.holds shown short (many ∙ ap length b.names_are) rows facts clash f) })
 
   module _ {r T U : List ℕ} {new : ℕ} {clash : Bool} (a : Adds s r T U (accepted (gain new clash))) (n : ℕ) (e : n ≡ words w) where
-    told : Made k U clash
-    told = made b.holds a
-
-    same_words : n ≡ words k.window
-    same_words = e ∙ ap words b.window_is
-
-    spread : RowWords k.window n
-    spread = row_words known.sizes.window_low known.sizes.window_high same_words
-
-    long : length U ≡ 2 * row_count_lem (meant k) * n
-    long = told.size ∙ ap (λ (i : ℕ). 2 * row_count_lem (meant k) * i) (sym same_words)
-
-    fits : 2 * length places * n ≤ length U
-    fits =
-        let p : length places ≡ length k.places = ap length b.names_are in
-        let l : 2 * length places * n ≤ 2 * row_count_lem (meant k) * n = mul-le-mul_right n (omega (arith, row_count (meant k))) in
-        omega (arith, l, long)
-
-    -- The facts can be counted.
-    pub countable : (1 ≤ n) × (2 * length places * n ≤ length U) × (2 * length places * n < 2 ^ 32)
-    countable = (spread.some, fits, omega (arith, fits, long, table_most known.rows spread.most))
-
-    pub listable : Listable (length places) w n U clash
-    listable = record {
-      rows = fits;
-      ticks = omega (arith, spread.cover, b.window_is);
-      clashes = subst (λ (i : ℕ). (clash ≡ true) ↔ Clash (Stands i U)) (sym same_words) told.clashes;
-    }
-
     -- What ask answers of each signal at each tick.
-    abbrev answers : ℕ → ℕ → Answer
-    answers x = (answers_there listable x).0
-
-    answers_are : Answers (Stands n U) (length places) w answers
-    answers_are x h = (answers_there listable x).1
-
-    answers_in : Answers (Standing (meant k) U) (length k.places) k.window answers
-    answers_in =
-        subst (λ (v : ℕ). Answers (Standing (meant k) U) (length k.places) v answers) b.window_is
-        (subst (λ (p : List ℕ). Answers (Standing (meant k) U) (length p) w answers) b.names_are
-        (subst (λ (i : ℕ). Answers (Stands i U) (length places) w answers) same_words answers_are))
+    abbrev f : ℕ → ℕ → Answer
+    f = answers b a n e
 
     -- The listing is written.
     pub prints_listing : (shown : List (List ℕ)) → All Short shown → length shown ≡ length places → {m m' : List ℕ} {v total : ℕ}
         → ((f : ℕ → ℕ → Answer) → Answers (Stands n U) (length places) w f → Wrote (shown_listing (names_at s places) shown w count total clash f) 0 m m' v) → total ≡ facts n (length places) U → WrittenCaptioned (ListsShown shown s r T U) m m' v
     prints_listing shown short many {m} {m'} {v} {total} x counted =
-        let text = shown_listing (names_in s k) shown k.window (row_count_lem (meant k)) (facts_of (meant k) U) clash answers in
-        let y : Wrote text 0 m m' v = subst (λ (l : List ℕ). Wrote l 0 m m' v) same (x answers answers_are) in
-        written (ListsShown shown s r T U) (listed b.holds a answers_in)
-        (listing_fits s b.holds shown short (many ∙ ap length b.names_are) (row_count_lem (meant k)) (facts_of (meant k) U) clash answers) y
+        let text = shown_listing (names_in s b.contents) shown b.contents.window (row_count_lem (meant b.contents)) (facts_of (meant b.contents) U) clash f in
+        let y : Wrote text 0 m m' v = subst (λ (l : List ℕ). Wrote l 0 m m' v) same (x f (answers_are b a n e)) in
+        written (ListsShown shown s r T U) (listed b.holds a (answers_in b a n e))
+        (listing_fits s b.holds shown short (many ∙ ap length b.names_are) (row_count_lem (meant b.contents)) (facts_of (meant b.contents) U) clash f) y
       where
-        total_is : total ≡ facts_of (meant k) U
-        total_is = counted ∙ ap₂ (λ (i : ℕ) (p : List ℕ). facts i (length p) U) same_words b.names_are
+        total_is : total ≡ facts_of (meant b.contents) U
+        total_is = counted ∙ ap₂ (λ (i : ℕ) (p : List ℕ). facts i (length p) U) (same_words b a n e) b.names_are
 
-        same : shown_listing (names_at s places) shown w count total clash answers ≡ shown_listing (names_in s k) shown k.window (row_count_lem (meant k)) (facts_of (meant k) U) clash answers
+        same : shown_listing (names_at s places) shown w count total clash f ≡ shown_listing (names_in s b.contents) shown b.contents.window (row_count_lem (meant b.contents)) (facts_of (meant b.contents) U) clash f
         same =
-            ap (λ (p : List ℕ). shown_listing (names_at s p) shown w count total clash answers) b.names_are
-            ∙ ap (λ (v : ℕ). shown_listing (names_in s k) shown v count total clash answers) b.window_is
-            ∙ ap (λ (i : ℕ). shown_listing (names_in s k) shown k.window i total clash answers) b.rows
-            ∙ ap (λ (i : ℕ). shown_listing (names_in s k) shown k.window (row_count_lem (meant k)) i clash answers) total_is
+            ap (λ (p : List ℕ). shown_listing (names_at s p) shown w count total clash f) b.names_are
+            ∙ ap (λ (v : ℕ). shown_listing (names_in s b.contents) shown v count total clash f) b.window_is
+            ∙ ap (λ (i : ℕ). shown_listing (names_in s b.contents) shown b.contents.window i total clash f) b.rows
+            ∙ ap (λ (i : ℕ). shown_listing (names_in s b.contents) shown b.contents.window (row_count_lem (meant b.contents)) i clash f) total_is
 
 -- The sheet is opened, and its captions are read: its table stands in the first words of the lent one, or that has too few.
-module _ {s places : List ℕ} {w count : ℕ} (b : Begun s places w count) (n : ℕ) (e : n ≡ words w) (c : List ℕ) {at : List ℕ} {q : ℕ} (read : captions_in (names_at s places) c ≡ got at q) where
-  same_table : 2 * count * n ≡ table_words (meant b.contents)
-  same_table = ap₂ (λ (i m : ℕ). 2 * i * m) b.rows (e ∙ ap words b.window_is)
-
+module _ {s places : List ℕ} {w count : ℕ} (b : Begun s places w count) (n : ℕ) (e : n ≡ words w) (c : List ℕ) {at : List (Option ℕ)} {q : ℕ} (read : captions_in (names_at s places) c ≡ got at q) where
   read_in : captions_in (names_in s b.contents) c ≡ got at q
   read_in = subst (λ (p : List ℕ). captions_in (names_at s p) c ≡ got at q) b.names_are read
 
   module _ {r T : List ℕ} {m m' : List ℕ} {v : ℕ} where
     pub prints_no_room : length T < 2 * count * n → Wrote (refusal_text 29 0) 0 m m' v → WrittenCaptioned (PrintsCaptioned s r c T T) m m' v
-    prints_no_room l x = written (PrintsCaptioned s r c T T) (no_room b.holds read_in (omega (arith, same_table))) (refusal_most 29 0) x
+    prints_no_room l x = written (PrintsCaptioned s r c T T) (no_room b.holds read_in (omega (arith, same_table b n e))) (refusal_most 29 0) x
 
     pub prints_on_table : {U : List ℕ} → 2 * count * n ≤ length T → WrittenCaptioned (ListsShown (shown_texts s c places at) s r (take (2 * count * n) T) U) m m' v
         → WrittenCaptioned (PrintsCaptioned s r c T (U ++ drop (2 * count * n) T)) m m' v
     prints_on_table {U} l x = record {
       told = x.told;
-      tells = subst (λ (i : ℕ). PrintsCaptioned s r c T (U ++ drop i T) x.told) (sym same_table)
-          (on_table b.holds read_in (omega (arith, same_table))
-          (subst (λ (i : ℕ). ListsShown (shown_texts s c b.contents.places at) s r (take i T) U x.told) same_table
+      tells = subst (λ (i : ℕ). PrintsCaptioned s r c T (U ++ drop i T) x.told) (sym (same_table b n e))
+          (on_table b.holds read_in (omega (arith, same_table b n e))
+          (subst (λ (i : ℕ). ListsShown (shown_texts s c b.contents.places at) s r (take i T) U x.told) (same_table b n e)
           (subst (λ (p : List ℕ). ListsShown (shown_texts s c p at) s r (take (2 * count * n) T) U x.told) b.names_are x.tells)));
       long = x.long;
       most = x.most;
@@ -238,17 +140,13 @@ prints_no_captions {s} {places} {c} {r} {T} {n = n} {p} b e x =
 pub prints_no_sheet : {s r c T m m' : List ℕ} {v n p : ℕ} → sheet_in s ≡ refused n p → Wrote (refusal_text n p) 0 m m' v → WrittenCaptioned (PrintsCaptioned s r c T T) m m' v
 prints_no_sheet {s} {r} {c} {T} {n = n} {p} e x = written (PrintsCaptioned s r c T T) (no_sheet e) (refusal_most n p) x
 
--- A sheet that was opened.
-pub begun : {s places B tops : List ℕ} {w t count : ℕ} → OpenedSheet s places B tops w t count → Begun s places w count
-begun y = record { contents = y.contents; holds = y.holds; window_is = y.window_is; names_are = y.names_are; rows = y.rows }
-
 -- What is known when its captions were read: `places` are those of the names in the index T, as they are lent.
-pub record Ready (s c places at : List ℕ) (w count q : ℕ) : Type 0 where
+pub record Ready (s c places : List ℕ) (at : List (Option ℕ)) (w count q : ℕ) : Type 0 where
   pub sheet : Begun s places w count
   pub captions : Captioned s c places at
   pub read : captions_in (names_at s places) c ≡ got at q
 
-pub ready : (s T c : List ℕ) {w count : ℕ} → Begun s (places_in T) w count → {at : List ℕ} {q : ℕ} → captions_in (indexed s T) c ≡ got at q
+pub ready : (s T c : List ℕ) {w count : ℕ} → Begun s (places_in T) w count → {at : List (Option ℕ)} {q : ℕ} → captions_in (indexed s T) c ≡ got at q
     → Ready s c (take (name_count T) (drop links T)) at w count q
 ready s T c {w} {count} b {at} {q} e =
     subst (λ (p : List ℕ). Ready s c p at w count q) (sym (places_part_lem T))

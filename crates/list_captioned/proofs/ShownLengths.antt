@@ -2,34 +2,19 @@
 -- Assumes nothing.
 use mathlib.Core.Path.{◌≡◌, sym, subst}
 use mathlib.Core.Bool.{Bool}
-use mathlib.Core.List.{List, [], ◌∷◌}
-use Prim.Native.Nat.{ℕ, ◌+◌, ◌*◌, ◌<◌, ◌≤◌}
+use mathlib.Core.List.{List}
+use Prim.Native.Nat.{ℕ, ◌<◌, ◌≤◌}
 use native.Mathlib.Omega.{arith}
-use lib.ListN.{length, get_or, length-append}
+use lib.ListN.{length, length-append}
 use Rattle.spec_limits.specs.Limits.{most_ticks, most_signals, most_caption_bytes, most_captioned}
 use Rattle.spec_tilco.specs.Lists.{All}
 use Rattle.spec_tilco.specs.Table.{Answer}
-use Rattle.spec_tilco.proofs.Lists.{all_nth}
 use Rattle.list_order.specs.Order.{in_order_lem}
 use Rattle.list_order.proofs.Sorting.{order_long, order_within}
-use Rattle.list_signals.specs.Signals.{signs, signal_text, signals_text}
-use Rattle.list_signals.proofs.Lengths.{signs_length, signal_length}
+use Rattle.list_signals.specs.Signals.{signals_text}
 use Rattle.list_table.specs.Listing.{head_text, refusal_text}
-use Rattle.list_table.proofs.Lengths.{head_most, refusal_most as refusal_short}
+use Rattle.list_table.proofs.Lengths.{signals_most, head_most, refusal_most as refusal_short}
 use Rattle.list_captioned.specs.ShownListing.{shown_listing}
-
--- A signal's lines have what is shown of it, a sign a tick, and 15 bytes more.
-signals_most : (W : ℕ) (f : ℕ → ℕ → Answer) (shown : List (List ℕ)) (xs : List ℕ) → W ≤ most_ticks → All (λ w. length w ≤ most_caption_bytes) shown → All (λ x. x < length shown) xs
-    → length (signals_text W f shown xs) ≤ (most_caption_bytes + most_ticks + 15) * length xs
-unfolding signals_text
-signals_most W f shown [] h a b = omega arith
-signals_most W f shown (x ∷ xs) h a b =
-    let name = get_or shown x [] in
-    let l = signal_length name (signs (f x) 0 W) in
-    let k = signs_length (f x) 0 W in
-    let i = signals_most W f shown xs h a b.1 in
-    let s = all_nth (λ w. length w ≤ most_caption_bytes) [] shown x a b.0 in
-    omega (arith, length-append (signal_text name (signs (f x) 0 W)) (signals_text W f shown xs))
 
 -- A listing fits the listing's buffer,
 pub listing_most : (names shown : List (List ℕ)) (W rows facts : ℕ) (clash : Bool) (f : ℕ → ℕ → Answer)
@@ -37,7 +22,7 @@ pub listing_most : (names shown : List (List ℕ)) (W rows facts : ℕ) (clash :
 unfolding shown_listing
 listing_most names shown W rows facts clash f a e n w =
     let h = head_most rows facts clash in
-    let l = signals_most W f shown (in_order_lem names) w a (subst (λ k. All (λ x. x < k) (in_order_lem names)) (sym e) (order_within names)) in
+    let l = signals_most most_caption_bytes W f shown (in_order_lem names) w a (subst (λ k. All (λ x. x < k) (in_order_lem names)) (sym e) (order_within names)) in
     omega (arith, length-append (head_text rows facts clash) (signals_text W f shown (in_order_lem names)), order_long names)
 
 -- and so does a refusal's.

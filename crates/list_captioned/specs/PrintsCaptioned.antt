@@ -1,7 +1,6 @@
 -- What the listing with captions tells of a sheet, readings and captions, and leaves in the table that is lent (E7).
 -- Assumes nothing. `s` is the sheet's text, r the readings' text, c the captions' text, T the lent table before and U after.
-use Rattle.std.specs.Prelude.{◌≡◌, Bool, List, ◌++◌, ℕ, ◌≤◌, ◌<◌, length, take, drop}
-use Rattle.std.proofs.lemmas.List.Edits.{sets}
+use Rattle.std.specs.Prelude.{◌≡◌, Bool, List, ◌++◌, ℕ, ◌≤◌, ◌<◌, length, take, drop, Option}
 use Rattle.spec_limits.specs.Limits.{most_caption_bytes, most_captioned, most_listed_words}
 use Rattle.spec_ticks.specs.Ticks.{empty}
 use Rattle.spec_tilco.specs.Lists.{All}
@@ -17,7 +16,7 @@ use Rattle.spec_operations.specs.Gain.{gain}
 use Rattle.spec_operations.specs.Operations.{Adds}
 use Rattle.list_signals.specs.Signals.{Answers}
 use Rattle.list_captioned.specs.ShownListing.{shown_listing}
-use Rattle.list_settled.specs.Prints.{text_of}
+use Rattle.list_settled.specs.Prints.{WrittenWithin, text_of}
 
 -- What is told of the sheet's table T, with a text to be shown of each signal: the listing of what one add makes of it, or the add's refusal, which keeps every word.
 pub data ListsShown (shown : List (List ℕ)) (s r T : List ℕ) : List ℕ → Result (List ℕ) → Type 0 where
@@ -31,20 +30,16 @@ pub data ListsShown (shown : List (List ℕ)) (s r T : List ℕ) : List ℕ → 
 pub data PrintsCaptioned (s r c T : List ℕ) : List ℕ → Result (List ℕ) → Type 0 where
   no_sheet : {n p : ℕ} → sheet_in s ≡ refused n p → PrintsCaptioned s r c T T (refused n p)
   no_captions_lem : {k : Contents} {n p : ℕ} → sheet_in s ≡ accepted k → captions_in (names_in s k) c ≡ unread n p → PrintsCaptioned s r c T T (refused n p)
-  no_room : {k : Contents} {at : List ℕ} {q : ℕ} → sheet_in s ≡ accepted k → captions_in (names_in s k) c ≡ got at q → length T < table_words (meant k) → PrintsCaptioned s r c T T (refused 29 0)
-  on_table : {k : Contents} {at U : List ℕ} {q : ℕ} {a : Result (List ℕ)} → sheet_in s ≡ accepted k → captions_in (names_in s k) c ≡ got at q → table_words (meant k) ≤ length T
+  no_room : {k : Contents} {at : List (Option ℕ)} {q : ℕ} → sheet_in s ≡ accepted k → captions_in (names_in s k) c ≡ got at q → length T < table_words (meant k) → PrintsCaptioned s r c T T (refused 29 0)
+  on_table : {k : Contents} {at : List (Option ℕ)} {U : List ℕ} {q : ℕ} {a : Result (List ℕ)} → sheet_in s ≡ accepted k → captions_in (names_in s k) c ≡ got at q → table_words (meant k) ≤ length T
       → ListsShown (shown_texts s c k.places at) s r (take (table_words (meant k)) T) U a → PrintsCaptioned s r c T (U ++ drop (table_words (meant k)) T) a
 
--- What R tells is written from the buffer's first place on as far as there is room; its length, at most `most_captioned`, is answered.
-pub record WrittenCaptioned (R : Result (List ℕ) → Type 0) (m m' : List ℕ) (n : ℕ) : Type 0 where
-  pub told : Result (List ℕ)
-  pub tells : R told
-  pub long : n ≡ length (text_of told)
-  pub most : n ≤ most_captioned
-  pub holds : m' ≡ sets m 0 (text_of told)
+-- A listing with captions has at most `most_captioned` bytes.
+abbrev pub WrittenCaptioned : (Result (List ℕ) → Type 0) → List ℕ → List ℕ → ℕ → Type 0
+WrittenCaptioned R m m' n = WrittenWithin most_captioned R m m' n
 
 -- Captions were read for the names at these places, and what is shown of each is short.
-pub record Captioned (s c places captions : List ℕ) : Type 0 where
+pub record Captioned (s c places : List ℕ) (captions : List (Option ℕ)) : Type 0 where
   pub showable : Showable s c places captions
   pub short : All (λ w. length w ≤ most_caption_bytes) (shown_texts s c places captions)
 

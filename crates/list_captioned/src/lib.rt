@@ -13,12 +13,12 @@ ghost use Rattle.list_captioned.specs.PrintsCaptioned.{WrittenCaptioned, Caption
 
 use crate::whole::write_shown_listing;
 use list_table::whole::write_refusal;
-use op_add::{Adding, add};
-use open_sheet::{Opening, open_sheet};
+use op_add::add;
+use open_sheet::open_sheet;
 use read_captions::note_captions;
 use read_index::{INDEX, LINKS};
-use read_lines::Step;
 use spec_limits::{ROWS, SIGNALS, TOPS};
+use spec_refusals::Fault;
 use table_facts::count_facts;
 use table_marks::words_of;
 
@@ -27,7 +27,7 @@ fn settle_table<'a>(
     s: &'a [u8],
     places: &[u16],
     c: &'a [u8],
-    captions: &[usize],
+    captions: &[Option<usize>],
     window: usize,
     count: usize,
     readings: &[u8],
@@ -37,25 +37,25 @@ fn settle_table<'a>(
     requires { Begun s.now places.now window count × Captioned s.now c.now places.now captions.now }
     ensures { WrittenCaptioned (ListsShown (shown_texts s.now c.now places.now captions.now) s.now readings.now table.old table.new) out.old out.new result }
 {
-    let a = add(s, readings, table);
-    match a {
-        Adding::Added { new: _, clash } => {
+    match add(s, readings, table) {
+        Ok(added) => {
             let n = words_of(window);
             let facts = count_facts(table, n, places.len());
+            let clash = added.clash;
             write_shown_listing(
                 s, places, c, captions, window, n, table, count, facts, clash, out,
             )
         }
-        Adding::Refused(k, p) => write_refusal(k, p, out),
+        Err(refusal) => write_refusal(refusal.number(), refusal.place, out),
     }
 }
 
-// The same for a sheet that was opened, whose names are in the index: the captions are read first, then 29. The list of captions has a 0 for each signal.
+// The same for a sheet that was opened, whose names are in the index: the captions are read first, then 29. No signal has a caption in the list before.
 fn settle_opened<'a>(
     s: &'a [u8],
     names: &[u16],
     c: &'a [u8],
-    captions: &mut [usize],
+    captions: &mut [Option<usize>],
     window: usize,
     count: usize,
     readings: &[u8],
@@ -65,12 +65,11 @@ fn settle_opened<'a>(
     requires { IndexOf s.now names.now × Begun s.now (places_in names.now) window count × (captions.old ≡ no_captions (name_count names.now)) }
     ensures { WrittenCaptioned (PrintsCaptioned s.now readings.now c.now table.old table.new) out.old out.new result }
 {
-    let l = note_captions(s, names, c, captions);
-    match l {
-        Step::Got(_, _) => {
+    match note_captions(s, names, c, captions) {
+        Ok(()) => {
             let words = 2 * count * words_of(window);
             if table.len() < words {
-                return write_refusal(29, 0, out);
+                return write_refusal(Fault::ListedTable as usize, 0, out);
             }
             settle_table(
                 s,
@@ -84,7 +83,7 @@ fn settle_opened<'a>(
                 out,
             )
         }
-        Step::Refused(k, p) => write_refusal(k, p, out),
+        Err(refusal) => write_refusal(refusal.number(), refusal.place, out),
     }
 }
 
@@ -102,27 +101,22 @@ pub fn settle_captioned<'a>(
     let mut names = [0u16; INDEX];
     let mut rows = [8u64; ROWS];
     let mut tops = [0u16; TOPS];
-    let o = open_sheet(s, &mut names, &mut rows, &mut tops);
-    match o {
-        Opening::Sheet {
-            window,
-            signals,
-            tops: _,
-            count,
-        } => {
-            let mut captions = [0usize; SIGNALS];
+    match open_sheet(s, &mut names, &mut rows, &mut tops) {
+        Ok(sheet) => {
+            let signals = sheet.signals;
+            let mut captions: [Option<usize>; SIGNALS] = [None; SIGNALS];
             settle_opened(
                 s,
                 &names[..LINKS + signals],
                 c,
                 &mut captions[..signals],
-                window,
-                count,
+                sheet.window,
+                sheet.count,
                 readings,
                 table,
                 out,
             )
         }
-        Opening::Refused(k, p) => write_refusal(k, p, out),
+        Err(refusal) => write_refusal(refusal.number(), refusal.place, out),
     }
 }

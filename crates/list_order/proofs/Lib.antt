@@ -1,5 +1,4 @@
 -- The laws, one idea a file.
-pub mod Comparing
 pub mod StrictOrder
 pub mod Sorting
 pub mod NamesBefore

@@ -3,7 +3,7 @@
 use mathlib.Core.Path.{◌≡◌, refl, sym, ap, ap₂, ◌∙◌, subst}
 use mathlib.Core.Bool.{Bool}
 use mathlib.Core.List.{List, [], ◌∷◌, ◌++◌}
-use Prim.Native.Nat.{ℕ, zero, suc, ◌+◌, ◌<◌}
+use Prim.Native.Nat.{ℕ, zero, suc, ◌+◌, ◌<◌, ◌≤◌}
 use native.Mathlib.Omega.{arith}
 use native.Mathlib.Nat.{zero-add}
 use lib.ListN.{length, get_or, take, drop}
@@ -23,7 +23,7 @@ use Rattle.list_order.specs.Order.{in_order_lem}
 use Rattle.list_order.proofs.Inserting.{order_placed}
 use Rattle.list_signals.specs.Signals.{sign_byte, signs, signal_text, signals_text, Answers}
 use Rattle.list_table.specs.Listing.{head_text, listing_text}
-use Rattle.list_settled.specs.Prints.{Lists, Prints, Settles, Written, text_of}
+use Rattle.list_settled.specs.Prints.{Lists, Prints, Settles, WrittenWithin, Written, text_of}
 use Rattle.list_settled.specs.Prints.Lists.{not_added, listed}
 use Rattle.list_settled.specs.Prints.Prints.{no_sheet, no_room, on_table}
 use Rattle.list_settled.proofs.Printing.{prints_most, written}
@@ -54,16 +54,20 @@ listing_of s k U clash f = listing_text (names_in s k) k.window (row_count_lem (
 abbrev pub AnswersIn : Contents → List ℕ → (ℕ → ℕ → Answer) → Type 0
 AnswersIn k U f = Answers (Standing (meant k) U) (length k.places) k.window f
 
+-- The lines of its signals, by the texts to be shown of them, are one.
+pub one_signals : (shown : List (List ℕ)) (s : List ℕ) (k : Contents) (U : List ℕ) (f g : ℕ → ℕ → Answer) → AnswersIn k U f → AnswersIn k U g
+    → signals_text k.window f shown (in_order_lem (names_in s k)) ≡ signals_text k.window g shown (in_order_lem (names_in s k))
+one_signals shown s k U f g p q =
+    signals_alike k.window f g shown (in_order_lem (names_in s k))
+    (all_weaker (λ x. x < length k.places) _ (λ x i t u. asked_one (Standing (meant k) U) x t (p x i t u) (q x i t u)) (in_order_lem (names_in s k)) (order_placed s k.places))
+
 pub one_listing : (s : List ℕ) (k : Contents) (U : List ℕ) (clash : Bool) (f g : ℕ → ℕ → Answer) → AnswersIn k U f → AnswersIn k U g → listing_of s k U clash f ≡ listing_of s k U clash g
 unfolding listing_text
-one_listing s k U clash f g p q =
-    ap (λ (l : List ℕ). head_text (row_count_lem (meant k)) (facts_of (meant k) U) clash ++ l)
-    (signals_alike k.window f g (names_in s k) (in_order_lem (names_in s k))
-    (all_weaker (λ x. x < length k.places) _ (λ x i t u. asked_one (Standing (meant k) U) x t (p x i t u) (q x i t u)) (in_order_lem (names_in s k)) (order_placed s k.places)))
+one_listing s k U clash f g p q = ap (λ (l : List ℕ). head_text (row_count_lem (meant k)) (facts_of (meant k) U) clash ++ l) (one_signals (names_in s k) s k U f g p q)
 
 -- ---- the outcomes
 
-gain_clash : {a b : ℕ} {x y : Bool} → accepted (gain a x) ≡ accepted (gain b y) → x ≡ y
+pub gain_clash : {a b : ℕ} {x y : Bool} → accepted (gain a x) ≡ accepted (gain b y) → x ≡ y
 gain_clash e = cc
 
 module _ {s r T : List ℕ} where
@@ -101,15 +105,22 @@ module _ {s r T : List ℕ} where
       (ap₂ (λ (X : List ℕ) (z : Contents). X ++ drop (table_words (meant z)) T) o.0 i, o.1)
 
 -- so two outcomes for one table and one buffer coincide, in the answer, in every word and in every byte,
-pub printed_one : {s r T U U' m m₁ m₂ : List ℕ} {n₁ n₂ : ℕ} → Written (Prints s r T U) m m₁ n₁ → Written (Prints s r T U') m m₂ n₂ → (n₁ ≡ n₂) × (U ≡ U') × (m₁ ≡ m₂)
-printed_one {m = m} x y =
-    let o = prints_one x.tells y.tells in
+pub written_alike : {limit : ℕ} {R R' : Result (List ℕ) → Type 0} {U U' : List ℕ} → ((a b : Result (List ℕ)) → R a → R' b → (U ≡ U') × (a ≡ b)) → {m m₁ m₂ : List ℕ} {n₁ n₂ : ℕ}
+    → WrittenWithin limit R m m₁ n₁ → WrittenWithin limit R' m m₂ n₂ → (n₁ ≡ n₂) × (U ≡ U') × (m₁ ≡ m₂)
+written_alike one {m} x y =
+    let o = one x.told y.told x.tells y.tells in
     let e = ap text_of o.1 in
     (x.long ∙ ap length e ∙ sym y.long, o.0, x.holds ∙ ap (sets m 0) e ∙ sym y.holds)
 
+pub printed_one : {s r T U U' m m₁ m₂ : List ℕ} {n₁ n₂ : ℕ} → Written (Prints s r T U) m m₁ n₁ → Written (Prints s r T U') m m₂ n₂ → (n₁ ≡ n₂) × (U ≡ U') × (m₁ ≡ m₂)
+printed_one x y = written_alike (λ a b p q. prints_one p q) x y
+
 -- there is one for each buffer where something is told,
+pub written_some : {limit : ℕ} (R : Result (List ℕ) → Type 0) {a : Result (List ℕ)} → R a → length (text_of a) ≤ limit → (m : List ℕ) → WrittenWithin limit R m (sets m 0 (text_of a)) (length (text_of a))
+written_some R {a} p l m = written R p l (record { next = sym (zero-add (length (text_of a))); holds = refl })
+
 pub printed_some : {s r T U : List ℕ} {a : Result (List ℕ)} → Prints s r T U a → (m : List ℕ) → Written (Prints s r T U) m (sets m 0 (text_of a)) (length (text_of a))
-printed_some {s} {r} {T} {U} {a} p m = written (Prints s r T U) p (prints_most p) (record { next = sym (zero-add (length (text_of a))); holds = refl })
+printed_some {s} {r} {T} {U} p m = written_some (Prints s r T U) p (prints_most p) m
 
 -- and the listing program prints one text.
 pub settles_one : {s r l v : List ℕ} → Settles s r l → Settles s r v → l ≡ v

@@ -20,11 +20,8 @@ use Rattle.read_sheet.specs.Sheet.{Contents, meant}
 use Rattle.read_sheet.proofs.Wholes.{sheet_head}
 use Rattle.read_head.proofs.DeclaredNames.{head_names}
 use Rattle.write_bytes.specs.Writes.{Wrote, Counted}
-use Rattle.op_add.specs.declared.Adding.{Adding}
-use Rattle.op_add.specs.declared.Adding.TheVariants as adding
 use Rattle.open_sheet.specs.Results.{Result, accepted, refused}
 use Rattle.spec_operations.specs.Gain.{gain}
-use Rattle.op_add.specs.AddingSays.{adding_says}
 use Rattle.open_sheet.specs.SheetIn.{sheet_in, names_in}
 use Rattle.open_sheet.specs.OpenedSheet.{OpenedSheet}
 use Rattle.spec_operations.specs.Operations.{Adds}
@@ -33,7 +30,7 @@ use Rattle.open_table.proofs.Tables.{accepted_one, InSheet, in_sheet, names_stan
 use Rattle.spec_operations.proofs.Opened.{fitting}
 use Rattle.list_signals.specs.Signals.{Listable, Answers}
 use Rattle.list_table.specs.Listing.{listing_text, refusal_text}
-use Rattle.list_settled.specs.Prints.{Lists, Prints, Written, Begun, text_of}
+use Rattle.list_settled.specs.Prints.{Lists, Prints, WrittenWithin, Written, Begun, text_of}
 use Rattle.list_settled.specs.Prints.Lists.{not_added, listed}
 use Rattle.list_settled.specs.Prints.Prints.{no_sheet, no_room, on_table}
 use Rattle.list_table.proofs.Lengths.{listing_most, refusal_most}
@@ -57,8 +54,8 @@ prints_most (no_room e l) = refusal_most 29 0
 prints_most (on_table e l x) = lists_most x
 
 -- What is told, if it fits, and was written.
-module _ (R : Result (List ℕ) → Type 0) {a : Result (List ℕ)} (x : R a) (fits : length (text_of a) ≤ most_listed) where
-  pub written : {m m' : List ℕ} {n : ℕ} → Wrote (text_of a) 0 m m' n → Written R m m' n
+module _ {limit : ℕ} (R : Result (List ℕ) → Type 0) {a : Result (List ℕ)} (x : R a) (fits : length (text_of a) ≤ limit) where
+  pub written : {m m' : List ℕ} {n : ℕ} → Wrote (text_of a) 0 m m' n → WrittenWithin limit R m m' n
   written {n = n} w =
       let k : n ≡ length (text_of a) = w.next ∙ zero-add (length (text_of a)) in
       record { told = a; tells = x; long = k; most = omega (arith, k, fits); holds = w.holds }
@@ -86,14 +83,6 @@ made {T = T} {U} {k} {new} {clash} holds (added {k = c} o e a n b) =
       clashes = subst (λ (x : Contents). (clash ≡ true) ↔ Clash (Standing (meant x) U)) i b;
     }
 
--- What add promises, by the answer that it gave.
-module _ {s r T U : List ℕ} {a : Adding} (x : Adds s r T U (adding_says a)) where
-  pub as_added : {new : ℕ} {clash : Bool} → a ≡ adding.Added new clash → Adds s r T U (accepted (gain new clash))
-  as_added e = subst (λ (z : Adding). Adds s r T U (adding_says z)) e x
-
-  pub as_refused : {n p : ℕ} → a ≡ adding.Refused n p → Adds s r T U (refused n p)
-  as_refused e = subst (λ (z : Adding). Adds s r T U (adding_says z)) e x
-
 -- The refusal of an add is written.
 pub prints_refusal : {s r T U m m' : List ℕ} {v n p : ℕ} → Adds s r T U (refused n p) → Wrote (refusal_text n p) 0 m m' v → Written (Lists s r T U) m m' v
 prints_refusal {s} {r} {T} {U} {n = n} {p} a w = written (Lists s r T U) (refused_lists a) (refusal_most n p) w
@@ -102,7 +91,7 @@ module _ {s places : List ℕ} {w count : ℕ} (b : Begun s places w count) wher
   abbrev k : Contents
   k = b.contents
 
-  known : InSheet s k
+  pub known : InSheet s k
   known = in_sheet s b.holds
 
   pub window_most : w ≤ most_ticks
@@ -123,7 +112,7 @@ module _ {s places : List ℕ} {w count : ℕ} (b : Begun s places w count) wher
     told : Made k U clash
     told = made b.holds a
 
-    same_words : n ≡ words k.window
+    pub same_words : n ≡ words k.window
     same_words = e ∙ ap words b.window_is
 
     spread : RowWords k.window n
@@ -150,13 +139,13 @@ module _ {s places : List ℕ} {w count : ℕ} (b : Begun s places w count) wher
     }
 
     -- What ask answers of each signal at each tick.
-    abbrev answers : ℕ → ℕ → Answer
+    abbrev pub answers : ℕ → ℕ → Answer
     answers x = (answers_there listable x).0
 
-    answers_are : Answers (Stands n U) (length places) w answers
+    pub answers_are : Answers (Stands n U) (length places) w answers
     answers_are x h = (answers_there listable x).1
 
-    answers_in : Answers (Standing (meant k) U) (length k.places) k.window answers
+    pub answers_in : Answers (Standing (meant k) U) (length k.places) k.window answers
     answers_in =
         subst (λ (v : ℕ). Answers (Standing (meant k) U) (length k.places) v answers) b.window_is
         (subst (λ (p : List ℕ). Answers (Standing (meant k) U) (length p) w answers) b.names_are
@@ -180,24 +169,24 @@ module _ {s places : List ℕ} {w count : ℕ} (b : Begun s places w count) wher
             ∙ ap (λ (i : ℕ). listing_text (names_in s k) k.window i total clash answers) b.rows
             ∙ ap (λ (i : ℕ). listing_text (names_in s k) k.window (row_count_lem (meant k)) i clash answers) total_is
 
--- The sheet is opened: its table stands in the first words of the lent one, or that has too few.
-module _ {s places B tops : List ℕ} {w t count : ℕ} (y : OpenedSheet s places B tops w t count) (n : ℕ) (e : n ≡ words w) where
-  -- with the names at the places that are lent for it
-  pub begun : {part : List ℕ} → part ≡ places → Begun s part w count
-  begun same = record { contents = y.contents; holds = y.holds; window_is = y.window_is; names_are = same ∙ y.names_are; rows = y.rows }
+-- The sheet was opened, with the names at the places that are lent for it.
+pub begun : {s places part B tops : List ℕ} {w t count : ℕ} → OpenedSheet s places B tops w t count → part ≡ places → Begun s part w count
+begun y same = record { contents = y.contents; holds = y.holds; window_is = y.window_is; names_are = same ∙ y.names_are; rows = y.rows }
 
-  same_table : 2 * count * n ≡ table_words (meant y.contents)
-  same_table = ap₂ (λ (i m : ℕ). 2 * i * m) y.rows (e ∙ ap words y.window_is)
+-- Its table stands in the first words of the lent one, or that has too few.
+module _ {s places : List ℕ} {w count : ℕ} (b : Begun s places w count) (n : ℕ) (e : n ≡ words w) where
+  pub same_table : 2 * count * n ≡ table_words (meant b.contents)
+  same_table = ap₂ (λ (i m : ℕ). 2 * i * m) b.rows (e ∙ ap words b.window_is)
 
   module _ {r T : List ℕ} {m m' : List ℕ} {v : ℕ} where
     pub prints_no_room : length T < 2 * count * n → Wrote (refusal_text 29 0) 0 m m' v → Written (Prints s r T T) m m' v
-    prints_no_room l x = written (Prints s r T T) (no_room y.holds (omega (arith, same_table))) (refusal_most 29 0) x
+    prints_no_room l x = written (Prints s r T T) (no_room b.holds (omega (arith, same_table))) (refusal_most 29 0) x
 
     pub prints_on_table : {U : List ℕ} → 2 * count * n ≤ length T → Written (Lists s r (take (2 * count * n) T) U) m m' v → Written (Prints s r T (U ++ drop (2 * count * n) T)) m m' v
     prints_on_table {U} l x = record {
       told = x.told;
       tells = subst (λ (i : ℕ). Prints s r T (U ++ drop i T) x.told) (sym same_table)
-          (on_table y.holds (omega (arith, same_table)) (subst (λ (i : ℕ). Lists s r (take i T) U x.told) same_table x.tells));
+          (on_table b.holds (omega (arith, same_table)) (subst (λ (i : ℕ). Lists s r (take i T) U x.told) same_table x.tells));
       long = x.long;
       most = x.most;
       holds = x.holds;

@@ -40,13 +40,17 @@ pub record Settles (s r l : List ℕ) : Type 0 where
   pub prints : Prints s r (empty most_listed_words) after told
   pub text_is : l ≡ text_of told
 
--- What R tells is written from the buffer's first place on as far as there is room; its length, at most `most_listed`, is answered.
-pub record Written (R : Result (List ℕ) → Type 0) (m m' : List ℕ) (n : ℕ) : Type 0 where
+-- What R tells is written from the buffer's first place on as far as there is room; its length, at most `limit`, is answered.
+pub record WrittenWithin (limit : ℕ) (R : Result (List ℕ) → Type 0) (m m' : List ℕ) (n : ℕ) : Type 0 where
   pub told : Result (List ℕ)
   pub tells : R told
   pub long : n ≡ length (text_of told)
-  pub most : n ≤ most_listed
+  pub most : n ≤ limit
   pub holds : m' ≡ sets m 0 (text_of told)
+
+-- A listing without captions has at most `most_listed` bytes.
+abbrev pub Written : (Result (List ℕ) → Type 0) → List ℕ → List ℕ → ℕ → Type 0
+Written R m m' n = WrittenWithin most_listed R m m' n
 
 -- The sheet was opened: its window, its names' places and its row count are at hand.
 pub record Begun (s places : List ℕ) (w count : ℕ) : Type 0 where

@@ -4,10 +4,11 @@
 ghost use Rattle.list_settled.specs.Prints.{Begun, Lists, Prints, Written};
 
 use list_table::whole::{write_listing, write_refusal};
-use op_add::{Adding, add};
-use open_sheet::{Opening, open_sheet};
+use op_add::add;
+use open_sheet::open_sheet;
 use read_index::{INDEX, LINKS};
 use spec_limits::{ROWS, TOPS};
+use spec_refusals::Fault;
 use table_facts::count_facts;
 use table_marks::words_of;
 
@@ -24,14 +25,14 @@ fn settle_table(
     requires { Begun s.now places.now window count }
     ensures { Written (Lists s.now readings.now table.old table.new) out.old out.new result }
 {
-    let a = add(s, readings, table);
-    match a {
-        Adding::Added { new: _, clash } => {
+    match add(s, readings, table) {
+        Ok(added) => {
             let n = words_of(window);
             let facts = count_facts(table, n, places.len());
+            let clash = added.clash;
             write_listing(s, places, window, n, table, count, facts, clash, out)
         }
-        Adding::Refused(k, p) => write_refusal(k, p, out),
+        Err(refusal) => write_refusal(refusal.number(), refusal.place, out),
     }
 }
 
@@ -43,28 +44,22 @@ pub fn settle(s: &[u8], readings: &[u8], table: &mut [u64], out: &mut [u8]) -> u
     let mut names = [0u16; INDEX];
     let mut rows = [8u64; ROWS];
     let mut tops = [0u16; TOPS];
-    let o = open_sheet(s, &mut names, &mut rows, &mut tops);
-    match o {
-        Opening::Sheet {
-            window,
-            signals,
-            tops: _,
-            count,
-        } => {
-            let words = 2 * count * words_of(window);
+    match open_sheet(s, &mut names, &mut rows, &mut tops) {
+        Ok(sheet) => {
+            let words = 2 * sheet.count * words_of(sheet.window);
             if table.len() < words {
-                return write_refusal(29, 0, out);
+                return write_refusal(Fault::ListedTable as usize, 0, out);
             }
             settle_table(
                 s,
-                &names[LINKS..LINKS + signals],
-                window,
-                count,
+                &names[LINKS..LINKS + sheet.signals],
+                sheet.window,
+                sheet.count,
                 readings,
                 &mut table[..words],
                 out,
             )
         }
-        Opening::Refused(k, p) => write_refusal(k, p, out),
+        Err(r) => write_refusal(r.number(), r.place, out),
     }
 }

@@ -8,15 +8,15 @@ use native.Mathlib.Nat.{mul-le-mul_right}
 use native.Mathlib.Numerals.{add-one}
 use native.Mathlib.Omega.{arith}
 use lib.ListN.{length, get_or, drop, drop_of_length-le}
-use Rattle.read_names.specs.Spellings.{spelling_at, names_at}
-use Rattle.read_names.proofs.Names.{names_at_lem}
 use Rattle.read_bytes.proofs.Places.{drop_in}
-use Rattle.spec_tilco.specs.Table.{Stands, Answer, Asked, clashes}
+use Rattle.spec_tilco.specs.Table.{Stands, Answer, Asked}
 use Rattle.spec_tilco.proofs.Demand1.{asked_one}
 use Rattle.table_marks.specs.Values.{value_says}
 use Rattle.table_marks.specs.declared.Value.{Value}
-use Rattle.write_bytes.specs.Writes.{Wrote}
-use Rattle.write_bytes.proofs.Writing.{like}
+use Rattle.write_bytes.specs.Writes.{Counted}
+use Rattle.write_bytes.specs.declared.Writer.{Writer}
+use Rattle.write_bytes.specs.Writers.{Writes}
+use Rattle.write_bytes.proofs.Writing.{like, counted_like}
 use Rattle.list_signals.specs.Signals.{Listable, sign_byte, signs, signal_text, signals_text}
 
 -- A table that can be listed can be for fewer signals and a shorter window.
@@ -37,19 +37,26 @@ module _ (f : ℕ → Answer) (t W : ℕ) where
   unfolding signs
   signs_end h = let e : W - t ≡ 0 = omega arith in rw e
 
--- The signals xs from the place i on; the next one has a name at a place of the text.
-module _ (s ps xs : List ℕ) (W : ℕ) (f : ℕ → ℕ → Answer) (i : ℕ) where
-  pub signals_next : i < length xs → get_or xs i 0 < length ps
-      → signals_text W f (names_at s ps) (drop i xs) ≡ signal_text (spelling_at s (get_or ps (get_or xs i 0) 0)) (signs (f (get_or xs i 0)) 0 W) ++ signals_text W f (names_at s ps) (drop (i + 1) xs)
+-- The signals xs from the place i on, with these names.
+module _ (names : List (List ℕ)) (xs : List ℕ) (W : ℕ) (f : ℕ → ℕ → Answer) (i : ℕ) where
+  pub signals_next : i < length xs → signals_text W f names (drop i xs) ≡ signal_text (get_or names (get_or xs i 0) []) (signs (f (get_or xs i 0)) 0 W) ++ signals_text W f names (drop (i + 1) xs)
   unfolding signals_text
-  signals_next h k = rw (drop_in xs i 0 h, names_at_lem s ps (get_or xs i 0) k)
+  signals_next h = rw (drop_in xs i 0 h)
 
-  pub signals_end : length xs ≤ i → signals_text W f (names_at s ps) (drop i xs) ≡ []
+  pub signals_end : length xs ≤ i → signals_text W f names (drop i xs) ≡ []
   unfolding signals_text
   signals_end h = rw (drop_of_length-le xs h)
 
+-- What is written as a signal's name is its name.
+module _ {v w : List ℕ} (e : v ≡ w) (marks : List ℕ) where
+  pub named_counted : {b : ℕ} → Counted b (signal_text w marks) → Counted b (signal_text v marks)
+  named_counted k = counted_like k (ap (λ z. signal_text z marks) (sym e))
+
+  pub named_written : {t u : Writer} → Writes (signal_text v marks) t u → Writes (signal_text w marks) t u
+  named_written h = like (ap (λ z. signal_text z marks) (sym e)) h
+
 -- A sign written is the sign of the answer.
-pub signed : {x y b : ℕ} {m m₁ : List ℕ} {u : ℕ} → x ≡ y → Wrote (x ∷ []) b m m₁ u → Wrote (y ∷ []) b m m₁ u
+pub signed : {x y : ℕ} {t u : Writer} → x ≡ y → Writes (x ∷ []) t u → Writes (y ∷ []) t u
 signed e h = like (ap (λ (z : ℕ). z ∷ []) (sym e)) h
 
 -- The sign of a cell is that of the one answer allowed for it.

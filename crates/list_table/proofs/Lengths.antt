@@ -9,7 +9,9 @@ use Rattle.spec_limits.specs.Limits.{most_ticks, most_signals, most_name_bytes, 
 use Rattle.read_bytes.specs.Bytes.{bytes}
 use Rattle.spec_tilco.specs.Lists.{All}
 use Rattle.spec_tilco.specs.Table.{Answer}
-use Rattle.write_bytes.specs.Writes.{Wrote, Counted}
+use Rattle.write_bytes.specs.Writes.{Counted}
+use Rattle.write_bytes.specs.declared.Writer.{Writer}
+use Rattle.write_bytes.specs.Writers.{Writes}
 use Rattle.write_lines.specs.LineTexts.{one_if, number_text}
 use Rattle.write_lines.proofs.Lengths.{number_most}
 use Rattle.spec_tilco.proofs.Lists.{all_nth}
@@ -23,20 +25,20 @@ use Rattle.list_table.specs.Listing.{head_text, listing_text, refusal_text}
 pub number_counted : (key : List ℕ) (n : ℕ) {b : ℕ} → b + length key ≤ most_listed → Counted b (number_text key n)
 number_counted key n h = record { below = omega (arith, number_most key n) }
 
-pub number_ends : (key : List ℕ) (n : ℕ) {b : ℕ} {m m₁ : List ℕ} {u : ℕ} → Wrote (number_text key n) b m m₁ u → u ≤ b + length key + 21
-number_ends key n w = omega (arith, number_most key n)
+pub number_ends : (key : List ℕ) (n : ℕ) {t u : Writer} → Writes (number_text key n) t u → u.used ≤ t.used + length key + 21
+number_ends key n w = omega (arith, number_most key n, w.wrote.next)
 
--- A signal's lines have its name, a sign a tick, and 15 bytes more.
-signals_most : (W : ℕ) (f : ℕ → ℕ → Answer) (names : List (List ℕ)) (xs : List ℕ) → W ≤ most_ticks → All (λ w. length w ≤ most_name_bytes) names → All (λ x. x < length names) xs
-    → length (signals_text W f names xs) ≤ (most_name_bytes + most_ticks + 15) * length xs
+-- A signal's lines have its name, of at most so many bytes, a sign a tick, and 15 bytes more.
+pub signals_most : (limit W : ℕ) (f : ℕ → ℕ → Answer) (names : List (List ℕ)) (xs : List ℕ) → W ≤ most_ticks → All (λ w. length w ≤ limit) names → All (λ x. x < length names) xs
+    → length (signals_text W f names xs) ≤ (limit + most_ticks + 15) * length xs
 unfolding signals_text
-signals_most W f names [] h a b = omega arith
-signals_most W f names (x ∷ xs) h a b =
+signals_most limit W f names [] h a b = omega arith
+signals_most limit W f names (x ∷ xs) h a b =
     let name = get_or names x [] in
     let l = signal_length name (signs (f x) 0 W) in
     let k = signs_length (f x) 0 W in
-    let i = signals_most W f names xs h a b.1 in
-    let s = all_nth (λ w. length w ≤ most_name_bytes) [] names x a b.0 in
+    let i = signals_most limit W f names xs h a b.1 in
+    let s = all_nth (λ w. length w ≤ limit) [] names x a b.0 in
     omega (arith, length-append (signal_text name (signs (f x) 0 W)) (signals_text W f names xs))
 
 pub head_most : (rows facts : ℕ) (clash : Bool) → length (head_text rows facts clash) ≤ 108
@@ -59,7 +61,7 @@ pub listing_most : (names : List (List ℕ)) (W rows facts : ℕ) (clash : Bool)
 unfolding listing_text
 listing_most names W rows facts clash f a n w =
     let h = head_most rows facts clash in
-    let l = signals_most W f names (in_order_lem names) w a (order_within names) in
+    let l = signals_most most_name_bytes W f names (in_order_lem names) w a (order_within names) in
     omega (arith, length-append (head_text rows facts clash) (signals_text W f names (in_order_lem names)), order_long names)
 
 -- and so does a refusal's.

@@ -22,8 +22,14 @@ fn turned(always: bool, sense: bool) -> bool
 }
 
 // The formula at a node.
-#[cycle(join_lower_pair_same_timed)]
-pub fn lower(arena: &[u16], node: usize, sense: bool, out: &mut [u64], used: usize) -> Lowered
+#[cycle(lower)]
+pub fn lower(
+    arena: &[u16],
+    node: usize,
+    sense: bool,
+    out: &mut [u64],
+    used: usize,
+) -> Option<Lowered>
     requires node_in { NodeIn arena.now node }
     requires row_buffer { RowBuffer out.old used }
     ensures { Lowers (lowered_at arena.now sense node) used out.old out.new result }
@@ -47,7 +53,7 @@ pub fn lower(arena: &[u16], node: usize, sense: bool, out: &mut [u64], used: usi
 }
 
 // Two formulas with a sign between them.
-#[cycle(join_lower_pair_same_timed)]
+#[cycle(lower)]
 fn pair(
     arena: &[u16],
     sign: Sign,
@@ -56,7 +62,7 @@ fn pair(
     sense: bool,
     out: &mut [u64],
     used: usize,
-) -> Lowered
+) -> Option<Lowered>
     requires nodes_in { NodesIn arena.now left right }
     requires row_buffer { RowBuffer out.old used }
     ensures { Lowers (pair_at arena.now (op_of sign) sense left right) used out.old out.new result }
@@ -70,7 +76,7 @@ fn pair(
 }
 
 // Two formulas, each in its sense, then their gate.
-#[cycle(join_lower_pair_same_timed)]
+#[cycle(lower)]
 fn join(
     arena: &[u16],
     left: usize,
@@ -80,22 +86,18 @@ fn join(
     gate: bool,
     out: &mut [u64],
     used: usize,
-) -> Lowered
+) -> Option<Lowered>
     requires nodes_in { NodesIn arena.now left right }
     requires row_buffer { RowBuffer out.old used }
     ensures { Lowers (join_of gate (lowered_at arena.now left_sense left) (lowered_at arena.now right_sense right)) used out.old out.new result }
 {
-    let Lowered::Top { row: a, used: next } = lower(arena, left, left_sense, out, used) else {
-        return Lowered::Full;
-    };
-    let Lowered::Top { row: b, used: last } = lower(arena, right, right_sense, out, next) else {
-        return Lowered::Full;
-    };
-    push_row(gate_code(gate, a, b), out, last)
+    let a = lower(arena, left, left_sense, out, used)?;
+    let b = lower(arena, right, right_sense, out, a.used as usize)?;
+    push_row(gate_code(gate, a.row, b.row), out, b.used as usize)
 }
 
 // Two formulas that are to be the same: each gives the other.
-#[cycle(join_lower_pair_same_timed)]
+#[cycle(lower)]
 fn same(
     arena: &[u16],
     left: usize,
@@ -103,27 +105,28 @@ fn same(
     sense: bool,
     out: &mut [u64],
     used: usize,
-) -> Lowered
+) -> Option<Lowered>
     requires nodes_in { NodesIn arena.now left right }
     requires row_buffer { RowBuffer out.old used }
     ensures { Lowers (pair_at arena.now Iff sense left right) used out.old out.new result }
 {
     let opposite = !sense;
-    let Lowered::Top { row: a, used: next } = join(
-        arena, left, opposite, right, sense, opposite, out, used,
-    ) else {
-        return Lowered::Full;
-    };
-    let Lowered::Top { row: b, used: last } = join(
-        arena, right, opposite, left, sense, opposite, out, next,
-    ) else {
-        return Lowered::Full;
-    };
-    push_row(gate_code(sense, a, b), out, last)
+    let a = join(arena, left, opposite, right, sense, opposite, out, used)?;
+    let b = join(
+        arena,
+        right,
+        opposite,
+        left,
+        sense,
+        opposite,
+        out,
+        a.used as usize,
+    )?;
+    push_row(gate_code(sense, a.row, b.row), out, b.used as usize)
 }
 
 // A formula, its looks over an interval, and their joins.
-#[cycle(join_lower_pair_same_timed)]
+#[cycle(lower)]
 fn timed(
     arena: &[u16],
     child: usize,
@@ -133,18 +136,12 @@ fn timed(
     more: u16,
     out: &mut [u64],
     used: usize,
-) -> Lowered
+) -> Option<Lowered>
     requires node_in { NodeIn arena.now child }
     requires near_interval { NearInterval first more }
     requires row_buffer { RowBuffer out.old used }
     ensures { Lowers (timedOf gate first more (lowered_at arena.now sense child)) used out.old out.new result }
 {
-    let Lowered::Top {
-        row: top,
-        used: next,
-    } = lower(arena, child, sense, out, used)
-    else {
-        return Lowered::Full;
-    };
-    spread(top, gate, first, more, out, next)
+    let top = lower(arena, child, sense, out, used)?;
+    spread(top.row, gate, first, more, out, top.used as usize)
 }

@@ -19,12 +19,11 @@ use Rattle.read_sheet.proofs.Ruled.{Passed, passed_none, passed_one, passed_all}
 use Rattle.read_bytes.specs.Read.{Read}
 use Rattle.read_index.specs.Index.{places_in, name_count, names_in}
 use Rattle.lower_rule.specs.RuleRows.{Buffers, RuleIn, whole_at, all_lowered_says}
-use Rattle.lower_rule.specs.declared.rules.AllLowered.{AllLowered}
-use Rattle.lower_rule.specs.declared.rules.AllLowered.TheVariants.{Next}
+use Rattle.std.specs.Prelude.{Option, Some}
+use Rattle.lower_rule.specs.declared.rules.InUse.{InUse}
+use Rattle.lower_rule.proofs.InTurn.{in_use}
 use Rattle.lower_rule.proofs.Spelled.{held_definings, held_spelled}
-use Rattle.lower_lines.specs.InTurn.{Legible, rules_at, spelled_all, Tried, Follows, RulesRead}
-use Rattle.lower_lines.specs.InTurn.RulesRead.{read}
-use Rattle.lower_lines.specs.declared.RuleLines.TheVariants as lines
+use Rattle.lower_lines.specs.InTurn.{Legible, rules_at, spelled_all, Tried, Follows}
 use Rattle.lower_lines.proofs.Trying.{tried_none}
 
 -- One rule more.
@@ -57,10 +56,10 @@ pub record State : Type 0 where
   pub done : ℕ
   pub place : ℕ
   pub row : ℕ
-  pub lowered : AllLowered
+  pub lowered : Option InUse
   pub now : Buffers
 
-abbrev pub state_of : ℕ → ℕ → ℕ → AllLowered → Buffers → State
+abbrev pub state_of : ℕ → ℕ → ℕ → Option InUse → Buffers → State
 state_of i p x r B = record { done = i; place = p; row = x; lowered = r; now = B }
 
 -- The rules that are read are ws, and they are lowered as far as there was room.
@@ -77,7 +76,7 @@ module _ (o : Lines) where
 
   -- none is at first
   pub underway_none : o.first ≤ length o.text → o.base ≤ length o.start.rows
-      → Underway o (state_of 0 o.first (name_count o.index) (Next 0 o.base) o.start) []
+      → Underway o (state_of 0 o.first (name_count o.index) (Some (in_use 0 o.base)) o.start) []
   underway_none h k = record {
     passed = passed_none names o.text o.many o.first h;
     row = omega arith;
@@ -98,7 +97,7 @@ module _ (o : Lines) where
     }
 
     -- one more is read and lowered
-    pub underway_one : {a : List ℕ} {q u y : ℕ} → z.done < o.many → (w : RuleHeld a z.row (rule_line names o.text z.place) q u y) → (r : AllLowered) (B : Buffers)
+    pub underway_one : {a : List ℕ} {q u y : ℕ} → z.done < o.many → (w : RuleHeld a z.row (rule_line names o.text z.place) q u y) → (r : Option InUse) (B : Buffers)
         → length B.rows ≡ length z.now.rows → length B.tops ≡ length z.now.tops → Follows (whole_at a (u - 1)) z.now B z.lowered r
         → Underway o (state_of (z.done + 1) q y r B) (ws ++ (w.rule ∷ []))
     underway_one {a} {q} {u} h w r B e f follows =
@@ -117,7 +116,7 @@ module _ (o : Lines) where
 
     -- all are
     pub underway_all : o.many ≤ z.done
-        → RulesRead (rules_at o.text o.index o.many o.first) (name_count o.index) o.base o.start z.now (lines.Read (z.row - name_count o.index) z.place z.lowered)
+        → (w : AllRules (rules_at o.text o.index o.many o.first) (z.row - name_count o.index) z.place) × Tried (spelled_all w.all (name_count o.index)) o.base o.start z.now (all_lowered_says z.lowered)
     underway_all h =
         let w : AllRules (rules_at o.text o.index o.many o.first) (z.row - name_count o.index) z.place = record { all = ws; reads = passed_all names o.text o.many o.first k.passed h; hidden = omega (arith, k.row) } in
-        read w k.tried
+        (w, k.tried)

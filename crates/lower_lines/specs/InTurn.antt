@@ -1,6 +1,6 @@
 -- What reading and lowering the lines of a sheet's rules in turn answers, and what it leaves in the row buffer and in the tops (01, "Lowering, row by row").
 -- Assumes nothing. R is what the rules' lines hold and n how many signals are declared; B are the buffers before and B' after.
-use Rattle.std.specs.Prelude.{◌≡◌, ◌⊎◌, List, ◌++◌, ℕ, ◌+◌, ◌<◌, ◌≤◌, length}
+use Rattle.std.specs.Prelude.{◌≡◌, ◌⊎◌, Option, Some, List, ◌++◌, ℕ, ◌+◌, ◌<◌, ◌≤◌, length, Result, Ok, Err}
 use Rattle.spec_limits.specs.Limits.{most_rules, most_rows, most_tops}
 use Rattle.read_bytes.specs.Read.{Read}
 use Rattle.read_bytes.specs.Read.Read.{got, refused}
@@ -12,10 +12,10 @@ use Rattle.read_sheet.specs.Sheet.{rules}
 use Rattle.read_sheet.specs.RuleAnswers.{AllRules}
 use Rattle.lower_rule.specs.RuleRows.{Buffers, LowersAll, all_lowered_says}
 use Rattle.lower_rows.specs.RowWrites.{RowBuffer, no_room_lem}
-use Rattle.lower_rule.specs.declared.rules.AllLowered.{AllLowered}
-use Rattle.lower_rule.specs.declared.rules.AllLowered.TheVariants.{Next}
+use Rattle.lower_rule.specs.declared.rules.InUse.{InUse}
 use Rattle.lower_lines.specs.declared.RuleLines.{RuleLines}
-use Rattle.lower_lines.specs.declared.RuleLines.TheVariants as lines
+use Rattle.spec_refusals.specs.declared.Refusal.{Refusal}
+use Rattle.spec_refusals.specs.Numbers.{fault_number}
 
 -- The lines of m rules can be read from p on: the names stand before them.
 pub record Legible (s names : List ℕ) (m p : ℕ) : Type 0 where
@@ -39,25 +39,25 @@ spelled_all ws n = lows (laid hiddens spelled ws n)
 
 -- The formulas cs are lowered, from row b and from the first top on; or there is no room for their rows or for their tops.
 pub data Tried (cs : List BTL) (b : ℕ) (B B' : Buffers) : Read ℕ → Type 0 where
-  went : {at used : ℕ} → length cs ≤ length B.tops → LowersAll cs b 0 B B' (Next at used) → Tried cs b B B' (got at used)
+  went : {u : InUse} → length cs ≤ length B.tops → LowersAll cs b 0 B B' (Some u) → Tried cs b B B' (got u.tops u.rows)
   full : (length B.rows < b + total size cs) ⊎ (length B.tops < length cs) → Tried cs b B B' no_room_lem
 
 -- The first `at` tops and the first `used` rows are in use.
-pub record InUse (B : Buffers) (at used : ℕ) : Type 0 where
+pub record UsedIn (B : Buffers) (at used : ℕ) : Type 0 where
   pub tops_in : at ≤ length B.tops
   pub buffer : RowBuffer B.rows used
 
 -- What is lowered is in use.
 abbrev pub RoomIn : Buffers → Read ℕ → Type 0
-RoomIn B (got at used) = InUse B at used
+RoomIn B (got at used) = UsedIn B at used
 RoomIn B (refused n p) = Unit {0}
 
 -- The formulas ds follow: where r says how far some were lowered, r' says it of them and of ds.
-abbrev pub Follows : List BTL → Buffers → Buffers → AllLowered → AllLowered → Type 0
+abbrev pub Follows : List BTL → Buffers → Buffers → Option InUse → Option InUse → Type 0
 Follows ds B B' r r' =
     (cs : List BTL) (b : ℕ) (B₀ : Buffers) → Tried cs b B₀ B (all_lowered_says r) → Tried (cs ++ ds) b B₀ B' (all_lowered_says r')
 
--- What each case of reading the rules' lines says, with their rows from row b on.
-pub data RulesRead (R : Read (List Written)) (n b : ℕ) (B B' : Buffers) : RuleLines → Type 0 where
-  read : {h q : ℕ} {r : AllLowered} (w : AllRules R h q) → Tried (spelled_all w.all n) b B B' (all_lowered_says r) → RulesRead R n b B B' (lines.Read h q r)
-  refused_at : {k p : ℕ} → R ≡ refused k p → RulesRead R n b B B' (lines.Refused k p)
+-- What the answer of reading the rules' lines says, with their rows from row b on.
+abbrev pub RulesRead : Read (List Written) → ℕ → ℕ → Buffers → Buffers → Result RuleLines Refusal → Type 0
+RulesRead R n b B B' (Ok l) = (w : AllRules R l.hidden l.end) × Tried (spelled_all w.all n) b B B' (all_lowered_says l.lowered)
+RulesRead R n b B B' (Err r) = R ≡ refused (fault_number r.fault) r.place

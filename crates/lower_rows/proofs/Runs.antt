@@ -9,13 +9,13 @@ use native.Mathlib.Numerals.{add-one}
 use native.Mathlib.Omega.{arith}
 use lib.ListN.{length, set, length-append, length-set}
 use lib.Seq.{sets, length-sets}
+use Rattle.std.specs.Prelude.{Option, Some, None}
 use Rattle.spec_tilco.specs.Lists.{tab}
 use Rattle.spec_tilco.specs.Inference.{Node, gate, look}
 use Rattle.spec_tilco.specs.Lowering.{joined}
 use Rattle.lower_rows.specs.RowCodes.{row_code}
 use Rattle.lower_rows.specs.RowWrites.{RowBuffer, Fits, looks, gates, last_gate, WroteRows, Spreads}
 use Rattle.lower_rows.specs.declared.words.Lowered.{Lowered}
-use Rattle.lower_rows.specs.declared.words.Lowered.TheVariants.{Top, Full}
 
 -- Two runs of stores are one.
 pub sets_append : (m : List ℕ) (b : ℕ) (ws vs : List ℕ) → sets (sets m b ws) (b + length ws) vs ≡ sets m b (ws ++ vs)
@@ -23,48 +23,44 @@ sets_append m b [] vs = rw add-zero
 sets_append m b (w ∷ ws) vs = rw (add-suc, ← suc-add) (sets_append (set m b w) (suc b) ws vs)
 
 -- What is known where the row codes fit.
-pub fits : (ws : List ℕ) (t b : ℕ) (m m₁ : List ℕ) (r : Lowered) (row u : ℕ) → r ≡ Top row u → WroteRows ws t b m m₁ r → Fits ws t b m m₁ row u
+pub fits : {ws : List ℕ} {t b : ℕ} {m m₁ : List ℕ} {v : Lowered} → WroteRows ws t b m m₁ (Some v) → Fits ws t b m m₁ v.row v.used
 unfolding WroteRows
-fits ws t b m m₁ r row u e h = rw e at h
+fits h = h
 
 -- After a writer the buffer is a row buffer with other rows in use.
 pub buffer_on : {m m₁ : List ℕ} {b u : ℕ} → RowBuffer m b → u ≤ length m → length m₁ ≡ length m → RowBuffer m₁ u
 buffer_on B room long = record { few = omega (arith, B.few); used_in = omega arith }
 
 -- One write after another is one write, whatever the second answers.
-extend : (ws vs : List ℕ) (t t' b : ℕ) (m m₁ m₂ : List ℕ) (row u : ℕ) (r : Lowered)
-    → Fits ws t b m m₁ row u → WroteRows vs t' u m₁ m₂ r → WroteRows (ws ++ vs) t' b m m₂ r
+pub and_then_lem : (ws vs : List ℕ) (t t' b : ℕ) (m m₁ m₂ : List ℕ) (v : Lowered) (r : Option Lowered)
+    → WroteRows ws t b m m₁ (Some v) → WroteRows vs t' v.used m₁ m₂ r → WroteRows (ws ++ vs) t' b m m₂ r
 unfolding WroteRows
-extend ws vs t t' b m m₁ m₂ row u (Top row' v) R k = record {
+and_then_lem ws vs t t' b m m₁ m₂ v (Some w) R k = record {
   top = k.top;
   next = omega (arith, length-append ws vs);
   room = omega arith;
   holds = k.holds ∙ rw (R.holds, R.next) (sets_append m b ws vs);
   long = k.long ∙ R.long;
 }
-extend ws vs t t' b m m₁ m₂ row u Full R k = record { over = omega (arith, length-append ws vs); long = k.long ∙ R.long }
-
-pub and_then_lem : (ws vs : List ℕ) (t t' b : ℕ) (m m₁ m₂ : List ℕ) (r₁ : Lowered) (row u : ℕ) (r : Lowered)
-    → r₁ ≡ Top row u → WroteRows ws t b m m₁ r₁ → WroteRows vs t' u m₁ m₂ r → WroteRows (ws ++ vs) t' b m m₂ r
-and_then_lem ws vs t t' b m m₁ m₂ r₁ row u r e h k = extend ws vs t t' b m m₁ m₂ row u r (fits ws t b m m₁ r₁ row u e h) k
+and_then_lem ws vs t t' b m m₁ m₂ v None R k = record { over = omega (arith, length-append ws vs); long = k.long ∙ R.long }
 
 -- Where the first part does not fit, the whole does not.
-pub no_room : (ws vs : List ℕ) (t t' b : ℕ) (m m₁ : List ℕ) (r₁ : Lowered) → r₁ ≡ Full → WroteRows ws t b m m₁ r₁ → WroteRows (ws ++ vs) t' b m m₁ Full
+pub no_room : (ws vs : List ℕ) (t t' b : ℕ) (m m₁ : List ℕ) → WroteRows ws t b m m₁ None → WroteRows (ws ++ vs) t' b m m₁ None
 unfolding WroteRows
-no_room ws vs t t' b m m₁ r₁ e h = let k = rw e at h in record { over = omega (arith, length-append ws vs); long = k.long }
+no_room ws vs t t' b m m₁ k = record { over = omega (arith, length-append ws vs); long = k.long }
 
 -- One row code more fits.
-pub stored : (w b : ℕ) (m : List ℕ) → b < length m → WroteRows (w ∷ []) b b m (set m b w) (Top b (b + 1))
+pub stored : (w b : ℕ) (m : List ℕ) → b < length m → WroteRows (w ∷ []) b b m (set m b w) (Some (record { row = b; used = b + 1 }))
 unfolding WroteRows
 stored w b m h = record { top = refl; next = refl; room = omega arith; holds = refl; long = length-set m b w }
 
 -- It does not.
-pub not_stored : (w b : ℕ) (m : List ℕ) → length m ≤ b → WroteRows (w ∷ []) b b m m Full
+pub not_stored : (w b : ℕ) (m : List ℕ) → length m ≤ b → WroteRows (w ∷ []) b b m m None
 unfolding WroteRows
 not_stored w b m h = record { over = omega arith; long = refl }
 
 -- Nothing is written.
-pub nothing : (t b : ℕ) (m : List ℕ) → b ≤ length m → WroteRows [] t b m m (Top t b)
+pub nothing : (t b : ℕ) (m : List ℕ) → b ≤ length m → WroteRows [] t b m m (Some (record { row = t; used = b }))
 unfolding WroteRows
 nothing t b m h = record { top = refl; next = rw add-zero; room = h; holds = refl; long = refl }
 
@@ -86,7 +82,7 @@ module _ (R : ℕ → List Node) (r : ℕ → Node) (start : R zero ≡ []) (nex
   run_none m b = rw start
 
   -- All n of them stored.
-  pub run_done : (t n b : ℕ) (m m' : List ℕ) → b + n ≤ length m → m' ≡ sets m b (map row_code (R n)) → WroteRows (map row_code (R n)) t b m m' (Top t (b + n))
+  pub run_done : (t n b : ℕ) (m m' : List ℕ) → b + n ≤ length m → m' ≡ sets m b (map row_code (R n)) → WroteRows (map row_code (R n)) t b m m' (Some (record { row = t; used = b + n }))
   unfolding WroteRows
   run_done t n b m m' h e = record {
     top = refl;
@@ -97,7 +93,7 @@ module _ (R : ℕ → List Node) (r : ℕ → Node) (start : R zero ≡ []) (nex
   }
 
   -- They do not fit.
-  pub run_full : (t n b : ℕ) (m : List ℕ) → length m < b + n → WroteRows (map row_code (R n)) t b m m Full
+  pub run_full : (t n b : ℕ) (m : List ℕ) → length m < b + n → WroteRows (map row_code (R n)) t b m m None
   unfolding WroteRows
   run_full t n b m h = record { over = omega (arith, run_length n); long = refl }
 
@@ -131,15 +127,15 @@ pub gate_row : (g : Bool) (x i k : ℕ) → row_code (gate g x (i + k + 1)) ≡ 
 gate_row g x i k = let e : i + k + 1 ≡ i + suc k = omega arith in ap (λ (y : ℕ). row_code (gate g x y)) e
 
 -- The looks of an interval were tried: the joins follow.
-module _ (g : Bool) (lo k x b : ℕ) (m m₁ : List ℕ) (r₁ : Lowered) (w₁ : WroteRows (map row_code (looks x lo (k + 1))) b b m m₁ r₁) where
-  pub spread_full : r₁ ≡ Full → Spreads g lo k x b m m₁ Full
+module _ (g : Bool) (lo k x b : ℕ) (m m₁ : List ℕ) where
+  pub spread_full : WroteRows (map row_code (looks x lo (k + 1))) b b m m₁ None → Spreads g lo k x b m m₁ None
   unfolding Spreads
-  spread_full e = rw map-append (no_room _ _ _ _ _ _ _ _ e (rw add-one at w₁))
+  spread_full w = rw map-append (no_room _ _ _ _ _ _ _ (rw add-one at w))
 
-  pub spread_then : (row u : ℕ) (m₂ : List ℕ) (r : Lowered) → r₁ ≡ Top row u
-      → WroteRows (map row_code (gates g b u k)) (last_gate b u k) u m₁ m₂ r → Spreads g lo k x b m m₂ r
+  pub spread_then : (v : Lowered) (m₂ : List ℕ) (r : Option Lowered) → WroteRows (map row_code (looks x lo (k + 1))) b b m m₁ (Some v)
+      → WroteRows (map row_code (gates g b v.used k)) (last_gate b v.used k) v.used m₁ m₂ r → Spreads g lo k x b m m₂ r
   unfolding Spreads
-  spread_then row u m₂ r e h =
-      let R = fits _ _ _ _ _ _ row u e w₁ in
-      let n : u ≡ b + suc k = omega (arith, run_length (looks x lo) _ (looks_start x lo) (looks_next x lo) (k + 1)) in
-      rw (map-append, ← n) (and_then_lem _ _ _ _ _ _ _ _ _ _ _ _ e (rw add-one at w₁) h)
+  spread_then v m₂ r w h =
+      let R = fits w in
+      let n : v.used ≡ b + suc k = omega (arith, run_length (looks x lo) _ (looks_start x lo) (looks_next x lo) (k + 1)) in
+      rw (map-append, ← n) (and_then_lem _ _ _ _ _ _ _ _ _ _ (rw add-one at w) h)

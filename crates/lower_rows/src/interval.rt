@@ -7,46 +7,44 @@ ghost use Rattle.lower_rows.specs.RowWrites.{RowBuffer, NearInterval, looks, gat
 use crate::words::{Lowered, gate_code, look_code};
 
 // n looks at the row child, from the offset first up, in the rows from used on.
-fn write_looks(child: u16, first: u16, n: usize, out: &mut [u64], used: usize) -> Lowered
-    requires first_le_most_offset { (first ≤ most_offset) × (n ≤ most_offset) }
+fn write_looks(child: u16, first: u16, n: usize, out: &mut [u64], used: usize) -> Option<Lowered>
+    requires offsets { (first ≤ most_offset) × (n ≤ most_offset) }
     requires row_buffer { RowBuffer out.old used }
     ensures { WroteRows (map row_code (looks child first n)) used used out.old out.new result }
 {
     if out.len() - used < n {
-        return Lowered::Full;
+        return None;
     }
-    let mut i: usize = 0;
-    while i < n {
+    for i in 0..n {
         let offset = first + i as u16;
         out[used + i] = look_code(child, offset);
-        i += 1;
     }
-    let row = used as u16;
-    let next = used + n;
-    Lowered::Top { row, used: next }
+    Some(Lowered {
+        row: used as u16,
+        used: (used + n) as u16,
+    })
 }
 
 // The n gates that join the n + 1 rows from first on, from the left, in the rows from used on.
-fn write_gates(gate: bool, first: usize, n: usize, out: &mut [u64], used: usize) -> Lowered
-    requires first_le_most_rows { (first ≤ most_rows) × (n ≤ most_offset) }
+fn write_gates(gate: bool, first: usize, n: usize, out: &mut [u64], used: usize) -> Option<Lowered>
+    requires joined_rows { (first ≤ most_rows) × (n ≤ most_offset) }
     requires row_buffer { RowBuffer out.old used }
     ensures { WroteRows (map row_code (gates gate first used n)) (last_gate first used n) used out.old out.new result }
 {
     if out.len() - used < n {
-        return Lowered::Full;
+        return None;
     }
     let mut last = first;
-    let mut i: usize = 0;
-    while i < n {
+    for i in 0..n {
         let left = last as u16;
         let right = (first + i + 1) as u16;
         out[used + i] = gate_code(gate, left, right);
         last = used + i;
-        i += 1;
     }
-    let row = last as u16;
-    let next = used + n;
-    Lowered::Top { row, used: next }
+    Some(Lowered {
+        row: last as u16,
+        used: (used + n) as u16,
+    })
 }
 
 // The looks at the row child over the interval of the offset first and so many more, then their joins by and (true) or by or (false).
@@ -57,15 +55,13 @@ pub fn spread(
     more: u16,
     out: &mut [u64],
     used: usize,
-) -> Lowered
+) -> Option<Lowered>
     requires near_interval { NearInterval first more }
     requires row_buffer { RowBuffer out.old used }
     ensures { Spreads gate first more child used out.old out.new result }
 {
     let joins = more as usize;
     let count = joins + 1;
-    let Lowered::Top { row: _, used: next } = write_looks(child, first, count, out, used) else {
-        return Lowered::Full;
-    };
-    write_gates(gate, used, joins, out, next)
+    let looks = write_looks(child, first, count, out, used)?;
+    write_gates(gate, used, joins, out, looks.used as usize)
 }

@@ -17,9 +17,8 @@ use Rattle.lower_rows.specs.RowCodes.{row_code}
 use Rattle.lower_rows.specs.RowWrites.{WroteRows, Lowers}
 use Rattle.lower_rule.specs.RuleRows.{Buffers, buffers, WentAll, LowersAll}
 use Rattle.lower_rows.specs.declared.words.Lowered.{Lowered}
-use Rattle.lower_rows.specs.declared.words.Lowered.TheVariants.{Top, Full as NoRoom}
-use Rattle.lower_rule.specs.declared.rules.AllLowered.{AllLowered}
-use Rattle.lower_rule.specs.declared.rules.AllLowered.TheVariants.{Next, Full}
+use Rattle.lower_rule.specs.declared.rules.InUse.{InUse}
+use Rattle.std.specs.Prelude.{Option, Some, None}
 use Rattle.lower_rows.proofs.Runs.{sets_append}
 
 -- As many tops as formulas.
@@ -27,14 +26,17 @@ pub tops_length : (cs : List BTL) (b : ℕ) → length (tops_all cs b) ≡ lengt
 tops_length [] b = refl
 tops_length (c ∷ cs) b = ap suc (tops_length cs (b + size c))
 
+-- So many tops and so many rows are in use.
+abbrev pub in_use : ℕ → ℕ → InUse
+in_use at used = record { tops = at; rows = used }
+
 -- What is known where formulas' rows fit.
-pub went_all : (cs : List BTL) (b k : ℕ) (B B₁ : Buffers) (r : AllLowered) → LowersAll cs b k B B₁ r → (at u : ℕ) → r ≡ Next at u
-    → WentAll cs b k B B₁ at u
+pub went_all : {cs : List BTL} {b k : ℕ} {B B₁ : Buffers} {u : InUse} → LowersAll cs b k B B₁ (Some u) → WentAll cs b k B B₁ u.tops u.rows
 unfolding LowersAll
-went_all cs b k B B₁ r w at u e = rw e at w
+went_all w = w
 
 -- No formula.
-pub all_none : (b k : ℕ) (B : Buffers) → b ≤ length B.rows → LowersAll [] b k B B (Next k b)
+pub all_none : (b k : ℕ) (B : Buffers) → b ≤ length B.rows → LowersAll [] b k B B (Some (in_use k b))
 unfolding LowersAll
 all_none b k B h = record {
   tops = sym (add-zero k);
@@ -47,40 +49,36 @@ all_none b k B h = record {
 }
 
 -- One formula was tried.
-module _ (c : BTL) (b : ℕ) (m m₁ : List ℕ) (k : ℕ) (ts : List ℕ) (r : Lowered) (w : Lowers c b m m₁ r) where
-  pub one_full : r ≡ NoRoom → LowersAll (c ∷ []) b k (buffers m ts) (buffers m₁ ts) Full
+module _ (c : BTL) (b : ℕ) (m m₁ : List ℕ) (k : ℕ) (ts : List ℕ) where
+  pub one_full : Lowers c b m m₁ None → LowersAll (c ∷ []) b k (buffers m ts) (buffers m₁ ts) None
   unfolding LowersAll Lowers WroteRows
-  one_full e =
-      let h = rw e at w in
-      record { over = omega (arith, h.over, length-map (rows_of c b) row_code, length_rows c b); long = h.long }
+  one_full h = record { over = omega (arith, h.over, length-map (rows_of c b) row_code, length_rows c b); long = h.long }
 
-  pub one_then : (row u : ℕ) → r ≡ Top row u → LowersAll (c ∷ []) b k (buffers m ts) (buffers m₁ (set ts k row)) (Next (k + 1) u)
+  pub one_then : (v : Lowered) → Lowers c b m m₁ (Some v) → LowersAll (c ∷ []) b k (buffers m ts) (buffers m₁ (set ts k v.row)) (Some (in_use (k + 1) v.used))
   unfolding LowersAll Lowers WroteRows
-  one_then row u e =
-      let h = rw e at w in
-      record {
-        tops = refl;
-        next = omega (arith, h.next, length-map (rows_of c b) row_code, length_rows c b);
-        room = h.room;
-        rows = h.holds ∙ ap (λ (l : List Node). sets m b (map row_code l)) (sym (append-nil (rows_of c b)));
-        holds = ap (set ts k) h.top;
-        long = h.long;
-        wide = length-set ts k row;
-      }
+  one_then v h = record {
+    tops = refl;
+    next = omega (arith, h.next, length-map (rows_of c b) row_code, length_rows c b);
+    room = h.room;
+    rows = h.holds ∙ ap (λ (l : List Node). sets m b (map row_code l)) (sym (append-nil (rows_of c b)));
+    holds = ap (set ts k) h.top;
+    long = h.long;
+    wide = length-set ts k v.row;
+  }
 
 -- Some formulas were tried, others follow.
-module _ (cs ds : List BTL) (b k : ℕ) (B B₁ : Buffers) (r₁ : AllLowered) (w : LowersAll cs b k B B₁ r₁) where
-  pub all_full : (ts₂ : List ℕ) → r₁ ≡ Full → LowersAll (cs ++ ds) b k B (buffers B₁.rows ts₂) Full
+module _ (cs ds : List BTL) (b k : ℕ) (B B₁ : Buffers) where
+  pub all_full : (ts₂ : List ℕ) → LowersAll cs b k B B₁ None → LowersAll (cs ++ ds) b k B (buffers B₁.rows ts₂) None
   unfolding LowersAll
-  all_full ts₂ e = let h = rw e at w in record { over = omega (arith, h.over, total_append size cs ds); long = h.long }
+  all_full ts₂ h = record { over = omega (arith, h.over, total_append size cs ds); long = h.long }
 
-  module _ (at u : ℕ) (e : r₁ ≡ Next at u) (B₂ : Buffers) where
-    abbrev W : WentAll cs b k B B₁ at u
-    W = went_all cs b k B B₁ r₁ w at u e
+  module _ (u : InUse) (w : LowersAll cs b k B B₁ (Some u)) (B₂ : Buffers) where
+    abbrev W : WentAll cs b k B B₁ u.tops u.rows
+    W = went_all w
 
-    pub all_then : (r : AllLowered) → LowersAll ds u at B₁ B₂ r → LowersAll (cs ++ ds) b k B B₂ r
+    pub all_then : (r : Option InUse) → LowersAll ds u.rows u.tops B₁ B₂ r → LowersAll (cs ++ ds) b k B B₂ r
     unfolding LowersAll
-    all_then (Next at' v) h = record {
+    all_then (Some v) h = record {
       tops = omega (arith, h.tops, W.tops, length-append cs ds);
       next = omega (arith, h.next, W.next, total_append size cs ds);
       room = omega (arith, h.room, W.long);
@@ -90,37 +88,36 @@ module _ (cs ds : List BTL) (b k : ℕ) (B B₁ : Buffers) (r₁ : AllLowered) (
       wide = h.wide ∙ W.wide;
     }
       where
-        rows : sets B₁.rows u (map row_code (rows_all ds u)) ≡ sets B.rows b (map row_code (rows_all (cs ++ ds) b))
+        rows : sets B₁.rows u.rows (map row_code (rows_all ds u.rows)) ≡ sets B.rows b (map row_code (rows_all (cs ++ ds) b))
         rows =
-            let n : u ≡ b + length (map row_code (rows_all cs b)) = omega (arith, W.next, length-map (rows_all cs b) row_code, length_rows_all cs b) in
-            ap₂ (λ (l : List ℕ) (i : ℕ). sets l i (map row_code (rows_all ds u))) W.rows n
-            ∙ sets_append B.rows b (map row_code (rows_all cs b)) (map row_code (rows_all ds u))
-            ∙ ap (sets B.rows b) (sym (map-append row_code (rows_all cs b) (rows_all ds u)) ∙ ap (map row_code) (sym (laid_append size rows_of cs ds b u W.next)))
+            let n : u.rows ≡ b + length (map row_code (rows_all cs b)) = omega (arith, W.next, length-map (rows_all cs b) row_code, length_rows_all cs b) in
+            ap₂ (λ (l : List ℕ) (i : ℕ). sets l i (map row_code (rows_all ds u.rows))) W.rows n
+            ∙ sets_append B.rows b (map row_code (rows_all cs b)) (map row_code (rows_all ds u.rows))
+            ∙ ap (sets B.rows b) (sym (map-append row_code (rows_all cs b) (rows_all ds u.rows)) ∙ ap (map row_code) (sym (laid_append size rows_of cs ds b u.rows W.next)))
 
-        tops : sets B₁.tops at (tops_all ds u) ≡ sets B.tops k (tops_all (cs ++ ds) b)
+        tops : sets B₁.tops u.tops (tops_all ds u.rows) ≡ sets B.tops k (tops_all (cs ++ ds) b)
         tops =
-            let n : at ≡ k + length (tops_all cs b) = omega (arith, W.tops, tops_length cs b) in
-            ap₂ (λ (l : List ℕ) (i : ℕ). sets l i (tops_all ds u)) W.holds n
-            ∙ sets_append B.tops k (tops_all cs b) (tops_all ds u)
-            ∙ ap (sets B.tops k) (sym (laid_append size (λ c i. top_of c i ∷ []) cs ds b u W.next))
-    all_then Full h = record { over = omega (arith, h.over, W.next, W.long, total_append size cs ds); long = h.long ∙ W.long }
+            let n : u.tops ≡ k + length (tops_all cs b) = omega (arith, W.tops, tops_length cs b) in
+            ap₂ (λ (l : List ℕ) (i : ℕ). sets l i (tops_all ds u.rows)) W.holds n
+            ∙ sets_append B.tops k (tops_all cs b) (tops_all ds u.rows)
+            ∙ ap (sets B.tops k) (sym (laid_append size (λ c i. top_of c i ∷ []) cs ds b u.rows W.next))
+    all_then None h = record { over = omega (arith, h.over, W.next, W.long, total_append size cs ds); long = h.long ∙ W.long }
 
 -- A formula was tried, and none follows.
-pub one_alone : (f : Formula) (fs : List Formula) → length fs ≡ 0 → (b k : ℕ) (B B₁ : Buffers) (r : AllLowered)
+pub one_alone : (f : Formula) (fs : List Formula) → length fs ≡ 0 → (b k : ℕ) (B B₁ : Buffers) (r : Option InUse)
     → LowersAll (lows (f ∷ [])) b k B B₁ r → LowersAll (lows (f ∷ fs)) b k B B₁ r
 one_alone f [] e b k B B₁ r w = w
 one_alone f (g ∷ gs) e b k B B₁ r w = absurd (omega arith)
 
 -- The same of formulas before they are lowered: some were tried, others follow.
-module _ (fs gs : List Formula) (b k : ℕ) (B B₁ : Buffers) (r₁ : AllLowered) (w : LowersAll (lows fs) b k B B₁ r₁) where
-  pub rules_full : (ts₂ : List ℕ) → r₁ ≡ Full → LowersAll (lows (fs ++ gs)) b k B (buffers B₁.rows ts₂) Full
-  rules_full ts₂ e = rw map-append (all_full (lows fs) (lows gs) b k B B₁ r₁ w ts₂ e)
+module _ (fs gs : List Formula) (b k : ℕ) (B B₁ : Buffers) where
+  pub rules_full : (ts₂ : List ℕ) → LowersAll (lows fs) b k B B₁ None → LowersAll (lows (fs ++ gs)) b k B (buffers B₁.rows ts₂) None
+  rules_full ts₂ w = rw map-append (all_full (lows fs) (lows gs) b k B B₁ ts₂ w)
 
-  pub rules_then : (at u : ℕ) → r₁ ≡ Next at u → (B₂ : Buffers) (r : AllLowered) → LowersAll (lows gs) u at B₁ B₂ r
-      → LowersAll (lows (fs ++ gs)) b k B B₂ r
-  rules_then at u e B₂ r h = rw map-append (all_then (lows fs) (lows gs) b k B B₁ r₁ w at u e B₂ r h)
+  module _ (u : InUse) (w : LowersAll (lows fs) b k B B₁ (Some u)) where
+    pub rules_then : (B₂ : Buffers) (r : Option InUse) → LowersAll (lows gs) u.rows u.tops B₁ B₂ r → LowersAll (lows (fs ++ gs)) b k B B₂ r
+    rules_then B₂ r h = rw map-append (all_then (lows fs) (lows gs) b k B B₁ u w B₂ r h)
 
-  -- The tops of the others start after those of the first.
-  pub rules_tops : (at u : ℕ) → r₁ ≡ Next at u → (n : ℕ) → k + length (fs ++ gs) ≤ n → at + length gs ≤ n
-  rules_tops at u e n h =
-      omega (arith, (went_all (lows fs) b k B B₁ r₁ w at u e).tops, length-map fs (lowered true), length-append fs gs)
+    -- The tops of the others start after those of the first.
+    pub rules_tops : (n : ℕ) → k + length (fs ++ gs) ≤ n → u.tops + length gs ≤ n
+    rules_tops n h = omega (arith, (went_all w).tops, length-map fs (lowered true), length-append fs gs)

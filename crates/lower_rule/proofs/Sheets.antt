@@ -15,7 +15,8 @@ use Rattle.spec_tilco.proofs.Rows.{length_rows_all}
 use Rattle.spec_tilco.proofs.Order.{Ordered, row_count, children_before}
 use Rattle.lower_rows.specs.RowCodes.{row_at, Blank}
 use Rattle.lower_rule.specs.RuleRows.{Buffers, LowersAll}
-use Rattle.lower_rule.specs.declared.rules.AllLowered.TheVariants.{Next}
+use Rattle.lower_rule.specs.declared.rules.InUse.{InUse}
+use Rattle.std.specs.Prelude.{Some}
 use Rattle.lower_rows.proofs.Decoding.{Decodable, row_at_lem}
 
 -- A row's code tells it, where its children stand before it.
@@ -27,9 +28,9 @@ coded m r (look k c) o h = omega arith
 
 module _ (s : Sheet) (k : ℕ) (B B' : Buffers) where
   -- The rows in use are all of the sheet's.
-  pub sheet_used : (at used : ℕ) → LowersAll (lows (formulas s)) (signal_rows s) k B B' (Next at used) → (used ≡ row_count_lem s) × (row_count_lem s ≤ length B.rows)
+  pub sheet_used : (u : InUse) → LowersAll (lows (formulas s)) (signal_rows s) k B B' (Some u) → (u.rows ≡ row_count_lem s) × (row_count_lem s ≤ length B.rows)
   unfolding LowersAll
-  sheet_used at used w = (omega (arith, w.next, row_count s), omega (arith, w.next, w.room, row_count s))
+  sheet_used u w = (omega (arith, w.next, row_count s), omega (arith, w.next, w.room, row_count s))
 
 module _ (s : Sheet) (declared : Declared s) where
   -- Past the last row the row code is a signal's.
@@ -40,10 +41,10 @@ module _ (s : Sheet) (declared : Declared s) where
       (lt_or_ge r (row_count_lem s))
 
   -- The buffer says each row, those of signals and those past the last too.
-  pub sheet_row : (k : ℕ) (B B' : Buffers) (at used : ℕ) → Blank B.rows → LowersAll (lows (formulas s)) (signal_rows s) k B B' (Next at used)
+  pub sheet_row : (k : ℕ) (B B' : Buffers) (u : InUse) → Blank B.rows → LowersAll (lows (formulas s)) (signal_rows s) k B B' (Some u)
       → length B.rows ≤ most_rows → (r : ℕ) → row_at B'.rows r ≡ node (program s) r
   unfolding LowersAll
-  sheet_row k B B' at used blank w few r =
+  sheet_row k B B' u blank w few r =
       ap (λ (l : List ℕ). row_at l r) w.rows
       ∙ row_at_lem (rows_all (lows (formulas s)) (signal_rows s)) B.rows (signal_rows s) blank
       (omega (arith, w.next, w.room, length_rows_all (lows (formulas s)) (signal_rows s)))

@@ -1,6 +1,6 @@
 -- What lowering several formulas in turn answers and leaves in the row buffer and in the tops.
 -- Assumes nothing.
-use Rattle.std.specs.Prelude.{◌≡◌, List, ◌∷◌, map, ℕ, ◌+◌, ◌≤◌, ◌<◌, length}
+use Rattle.std.specs.Prelude.{◌≡◌, Option, Some, None, List, ◌∷◌, map, ℕ, ◌+◌, ◌≤◌, ◌<◌, length}
 use Rattle.std.proofs.lemmas.List.Edits.{sets}
 use Rattle.read_bytes.specs.Read.{Read}
 use Rattle.read_bytes.specs.Read.Read.{got, refused}
@@ -9,8 +9,7 @@ use Rattle.spec_tilco.specs.Lowering.{BTL, size, rows_all, tops_all, lows}
 use Rattle.read_arena.specs.NodeRules.{form_at, definings_at, NodeIn}
 use Rattle.lower_rows.specs.RowCodes.{row_code}
 use Rattle.lower_rows.specs.RowWrites.{no_room_lem}
-use Rattle.lower_rule.specs.declared.rules.AllLowered.{AllLowered}
-use Rattle.lower_rule.specs.declared.rules.AllLowered.TheVariants.{Next, Full}
+use Rattle.lower_rule.specs.declared.rules.InUse.{InUse}
 
 -- The buffers that rules are lowered into: that of the rows, and that of the top rows.
 pub record Buffers : Type 0 where
@@ -30,9 +29,9 @@ abbrev pub whole_at : List ℕ → ℕ → List BTL
 whole_at a n = lows (form_at a n ∷ definings_at a n)
 
 -- What each case of an answer says: the tops and the rows then used; or that there is no room.
-abbrev pub all_lowered_says : AllLowered → Read ℕ
-all_lowered_says (Next at used) = got at used
-all_lowered_says Full = no_room_lem
+abbrev pub all_lowered_says : Option InUse → Read ℕ
+all_lowered_says (Some u) = got u.tops u.rows
+all_lowered_says None = no_room_lem
 
 -- The formulas cs are lowered: their rows stand from b on and their tops from k on, and nothing else has changed in the buffers, B before
 -- and B' after.
@@ -56,5 +55,5 @@ LowersAllAs cs b k B B' (got at used) = WentAll cs b k B B' at used
 LowersAllAs cs b k B B' (refused n p) = NoFitAll cs b B B'
 
 -- So says the answer.
-unfoldable pub LowersAll : List BTL → ℕ → ℕ → Buffers → Buffers → AllLowered → Type 0
+unfoldable pub LowersAll : List BTL → ℕ → ℕ → Buffers → Buffers → Option InUse → Type 0
 LowersAll cs b k B B' r = LowersAllAs cs b k B B' (all_lowered_says r)

@@ -7,14 +7,13 @@ ghost use Rattle.lower_rows.specs.RowWrites.{RowBuffer};
 ghost use Rattle.lower_rule.specs.RuleRows.{buffers, RuleIn, whole_at, LowersAll};
 
 use lower_formula::lower;
-use lower_rows::words::Lowered;
 use read_arena::{Node, node_at};
 
-// The tops and rows in use after several formulas; or there is no room.
-#[derive(Drop)]
-pub enum AllLowered {
-    Next { at: usize, used: usize },
-    Full,
+// How many tops and how many rows are in use after several formulas.
+#[derive(Clone, Copy)]
+pub struct InUse {
+    pub tops: usize,
+    pub rows: usize,
 }
 
 // The formula at a node, in its true sense.
@@ -25,26 +24,23 @@ pub fn lower_rule(
     at: usize,
     out: &mut [u64],
     used: usize,
-) -> AllLowered
+) -> Option<InUse>
     requires node_in { NodeIn arena.now node }
-    requires at_in_bounds { at < length tops.old }
+    requires top_free { at < length tops.old }
     requires row_buffer { RowBuffer out.old used }
     ensures { LowersAll (lows (form_at arena.now node ∷ [])) used at (buffers out.old tops.old) (buffers out.new tops.new) result }
 {
-    let Lowered::Top { row, used: next } = lower(arena, node, true, out, used) else {
-        return AllLowered::Full;
-    };
-    tops[at] = row;
-    let free = at + 1;
-    AllLowered::Next {
-        at: free,
-        used: next,
-    }
+    let lowered = lower(arena, node, true, out, used)?;
+    tops[at] = lowered.row;
+    Some(InUse {
+        tops: at + 1,
+        rows: lowered.used as usize,
+    })
 }
 
 // The defining rules of the hidden signals of the rule at a node, in the order written. That of a since or an until is just before it. `!`, `@` and
 // `?` are passed over: what is inside has the same.
-#[cycle(both_definings_lower_definings)]
+#[cycle(definings)]
 pub fn lower_definings(
     arena: &[u16],
     node: usize,
@@ -52,36 +48,32 @@ pub fn lower_definings(
     at: usize,
     out: &mut [u64],
     used: usize,
-) -> AllLowered
+) -> Option<InUse>
     requires node_in { NodeIn arena.now node }
-    requires node_in_bounds { at + length (definings_at arena.now node) ≤ length tops.old }
+    requires tops_free { at + length (definings_at arena.now node) ≤ length tops.old }
     requires row_buffer { RowBuffer out.old used }
     ensures { LowersAll (lows (definings_at arena.now node)) used at (buffers out.old tops.old) (buffers out.new tops.new) result }
 {
     let mut inner = node;
     loop {
         match node_at(arena, inner) {
-            Node::Name(_) => return AllLowered::Next { at, used },
+            Node::Name(_) => return Some(InUse {
+                tops: at,
+                rows: used,
+            }),
             Node::Deny(x) => inner = x,
             Node::Pair(_, x, y) => return both_definings(arena, x, y, tops, at, out, used),
             Node::Time(_, x, _, _) => inner = x,
             Node::Keep(_, x, y, _) => {
-                let own = inner - 1;
-                let AllLowered::Next {
-                    at: free,
-                    used: next,
-                } = lower_rule(arena, own, tops, at, out, used)
-                else {
-                    return AllLowered::Full;
-                };
-                return both_definings(arena, x, y, tops, free, out, next);
+                let own = lower_rule(arena, inner - 1, tops, at, out, used)?;
+                return both_definings(arena, x, y, tops, own.tops, out, own.rows);
             }
         }
     }
 }
 
 // The defining rules of two rules, left before right.
-#[cycle(both_definings_lower_definings)]
+#[cycle(definings)]
 fn both_definings(
     arena: &[u16],
     left: usize,
@@ -90,20 +82,14 @@ fn both_definings(
     at: usize,
     out: &mut [u64],
     used: usize,
-) -> AllLowered
+) -> Option<InUse>
     requires nodes_in { NodesIn arena.now left right }
-    requires right_in_bounds { at + length (definings_at arena.now left ++ definings_at arena.now right) ≤ length tops.old }
+    requires tops_free { at + length (definings_at arena.now left ++ definings_at arena.now right) ≤ length tops.old }
     requires row_buffer { RowBuffer out.old used }
     ensures { LowersAll (lows (definings_at arena.now left ++ definings_at arena.now right)) used at (buffers out.old tops.old) (buffers out.new tops.new) result }
 {
-    let AllLowered::Next {
-        at: free,
-        used: next,
-    } = lower_definings(arena, left, tops, at, out, used)
-    else {
-        return AllLowered::Full;
-    };
-    lower_definings(arena, right, tops, free, out, next)
+    let lefts = lower_definings(arena, left, tops, at, out, used)?;
+    lower_definings(arena, right, tops, lefts.tops, out, lefts.rows)
 }
 
 // A rule's own formula, then the defining rules of its hidden signals, of which there are so many.
@@ -115,22 +101,15 @@ pub fn lower_whole_rule(
     at: usize,
     out: &mut [u64],
     used: usize,
-) -> AllLowered
+) -> Option<InUse>
     requires rule_in { RuleIn arena.now node hidden }
-    requires hidden_in_bounds { at + 1 + hidden ≤ length tops.old }
+    requires tops_free { at + 1 + hidden ≤ length tops.old }
     requires row_buffer { RowBuffer out.old used }
     ensures { LowersAll (whole_at arena.now node) used at (buffers out.old tops.old) (buffers out.new tops.new) result }
 {
-    let r = lower_rule(arena, node, tops, at, out, used);
+    let own = lower_rule(arena, node, tops, at, out, used)?;
     if hidden == 0 {
-        return r;
+        return Some(own);
     }
-    let AllLowered::Next {
-        at: free,
-        used: next,
-    } = r
-    else {
-        return r;
-    };
-    lower_definings(arena, node, tops, free, out, next)
+    lower_definings(arena, node, tops, own.tops, out, own.rows)
 }

@@ -13,16 +13,10 @@ pub fn guess_hidden(s: &[u8], first: usize) -> usize
     ensures { result ≤ most_hidden }
 {
     let mut n = 0;
-    let mut i = first + 1;
-    while i < s.len() {
-        if s[i] == b'(' {
-            if name_byte(s[i - 1]) {
-                if n < HIDDEN {
-                    n += 1;
-                }
-            }
+    for i in first + 1..s.len() {
+        if s[i] == b'(' && name_byte(s[i - 1]) && n < HIDDEN {
+            n += 1;
         }
-        i += 1;
     }
     n
 }

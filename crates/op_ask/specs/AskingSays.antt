@@ -1,12 +1,12 @@
 -- What ask answers: a cell's value, or a refusal's number and place (01, "Numbers of refusal").
 -- Assumes nothing.
-use Rattle.spec_tilco.specs.Table.{Answer}
+use Rattle.std.specs.Prelude.{Result as Answer}
+use Rattle.spec_tilco.specs.Table as table
+use Rattle.table_marks.specs.declared.Value.{Value}
 use Rattle.table_marks.specs.Values.{value_says}
-use Rattle.open_sheet.specs.Results.{Result, accepted, refused}
-use Rattle.op_ask.specs.declared.Asking.{Asking}
-use Rattle.op_ask.specs.declared.Asking.TheVariants as asking
+use Rattle.spec_refusals.specs.declared.Refusal.{Refusal}
+use Rattle.open_sheet.specs.Results.{Result, answer_says}
 
--- What each case of ask's answer says.
-abbrev pub asking_says : Asking → Result Answer
-asking_says (asking.Given v) = accepted (value_says v)
-asking_says (asking.Refused n p) = refused n p
+-- What ask's answer says.
+abbrev pub asking_says : Answer Value Refusal → Result table.Answer
+asking_says = answer_says value_says

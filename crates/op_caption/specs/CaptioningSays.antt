@@ -1,11 +1,10 @@
 -- What caption_part answers: the part that is shown, or a refusal's number and place (01, "Numbers of refusal").
 -- Assumes nothing.
+use Rattle.std.specs.Prelude.{Result as Answer}
+use Rattle.spec_refusals.specs.declared.Refusal.{Refusal}
 use Rattle.read_captions.specs.declared.Part.{Part}
-use Rattle.open_sheet.specs.Results.{Result, accepted, refused}
-use Rattle.op_caption.specs.declared.Captioning.{Captioning}
-use Rattle.op_caption.specs.declared.Captioning.TheVariants as captioning
+use Rattle.open_sheet.specs.Results.{Result, answer_says}
 
--- What each case of the answer says.
-abbrev pub captioning_says : Captioning → Result Part
-captioning_says (captioning.Shown a) = accepted a
-captioning_says (captioning.Refused n p) = refused n p
+-- What the answer says.
+abbrev pub captioning_says : Answer Part Refusal → Result Part
+captioning_says = answer_says (λ a. a)

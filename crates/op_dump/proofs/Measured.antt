@@ -16,5 +16,5 @@ module _ {t m m₁ : List ℕ} {long : ℕ} (w : Wrote t 0 m m₁ long) {O : Lis
   pub too_long : length O < long → Gives (with_room (length O) t) O O (refused 20 0)
   too_long h = gives_refused (over_room t (length O) (omega (arith, w.next))) O
 
-  pub all_fits : long ≤ length O → {U : List ℕ} {u : ℕ} → Wrote t 0 O U u → Gives (with_room (length O) t) O U (accepted long)
-  all_fits h x = let l : length t ≤ length O = omega (arith, w.next) in gives_text (room_for t (length O) l) O (omega (arith, w.next)) (in_front x l)
+  pub all_fits : long ≤ length O → {U : List ℕ} {u : ℕ} → Wrote t 0 O U u → Gives (with_room (length O) t) O U (accepted u)
+  all_fits h x = let l : length t ≤ length O = omega (arith, w.next) in gives_text (room_for t (length O) l) O (omega (arith, x.next)) (in_front x l)

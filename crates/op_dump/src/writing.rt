@@ -11,11 +11,10 @@ ghost use Rattle.dump_changes.specs.WordSigns.{row_sign};
 ghost use Rattle.dump_text.specs.TableTexts.{CanDump, ShortNames};
 
 use dump_text::text::write_text;
-use open_sheet::Opening;
 use open_table::open_table;
 use read_index::{INDEX, LINKS};
 use spec_limits::{ROWS, TOPS};
-use spec_operations::Writing;
+use spec_refusals::{Fault, Refusal};
 use table_facts::clash_in;
 use table_marks::words_of;
 
@@ -27,41 +26,42 @@ fn write_measured(
     n: usize,
     window: usize,
     out: &mut [u8],
-) -> Writing
+) -> Result<usize, Refusal>
     requires { CanDump (length places.now) window n table.now × ShortNames (names_at s.now places.now) }
     ensures { Gives (with_room (length out.old) (dump_text (names_of s places) (sign_events (row_sign n table.now) (length places.now) window))) out.old out.new (writing_says result) }
 {
     let mut none = [0u8; 0];
     let long = write_text(s, places, table, n, window, &mut none);
     if out.len() < long {
-        return Writing::Refused(20, 0);
+        return Err(Refusal {
+            fault: Fault::Room,
+            place: 0,
+        });
     }
-    write_text(s, places, table, n, window, out);
-    Writing::Written(long)
+    Ok(write_text(s, places, table, n, window, out))
 }
 
 // Writes the dump of the lent table.
-pub fn write_dump(s: &[u8], table: &[u64], out: &mut [u8]) -> Writing
+pub fn write_dump(s: &[u8], table: &[u64], out: &mut [u8]) -> Result<usize, Refusal>
     ensures { WritesDump s.now table.now out.old out.new (writing_says result) }
 {
     let mut names = [0u16; INDEX];
     let mut rows = [8u64; ROWS];
     let mut tops = [0u16; TOPS];
-    let o = open_table(s, &mut names, &mut rows, &mut tops, table);
-    match o {
-        Opening::Sheet {
-            window,
-            signals,
-            tops: _,
-            count,
-        } => {
-            let n = words_of(window);
-            let clash = clash_in(table, count, n);
-            if clash {
-                return Writing::Refused(23, 0);
-            }
-            write_measured(s, &names[LINKS..LINKS + signals], table, n, window, out)
-        }
-        Opening::Refused(n, p) => Writing::Refused(n, p),
+    let sheet = open_table(s, &mut names, &mut rows, &mut tops, table)?;
+    let n = words_of(sheet.window);
+    if clash_in(table, sheet.count, n) {
+        return Err(Refusal {
+            fault: Fault::Clash,
+            place: 0,
+        });
     }
+    write_measured(
+        s,
+        &names[LINKS..LINKS + sheet.signals],
+        table,
+        n,
+        sheet.window,
+        out,
+    )
 }

@@ -9,9 +9,9 @@ ghost use Rattle.op_figures.specs.Reports.{Reports};
 
 use figure_run::records::{RECORD_WORDS, record_in};
 use figure_runs::whole::figures_in_words;
-use read_readings::whole::Outcome;
 use spec_figures::Record;
 use spec_limits::SIGNALS;
+use spec_refusals::Refusal;
 
 // The words of the most records.
 const RECORDS: usize = RECORD_WORDS * SIGNALS;
@@ -21,10 +21,8 @@ fn fill(records: &mut [Record], words: &[u64])
     requires { (record_words * length records.old ≤ length words.now) × (record_words * length records.old < 2 ^ 64) }
     ensures { records.new ≡ records_in words.now (length records.old) }
 {
-    let mut i = 0;
-    while i < records.len() {
-        records[i] = record_in(words, i);
-        i += 1;
+    for (i, r) in records.iter_mut().enumerate() {
+        *r = record_in(words, i);
     }
 }
 
@@ -36,18 +34,13 @@ fn figures_through(
     work: &mut [u64],
     records: &mut [Record],
     words: &mut [u64],
-) -> Outcome
+) -> Result<(), Refusal>
     requires { RecordRoom words.old }
     ensures { Reports s.now texts.now lengths.now work.old work.new records.old records.new result }
 {
-    let r = figures_in_words(s, texts, lengths, records.len(), work, words);
-    match r {
-        Outcome::Accepted => {
-            fill(records, words);
-            Outcome::Accepted
-        }
-        Outcome::Refused(n, p) => Outcome::Refused(n, p),
-    }
+    figures_in_words(s, texts, lengths, records.len(), work, words)?;
+    fill(records, words);
+    Ok(())
 }
 
 // Runs the texts, joined in one slice, against the sheet, and fills a record for each signal. At a refusal the work table and the records keep every word.
@@ -57,7 +50,7 @@ pub fn figures(
     lengths: &[u64],
     work: &mut [u64],
     records: &mut [Record],
-) -> Outcome
+) -> Result<(), Refusal>
     ensures { Reports s.now texts.now lengths.now work.old work.new records.old records.new result }
 {
     let mut words = [1u64; RECORDS];

@@ -8,7 +8,9 @@ use native.Mathlib.Omega.{arith}
 use lib.ListN.{length, get_or}
 use Rattle.spec_limits.specs.Limits.{most_name_bytes}
 use Rattle.spec_tilco.proofs.Lists.{all_nth}
-use Rattle.write_bytes.specs.Writes.{Counted, Wrote}
+use Rattle.write_bytes.specs.Writes.{Counted}
+use Rattle.write_bytes.specs.declared.Writer.{Writer}
+use Rattle.write_bytes.specs.Writers.{Writes}
 use Rattle.read_reading.specs.Spans.{Span, span}
 use Rattle.read_readings.specs.SpanNumbers.{row_spans, span_of}
 use Rattle.write_readings.specs.EntryTexts.{entry_text, entries_text}
@@ -68,17 +70,17 @@ pub name_short : (names : List (List ℕ)) {e : Span} → Writable names e → l
 name_short names {e} w = all_nth (λ n. length n ≤ most_name_bytes) [] names e.signal w.short w.signal
 
 -- A joined span is written as itself, or as its readings: the places of the one can be counted where those of the other can, and what is written is the same.
-module _ {spans : Bool} (names : List (List ℕ)) (e : Span) {b : ℕ} where
-  pub whole_counted : spans ≡ true → Counted b (entries_text spans names (run_entries spans e)) → Counted b (entry_text true names e)
-  whole_counted h c = subst (Counted b) (rw (h, one_entry true names e)) c
+module _ {spans : Bool} (names : List (List ℕ)) (e : Span) where
+  pub whole_counted : {b : ℕ} → spans ≡ true → Counted b (entries_text spans names (run_entries spans e)) → Counted b (entry_text true names e)
+  whole_counted {b} h c = subst (Counted b) (rw (h, one_entry true names e)) c
 
-  pub whole_written : {u : ℕ} {m m₁ : List ℕ} → spans ≡ true → Wrote (entry_text true names e) b m m₁ u → Wrote (entries_text spans names (run_entries spans e)) b m m₁ u
+  pub whole_written : {t u : Writer} → spans ≡ true → Writes (entry_text true names e) t u → Writes (entries_text spans names (run_entries spans e)) t u
   whole_written h w = rw (h, one_entry true names e) w
 
-  pub singles_counted : spans ≡ false → Counted b (entries_text spans names (run_entries spans e)) → Counted b (entries_text false names (singles e))
+  pub singles_counted : {b : ℕ} → spans ≡ false → Counted b (entries_text spans names (run_entries spans e)) → Counted b (entries_text false names (singles e))
   singles_counted h c = rw h at c
 
-  pub singles_written : {u : ℕ} {m m₁ : List ℕ} → spans ≡ false → Wrote (entries_text false names (singles e)) b m m₁ u → Wrote (entries_text spans names (run_entries spans e)) b m m₁ u
+  pub singles_written : {t u : Writer} → spans ≡ false → Writes (entries_text false names (singles e)) t u → Writes (entries_text spans names (run_entries spans e)) t u
   singles_written h w = rw h w
 
 -- A joined span can be written: its row is one of the signals'.

@@ -18,15 +18,12 @@ fn singles_length(name: usize, first: usize, last: usize, used: usize) -> usize
     requires { (name ≤ most_name_bytes) × (last < most_ticks) × (used ≤ most_bytes) }
     ensures { SinglesLong name first last used result }
 {
-    let end = last + 1;
     let mut at = used;
-    let mut tick = first;
-    while tick < end {
+    for tick in first..last + 1 {
         if BYTES < at {
             return at;
         }
         at += entry_length(false, name, tick, tick);
-        tick += 1;
     }
     at
 }

@@ -19,9 +19,7 @@ use Rattle.read_bytes.proofs.Tests.{between_is}
 use Rattle.read_names.specs.Spellings.{names_at}
 use Rattle.read_names.proofs.Names.{names_many}
 use Rattle.read_index.specs.Index.{links, name_count, places_in, names_in, IndexOf}
-use Rattle.read_lines.specs.declared.Step.{Step}
-use Rattle.read_lines.specs.declared.Step.TheVariants as step
-use Rattle.read_lines.specs.Lines.{says, line_end, line, ranged_line}
+use Rattle.read_lines.specs.Lines.{line_end, line, ranged_line}
 use Rattle.read_lines.proofs.KeyedLines.{placed}
 use Rattle.read_lines.proofs.Stays.{stays_got}
 use Rattle.spec_tilco.specs.Formula.{Written, Named}
@@ -199,22 +197,21 @@ module _ {s T : List ℕ} (o : OpenedNames s T) where
     known = subst (λ i. ranged_line s (i + 1) (bytes "rules=") 2 3 0 most_rules ≡ got opened_head.0 opened_head.1) to_end of_line.reads
 
     -- What is read there.
-    module _ {c : Step} (says_is : says c ≡ ranged_line s (e + 1) (bytes "rules=") 2 3 0 most_rules) where
-      pub lines_are : {m p : ℕ} → c ≡ step.Got m p → Lines s T m p
-      lines_are {m} {p} g =
-          let r : got m p ≡ got opened_head.0 opened_head.1 = sym (ap says g) ∙ says_is ∙ known in
-          let x : opened_head.0 ≡ m = sym (same_value r) in
-          let y : opened_head.1 ≡ p = sym (same_place r) in
-          record {
-            contents = o.contents;
-            sheet = o.sheet;
-            index = o.index;
-            heading = opened_head.2 ∙ ap₂ (λ i j. got (head_of o.contents.window (places_in T) i) j) x y;
-            short = short_text;
-          }
+    pub lines_are : {m p : ℕ} → got m p ≡ ranged_line s (e + 1) (bytes "rules=") 2 3 0 most_rules → Lines s T m p
+    lines_are {m} {p} reads =
+        let r = reads ∙ known in
+        let x : opened_head.0 ≡ m = sym (same_value r) in
+        let y : opened_head.1 ≡ p = sym (same_place r) in
+        record {
+          contents = o.contents;
+          sheet = o.sheet;
+          index = o.index;
+          heading = opened_head.2 ∙ ap₂ (λ i j. got (head_of o.contents.window (places_in T) i) j) x y;
+          short = short_text;
+        }
 
-      pub no_refusal : {n k : ℕ} → c ≡ step.Refused n k → ⊥
-      no_refusal g = not_both (sym known ∙ sym says_is ∙ ap says g)
+    pub no_refusal : {n k : ℕ} → unread n k ≡ ranged_line s (e + 1) (bytes "rules=") 2 3 0 most_rules → ⊥
+    no_refusal reads = not_both (sym known ∙ sym reads)
 
 module _ {s T : List ℕ} {m p : ℕ} (x : Lines s T m p) where
   pub first_inside : p ≤ length s

@@ -20,9 +20,9 @@ use Rattle.read_index.specs.Index.{places_in, names_in, IndexOf}
 use Rattle.read_head.proofs.Signals.{up_to_lem}
 use Rattle.spec_tilco.specs.Formula.{Written}
 use Rattle.read_parts.specs.FormulaText.{formula, plain_part, rule}
-use Rattle.read_parts.specs.declared.parts.Parsed.{Parsed}
-use Rattle.read_parts.specs.declared.parts.Parsed.TheVariants.{Got, Refused}
-use Rattle.read_parts.specs.Parsed.{PartReady, Parses}
+use Rattle.std.specs.Prelude.{Err}
+use Rattle.spec_refusals.specs.declared.Refusal.{Refusal}
+use Rattle.read_parts.specs.Parsed.{Answer, reached, PartReady, Parses}
 use Rattle.read_parts.specs.Parsed.Parses.{parsed, refuses}
 use Rattle.read_sheet.specs.Sheet.{rule_to, rule_line}
 use Rattle.read_sheet.specs.RuleAnswers.{ValueEnds, RuleHeld}
@@ -104,7 +104,7 @@ module _ (s T : List ℕ) (p : ℕ) (x : RuleAt s T p) where
   abbrev Formula : ℕ → Read Written
   Formula e = formula (plain_part most_open (names_in (take e s) T) (take e s)) (take e s) value
 
-  held_at : {a a' : List ℕ} {q u h' : ℕ} → Parses a a' (length (take end s)) 1 value 0 0 0 (Formula end) (Got q u h') → RuleHeld a' 0 (rule_line (names_in s T) s p) x.end u h'
+  held_at : {a a' : List ℕ} {q u h' : ℕ} → Parses a a' (length (take end s)) 1 value 0 0 0 (Formula end) (reached q u h') → RuleHeld a' 0 (rule_line (names_in s T) s p) x.end u h'
   held_at (parsed w e far arena same held next) = record {
     rule = w;
     reads = x.reads ∙ ap (λ (f : Written). got f x.end) (same_value (sym same_reading ∙ e));
@@ -115,7 +115,7 @@ module _ (s T : List ℕ) (p : ℕ) (x : RuleAt s T p) where
     few = omega (arith, far.hidden, far.inside, cut_long, told.text.few);
   }
 
-  not_refused : {a a' : List ℕ} {n k : ℕ} → Parses a a' (length (take end s)) 1 value 0 0 0 (Formula end) (Refused n k) → ⊥
+  not_refused : {a a' : List ℕ} {r : Refusal} → Parses a a' (length (take end s)) 1 value 0 0 0 (Formula end) (Err r) → ⊥
   not_refused (refuses e) = not_both (sym same_reading ∙ e)
 
   -- The same at a place e that is the LF's.
@@ -126,12 +126,12 @@ module _ (s T : List ℕ) (p : ℕ) (x : RuleAt s T p) where
     pub again_ready : (a : List ℕ) → arena_numbers ≤ length a → PartReady (take e s) a (IndexOf (take e s) T) value 0 0
     again_ready a room = rw is-end (ready a room)
 
-    module _ {a a' : List ℕ} {r : Parsed} (h : Parses a a' (length (take e s)) 1 value 0 0 0 (Formula e) r) where
-      at_end_lem : Parses a a' (length (take end s)) 1 value 0 0 0 (Formula end) r
-      at_end_lem = subst (λ z. Parses a a' (length (take z s)) 1 value 0 0 0 (Formula z) r) is-end h
+    module _ {a a' : List ℕ} where
+      at_end_lem : {r : Answer} → Parses a a' (length (take e s)) 1 value 0 0 0 (Formula e) r → Parses a a' (length (take end s)) 1 value 0 0 0 (Formula end) r
+      at_end_lem {r} h = subst (λ z. Parses a a' (length (take z s)) 1 value 0 0 0 (Formula z) r) is-end h
 
-      pub again_held : {q u h' : ℕ} → r ≡ Got q u h' → RuleHeld a' 0 (rule_line (names_in s T) s p) x.end u h'
-      again_held g = held_at (subst (Parses a a' (length (take end s)) 1 value 0 0 0 (Formula end)) g at_end_lem)
+      pub again_held : {q u h' : ℕ} → Parses a a' (length (take e s)) 1 value 0 0 0 (Formula e) (reached q u h') → RuleHeld a' 0 (rule_line (names_in s T) s p) x.end u h'
+      again_held h = held_at (at_end_lem h)
 
-      pub again_accepted : {n k : ℕ} → r ≡ Refused n k → ⊥
-      again_accepted g = not_refused (subst (Parses a a' (length (take end s)) 1 value 0 0 0 (Formula end)) g at_end_lem)
+      pub again_accepted : {r : Refusal} → Parses a a' (length (take e s)) 1 value 0 0 0 (Formula e) (Err r) → ⊥
+      again_accepted h = not_refused (at_end_lem h)

@@ -19,32 +19,27 @@ use Rattle.spec_tilco.specs.Inference.{Node, signal, not_of, gate, look, node}
 use Rattle.spec_tilco.specs.Lowering.{lows, tops_all, program, row_count_lem}
 use Rattle.spec_tilco.proofs.Order.{Ordered, LooksWithin, row_count, children_before, looks_within}
 use Rattle.read_index.specs.Index.{links, name_count, first_names}
-use Rattle.read_head.specs.SheetHead.{head_of, head, first_places, NamesPut, Sizes, Headed}
+use Rattle.read_head.specs.SheetHead.{first_places, HeadPut}
+use Rattle.read_head.specs.declared.HeadLines.{HeadLines}
 use Rattle.read_sheet.specs.Sheet.{rules, Contents, contents, sheet_of, meant, near}
 use Rattle.read_sheet.specs.RuleAnswers.{AllRules}
-use Rattle.read_head.specs.declared.Heading.{Heading}
-use Rattle.read_head.specs.declared.Heading.TheVariants as heading
-use Rattle.read_sheet.proofs.Answers.{when_headed}
 use Rattle.read_sheet.proofs.Accepted.{sheet_fits, sheet_declared}
 use Rattle.read_head.proofs.Heads.{head_past}
 use Rattle.read_sheet.proofs.Ruled.{rules_many}
 use Rattle.read_sheet.proofs.Wholes.{refused_rule, refused_more, sheet_is}
 use Rattle.lower_rule.specs.RuleRows.{Buffers, buffers, LowersAll, all_lowered_says}
-use Rattle.lower_rule.specs.declared.rules.AllLowered.{AllLowered}
-use Rattle.lower_rule.specs.declared.rules.AllLowered.TheVariants.{Next}
+use Rattle.std.specs.Prelude.{Some, None, Ok}
+use Rattle.lower_rule.specs.declared.rules.InUse.{InUse}
 use Rattle.lower_rule.proofs.InTurn.{tops_length, went_all}
 use Rattle.lower_rule.proofs.Sheets.{sheet_used, sheet_row}
 use Rattle.lower_lines.specs.InTurn.{Legible, rules_at}
-use Rattle.lower_sheet.specs.SheetRows.{InPlace, RulesStand}
+use Rattle.lower_sheet.specs.SheetRows.{InPlace, FitOrOver, RulesStand}
 use Rattle.lower_lines.specs.declared.RuleLines.{RuleLines}
-use Rattle.lower_lines.specs.declared.RuleLines.TheVariants as lines
-use Rattle.lower_sheet.proofs.Standing.{tops_many, when_placed, when_over, when_stand, when_no_rules}
+use Rattle.lower_sheet.proofs.Standing.{tops_many, when_placed, when_over}
 use Rattle.close_rules.specs.Codes.{Fine, TopsAre}
 use Rattle.open_sheet.specs.Results.{accepted, refused}
-use Rattle.open_sheet.specs.declared.Opening.TheVariants as opening
 use Rattle.open_sheet.specs.SheetIn.{fits, sized, sheet_in}
-use Rattle.open_sheet.specs.OpenedSheet.{OpenedSheet, SheetOpens}
-use Rattle.open_sheet.specs.OpenedSheet.SheetOpens.{ready, refused_at}
+use Rattle.open_sheet.specs.OpenedSheet.{OpenedSheet}
 
 -- ---- what the text holds
 
@@ -93,7 +88,7 @@ place (x ∷ xs) r (Memᴰ.tail m) = let p = place xs r m in (suc p.0, omega (ar
 stored : (xs ws : List ℕ) → length ws ≤ length xs → (i : ℕ) → i < length ws → get_or (sets xs 0 ws) i 0 ≡ get_or ws i 0
 stored xs ws h i l = ap (λ (v : List ℕ). get_or v i 0) (sets-eq ws xs 0 (omega arith)) ∙ get_or-append ws (drop (0 + length ws) xs) 0 i l
 
-module _ (s : Sheet) (B B' : Buffers) (at used : ℕ) (w : LowersAll (lows (formulas s)) (signal_rows s) 0 B B' (Next at used)) where
+module _ (s : Sheet) (B B' : Buffers) (u : InUse) (w : LowersAll (lows (formulas s)) (signal_rows s) 0 B B' (Some u)) where
   abbrev tops : List ℕ
   tops = tops_all (lows (formulas s)) (signal_rows s)
 
@@ -109,82 +104,71 @@ module _ (s : Sheet) (B B' : Buffers) (at used : ℕ) (w : LowersAll (lows (form
 
 -- ---- all of it
 
--- The text is not too long, and its head was read: the window w, n signals whose names stand in the index T, m rules, and the place p of the first
--- one's line.
-pub record Begun (s T : List ℕ) (w n m p : ℕ) : Type 0 where
-  pub short : length s ≤ most_bytes
-  pub put : NamesPut s T n
-  pub sizes : Sizes w n m
-  pub head_is : head s ≡ got (head_of w (first_places n T) m) p
-
-pub begun : {s T : List ℕ} {r : Heading} {w n m p : ℕ} → Headed s T r → r ≡ heading.Lines w n m p → length s ≤ most_bytes → Begun s T w n m p
-begun x e l = let h = when_headed x e in record { short = l; put = h.2; sizes = h.1; head_is = h.0 }
-
-module _ {s T : List ℕ} {w n m p : ℕ} (o : Begun s T w n m p) where
+-- The text is not too long, and its head was read: its names stand in the index T.
+module _ {s T : List ℕ} {h : HeadLines} (short : length s ≤ most_bytes) (o : HeadPut s T h) where
   abbrev places : List ℕ
-  places = first_places n T
+  places = first_places h.signals T
+
+  abbrev names : List ℕ
+  names = first_names h.signals T
 
   -- the rules' lines can be read
-  pub legible : Legible s (first_names n T) m p
+  pub legible : Legible s names h.rules h.first
   legible =
-      let a = head_past s o.head_is in
+      let a = head_past s o.lines in
       record { within = a.inside; before = a.before; index = o.put.index; most = o.sizes.rules_high }
 
-  module _ {B ts : List ℕ} {r : RuleLines} (y : RulesStand (rules_at s (first_names n T) m p) (name_count (first_names n T)) (buffers B ts) r) where
+  -- a rule is refused
+  pub rule_refused : {k p : ℕ} → rules_at s names h.rules h.first ≡ unread k p → sheet_in s ≡ refused k p
+  rule_refused e = in_refused s (refused_rule s short o.lines e)
+
+  module _ {B ts : List ℕ} (l : RuleLines) (y : RulesStand (rules_at s names h.rules h.first) (name_count names) (buffers B ts) (Ok l)) where
+    abbrev found : AllRules (rules (names_at s places) s h.rules h.first) l.hidden l.end
+    found = y.0
+
     -- as many names as places
-    x : RulesStand (rules (names_at s places) s m p) (length places) (buffers B ts) r
-    x = subst (λ (i : ℕ). RulesStand (rules (names_at s places) s m p) i (buffers B ts) r) (sym (length-drop links (first_names n T))) y
+    in_rows : FitOrOver found.all (length places) l.hidden (buffers B ts) (all_lowered_says l.lowered)
+    in_rows = subst (λ (i : ℕ). FitOrOver found.all i l.hidden (buffers B ts) (all_lowered_says l.lowered)) (sym (length-drop links names)) y.1
 
-    -- a rule is refused
-    pub rule_refused : {i k : ℕ} → r ≡ lines.Refused i k → SheetOpens s T B ts (opening.Refused i k)
-    rule_refused e = refused_at (in_refused s (refused_rule s o.short o.head_is (when_no_rules x e)))
+    -- bytes follow the last line
+    pub more_follow : (l.end ≡ length s → ⊥) → sheet_in s ≡ refused 2 l.end
+    more_follow f = in_refused s (refused_more s short o.lines found.reads f)
 
-    module _ {h q : ℕ} {l : AllLowered} (e : r ≡ lines.Read h q l) where
-      abbrev found : AllRules (rules (names_at s places) s m p) h q
-      found = (when_stand x e).0
+    module _ (end : l.end ≡ length s) where
+      abbrev held : Contents
+      held = contents h.window places found.all
 
-      -- bytes follow the last line
-      pub more_follow : (q ≡ length s → ⊥) → SheetOpens s T B ts (opening.Refused 2 q)
-      more_follow f = refused_at {n = 2} (in_refused s (refused_more s o.short o.head_is found.reads f))
+      reads : sheet_of s ≡ got held l.end
+      reads = sheet_is s short o.lines found.reads end
 
-      module _ (end : q ≡ length s) where
-        abbrev held : Contents
-        held = contents w places found.all
+      -- the sheet is over its size
+      pub not_fitting : l.lowered ≡ None → sheet_in s ≡ refused 9 0
+      not_fitting f =
+          in_over s reads (⊎_elim (λ i. inl (omega (arith, i, found.hidden))) (λ i. inr (omega (arith, i, found.hidden, row_count (meant held)))) (when_over in_rows (ap all_lowered_says f)))
 
-        reads : sheet_of s ≡ got held q
-        reads = sheet_is s o.short o.head_is found.reads end
-
-        -- the sheet is over its size
-        pub not_fitting : all_lowered_says l ≡ unread 9 0 → SheetOpens s T B ts (opening.Refused 9 0)
-        not_fitting f =
-            refused_at (in_over s reads (⊎_elim (λ i. inl (omega (arith, i, found.hidden))) (λ i. inr (omega (arith, i, found.hidden, row_count (meant held)))) (when_over (when_stand x e).1 f)))
-
-        readied : (t count : ℕ) → l ≡ Next t count → OpenedSheet s places B ts w t count
-        readied t count f =
-            let a : InPlace held.rules (length places) h t count (buffers B ts) = when_placed (when_stand x e).1 (ap all_lowered_says f) in
-            let few : total hiddens held.rules ≤ most_hidden = omega (arith, a.few, found.hidden) in
-            let d : LowersAll (lows (formulas (meant held))) (signal_rows (meant held)) 0 a.start (buffers B ts) (Next t count)
-            = subst (λ (i : ℕ). LowersAll (lows (formulas (meant held))) (length places + i) 0 a.start (buffers B ts) (Next t count)) found.hidden a.done in
-            let g = went_all (lows (formulas (meant held))) (signal_rows (meant held)) 0 a.start (buffers B ts) (Next t count) d t count refl in
-            let c = sheet_used (meant held) 0 a.start (buffers B ts) t count d in
-            let many = rules_many (names_at s places) s m p legible.within found.reads in
-            let tops_fit : t ≤ length a.start.tops = omega (arith, g.tops, tops_many held.rules (length places), many, few, o.sizes.rules_high, a.lent.wide) in
-            record {
-              contents = held;
-              holds = in_fits s reads few (omega (arith, c.1, a.lent.long));
-              window_is = refl;
-              names_are = refl;
-              rows = c.0;
-              codes = record {
-                long = omega (arith, g.room, g.long, a.lent.long);
-                rows_are = sym c.0;
-                nodes = λ i. sym (sheet_row (meant held) (sheet_declared s reads) 0 a.start (buffers B ts) t count a.lent.blank d (omega (arith, a.lent.long)) i);
-                fine = λ i. fine_row (signal_rows (meant held)) i (node (program (meant held)) i) (children_before (meant held) (sheet_declared s reads) i) (looks_within (meant held) near near_steps (sheet_fits s reads) i);
-              };
-              tops_are = tops_stand (meant held) a.start (buffers B ts) t count d t (omega (arith, g.tops)) tops_fit;
-              few = omega (arith, tops_fit, g.wide);
-            }
-
-        -- it is accepted
-        pub fitting : (t count : ℕ) → l ≡ Next t count → SheetOpens s T B ts (opening.Sheet w n t count)
-        fitting t count f = ready {n = n} o.put (readied t count f)
+      -- it is accepted
+      pub fitting : (u : InUse) → l.lowered ≡ Some u → OpenedSheet s places B ts h.window u.tops u.rows
+      fitting u f =
+          let a : InPlace held.rules (length places) l.hidden u (buffers B ts) = when_placed in_rows (ap all_lowered_says f) in
+          let few : total hiddens held.rules ≤ most_hidden = omega (arith, a.few, found.hidden) in
+          let d : LowersAll (lows (formulas (meant held))) (signal_rows (meant held)) 0 a.start (buffers B ts) (Some u)
+          = subst (λ (i : ℕ). LowersAll (lows (formulas (meant held))) (length places + i) 0 a.start (buffers B ts) (Some u)) found.hidden a.done in
+          let g = went_all d in
+          let c = sheet_used (meant held) 0 a.start (buffers B ts) u d in
+          let many = rules_many (names_at s places) s h.rules h.first legible.within found.reads in
+          let tops_fit : u.tops ≤ length a.start.tops = omega (arith, g.tops, tops_many held.rules (length places), many, few, o.sizes.rules_high, a.lent.wide) in
+          record {
+            contents = held;
+            holds = in_fits s reads few (omega (arith, c.1, a.lent.long));
+            window_is = refl;
+            names_are = refl;
+            rows = c.0;
+            codes = record {
+              long = omega (arith, g.room, g.long, a.lent.long);
+              rows_are = sym c.0;
+              nodes = λ i. sym (sheet_row (meant held) (sheet_declared s reads) 0 a.start (buffers B ts) u a.lent.blank d (omega (arith, a.lent.long)) i);
+              fine = λ i. fine_row (signal_rows (meant held)) i (node (program (meant held)) i) (children_before (meant held) (sheet_declared s reads) i) (looks_within (meant held) near near_steps (sheet_fits s reads) i);
+            };
+            tops_are = tops_stand (meant held) a.start (buffers B ts) u d u.tops (omega (arith, g.tops)) tops_fit;
+            few = omega (arith, tops_fit, g.wide);
+          }

@@ -21,19 +21,14 @@ use Rattle.spec_tilco.specs.Lowering.{row_count_lem}
 use Rattle.spec_tilco.specs.Table.{words, Stands, table_words, Inside}
 use Rattle.table_marks.specs.Sizes.{most_words, most_table_words}
 use Rattle.read_sheet.specs.Sheet.{Contents, sheet_of, meant}
-use Rattle.read_head.specs.SheetHead.{first_places, NamesPut, Sizes}
+use Rattle.read_head.specs.SheetHead.{Sizes}
 use Rattle.read_head.proofs.Heads.{head_past}
 use Rattle.read_sheet.proofs.Wholes.{sheet_head, sheet_sizes}
-use Rattle.open_sheet.specs.declared.Opening.{Opening}
-use Rattle.open_sheet.specs.declared.Opening.TheVariants as opening
 use Rattle.open_sheet.specs.Results.{accepted, refused}
 use Rattle.open_sheet.specs.SheetIn.{fits, sized, sheet_in}
 use Rattle.open_table.specs.Opens.{Opens}
-use Rattle.open_sheet.specs.OpenedSheet.{OpenedSheet, SheetOpens}
-use Rattle.open_table.specs.OpenedTable.{OpenedTable, TableOpens}
-use Rattle.open_table.specs.Opens.Opens.{both, not_the_sheet, not_the_length, not_inside}
-use Rattle.open_sheet.specs.OpenedSheet.SheetOpens.{ready, refused_at}
-use Rattle.open_table.specs.OpenedTable.TableOpens.{ready as at-hand, refused_at as not_opened}
+use Rattle.open_sheet.specs.OpenedSheet.{OpenedSheet}
+use Rattle.open_table.specs.Opens.Opens.{both, not_the_length, not_inside}
 
 pub accepted_one : {A : Type 0} {x y : A} → accepted x ≡ accepted y → x ≡ y
 accepted_one e = cc
@@ -80,21 +75,6 @@ pub names_stand : (s : List ℕ) {k : Contents} → sheet_in s ≡ accepted k �
 names_stand s {k} e =
     let h = head_past s (sheet_head s (in_sheet s e).reads).2 in
     all_weaker (λ p. p ≤ _) (λ p. p ≤ length s) (λ p l. omega (arith, h.inside)) k.places h.before
-
--- ---- the sheet's answer, case by case
-
-of_ready : {s names B tops : List ℕ} {w n t count : ℕ} → SheetOpens s names B tops (opening.Sheet w n t count) → NamesPut s names n × OpenedSheet s (first_places n names) B tops w t count
-of_ready (ready l k) = (l, k)
-
-of_refused : {s names B tops : List ℕ} {n p : ℕ} → SheetOpens s names B tops (opening.Refused n p) → sheet_in s ≡ refused n p
-of_refused (refused_at e) = e
-
-module _ {s names B tops : List ℕ} {r : Opening} (x : SheetOpens s names B tops r) where
-  pub when_sheet : {w n t count : ℕ} → r ≡ opening.Sheet w n t count → NamesPut s names n × OpenedSheet s (first_places n names) B tops w t count
-  when_sheet e = of_ready (subst (SheetOpens s names B tops) e x)
-
-  pub when_refused : {n p : ℕ} → r ≡ opening.Refused n p → sheet_in s ≡ refused n p
-  when_refused e = of_refused (subst (SheetOpens s names B tops) e x)
 
 -- ---- the numbers of a sheet that stands ready
 
@@ -154,22 +134,3 @@ module _ {s places B tops : List ℕ} {w t count : ℕ} (k : OpenedSheet s place
 
     pub within : Inside w (Stands n T) → Opens s T (accepted k.contents)
     within i = both k.holds (l ∙ same_words) (same_marks.0 i)
-
--- The sheet's refusal is the opening's.
-pub sheet_refused : {s names B tops : List ℕ} (T : List ℕ) {r : Opening} {n p : ℕ} → SheetOpens s names B tops r → r ≡ opening.Refused n p → TableOpens s T names B tops r
-sheet_refused {s} {names} {B} {tops} T x e = subst (TableOpens s T names B tops) (sym e) (not_opened (not_the_sheet (when_refused x e)))
-
--- ---- the answer of both, case by case
-
-of_hand : {s T names B tops : List ℕ} {w n t count : ℕ} → TableOpens s T names B tops (opening.Sheet w n t count) → NamesPut s names n × OpenedTable s T (first_places n names) B tops w t count
-of_hand (at-hand l k) = (l, k)
-
-of_not : {s T names B tops : List ℕ} {n p : ℕ} → TableOpens s T names B tops (opening.Refused n p) → Opens s T (refused n p)
-of_not (not_opened o) = o
-
-module _ {s T names B tops : List ℕ} {r : Opening} (x : TableOpens s T names B tops r) where
-  pub when_opened : {w n t count : ℕ} → r ≡ opening.Sheet w n t count → NamesPut s names n × OpenedTable s T (first_places n names) B tops w t count
-  when_opened e = of_hand (subst (TableOpens s T names B tops) e x)
-
-  pub when_not_opened : {n p : ℕ} → r ≡ opening.Refused n p → Opens s T (refused n p)
-  when_not_opened e = of_not (subst (TableOpens s T names B tops) e x)

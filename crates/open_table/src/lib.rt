@@ -5,7 +5,8 @@
 ghost use Rattle.open_sheet.specs.Buffers.{Fresh};
 ghost use Rattle.open_table.specs.OpenedTable.{TableOpens};
 
-use open_sheet::{Opening, open_sheet};
+use open_sheet::{Sheet, open_sheet};
+use spec_refusals::{Fault, Refusal};
 use table_facts::inside_window;
 use table_marks::words_of;
 
@@ -16,27 +17,23 @@ pub fn open_table(
     rows: &mut [u64],
     tops: &mut [u16],
     table: &[u64],
-) -> Opening
+) -> Result<Sheet, Refusal>
     requires { Fresh names.old rows.old tops.old }
     ensures { TableOpens s.now table.now names.new rows.new tops.new result }
 {
-    let o = open_sheet(s, names, rows, tops);
-    let Opening::Sheet {
-        window,
-        signals: _,
-        tops: _,
-        count,
-    } = o
-    else {
-        return o;
-    };
-    let n = words_of(window);
-    if table.len() != 2 * count * n {
-        return Opening::Refused(15, 0);
+    let sheet = open_sheet(s, names, rows, tops)?;
+    let n = words_of(sheet.window);
+    if table.len() != 2 * sheet.count * n {
+        return Err(Refusal {
+            fault: Fault::TableLength,
+            place: 0,
+        });
     }
-    let inside = inside_window(table, count, n, window);
-    if !inside {
-        return Opening::Refused(16, 0);
+    if !inside_window(table, sheet.count, n, sheet.window) {
+        return Err(Refusal {
+            fault: Fault::TableMark,
+            place: 0,
+        });
     }
-    o
+    Ok(sheet)
 }

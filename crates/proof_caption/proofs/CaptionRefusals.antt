@@ -9,6 +9,7 @@ use native.Mathlib.Omega.{arith}
 use borrow.Author.Tests.{ltb-false, le-ltb}
 use lib.Dec.{ltb}
 use lib.ListN.{length, get_or}
+use Rattle.std.specs.Prelude.{Option, None}
 use Rattle.read_bytes.specs.Read.{Read}
 use Rattle.read_bytes.specs.Read.Read.{got, refused as unread}
 use Rattle.read_bytes.specs.Bytes.{pick}
@@ -29,10 +30,10 @@ data Answered (s c : List ℕ) (x : ℕ) : Result Part → Type 0 where
   on : {a : Part} → Answered s c x (accepted a)
 
 module _ (s c : List ℕ) (x : ℕ) where
-  of_captions : {k : Contents} → sheet_in s ≡ accepted k → (R : Read (List ℕ)) → captions_in (names_in s k) c ≡ R → Answered s c x (part_by s c k.places x R)
+  of_captions : {k : Contents} → sheet_in s ≡ accepted k → (R : Read (List (Option ℕ))) → captions_in (names_in s k) c ≡ R → Answered s c x (part_by s c k.places x R)
   of_captions {k} e (got at q) f = go (ltb x (length k.places)) refl
     where
-      go : (b : Bool) → ltb x (length k.places) ≡ b → Answered s c x (pick b (λ _. accepted (shown_part s c (get_or k.places x 0) (get_or at x 0))) (refused 17 0))
+      go : (b : Bool) → ltb x (length k.places) ≡ b → Answered s c x (pick b (λ _. accepted (shown_part s c (get_or k.places x 0) (get_or at x None))) (refused 17 0))
       go true l = on
       go false l = let m = ltb-false x (length k.places) l in off (seventeen e ((captions_accepted (names_in s k) c).0 (at, q, f)) (λ i. omega arith))
   of_captions {k} e (unread n p) f = off (line_by_line e ((captions_refused (names_in s k) c n p).0 f))

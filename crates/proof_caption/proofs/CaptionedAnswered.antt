@@ -7,6 +7,7 @@ use native.Mathlib.Decide.{dec_lt}
 use native.Mathlib.Omega.{arith}
 use lib.ListN.{length, take}
 use Rattle.spec_limits.specs.Limits.{most_listed_words}
+use Rattle.std.specs.Prelude.{Option}
 use Rattle.read_bytes.specs.Read.{Read}
 use Rattle.read_bytes.specs.Read.Read.{got, refused as unread}
 use Rattle.spec_ticks.specs.Ticks.{Small, empty}
@@ -30,17 +31,17 @@ use Rattle.proof_demands.proofs.Answered.{add_some, asked_some, small_take}
 pub captioned_some : (s r c T : List ℕ) → Small 64 T → (U : List ℕ) × (a : Result (List ℕ)) × PrintsCaptioned s r c T U a
 captioned_some s r c T small = go (sheet_in s) refl
   where
-    of_answer : {k : Contents} {at U : List ℕ} {q : ℕ} → sheet_in s ≡ accepted k → captions_in (names_in s k) c ≡ got at q → table_words (meant k) ≤ length T → (a : Result Gain) → Adds s r (take (table_words (meant k)) T) U a
+    of_answer : {k : Contents} {at : List (Option ℕ)} {U : List ℕ} {q : ℕ} → sheet_in s ≡ accepted k → captions_in (names_in s k) c ≡ got at q → table_words (meant k) ≤ length T → (a : Result Gain) → Adds s r (take (table_words (meant k)) T) U a
         → (U : List ℕ) × (a : Result (List ℕ)) × PrintsCaptioned s r c T U a
     of_answer {k} {U = U} e i l (accepted (gain new clash)) x =
         (_, _, on_table e i l (listed {f = λ y t. (asked_some s U y t (words k.window)).0} e x (λ y h t i. (asked_some s U y t (words k.window)).1)))
     of_answer {k} {at} e i l (refused n p) x = (_, _, on_table e i l (refused_lists (shown_texts s c k.places at) x))
 
-    in_room : (k : Contents) {at : List ℕ} {q : ℕ} → sheet_in s ≡ accepted k → captions_in (names_in s k) c ≡ got at q → Dec (length T < table_words (meant k)) → (U : List ℕ) × (a : Result (List ℕ)) × PrintsCaptioned s r c T U a
+    in_room : (k : Contents) {at : List (Option ℕ)} {q : ℕ} → sheet_in s ≡ accepted k → captions_in (names_in s k) c ≡ got at q → Dec (length T < table_words (meant k)) → (U : List ℕ) × (a : Result (List ℕ)) × PrintsCaptioned s r c T U a
     in_room k e i (yes l) = (T, refused 29 0, no_room e i l)
     in_room k e i (no l) = let x = add_some s r (take (table_words (meant k)) T) (small_take (table_words (meant k)) T small) in of_answer e i (omega arith) x.1 x.2
 
-    of_captions : (k : Contents) → sheet_in s ≡ accepted k → (R : Read (List ℕ)) → captions_in (names_in s k) c ≡ R → (U : List ℕ) × (a : Result (List ℕ)) × PrintsCaptioned s r c T U a
+    of_captions : (k : Contents) → sheet_in s ≡ accepted k → (R : Read (List (Option ℕ))) → captions_in (names_in s k) c ≡ R → (U : List ℕ) × (a : Result (List ℕ)) × PrintsCaptioned s r c T U a
     of_captions k e (got at q) i = in_room k e i (dec_lt (length T) (table_words (meant k)))
     of_captions k e (unread n p) i = (T, refused n p, no_captions_lem e i)
 

@@ -6,6 +6,7 @@ use mathlib.Core.Logic.{◌↔◌}
 use Prim.Native.Nat.{ℕ, ◌<◌}
 use lib.ListN.{length, get_or, take-append-drop}
 use Rattle.spec_tilco.specs.Table.{table_words}
+use Rattle.std.specs.Prelude.{Option}
 use Rattle.read_bytes.specs.Read.Read.{got}
 use Rattle.read_bytes.proofs.Answers.{same_value}
 use Rattle.read_names.proofs.Names.{names_many}
@@ -32,7 +33,7 @@ use Rattle.proof_caption.specs.CaptionCases.CaptionedRefusal.{up_to_nine, line_b
 use Rattle.proof_caption.proofs.CaptionAnswers.{captions_accepted, captions_refused}
 
 -- Each signal is listed with what caption shows of it: the same bytes,
-pub listing_shows : (s c : List ℕ) (x : ℕ) {k : Contents} {at : List ℕ} {q : ℕ} {a : Part} → sheet_in s ≡ accepted k → captions_in (names_in s k) c ≡ got at q → caption_part s c x ≡ accepted a
+pub listing_shows : (s c : List ℕ) (x : ℕ) {k : Contents} {at : List (Option ℕ)} {q : ℕ} {a : Part} → sheet_in s ≡ accepted k → captions_in (names_in s k) c ≡ got at q → caption_part s c x ≡ accepted a
     → get_or (shown_texts s c k.places at) x [] ≡ part_text s c a
 listing_shows s c x {k} {at} {a = a} e i h =
     let r = part_read s c x h in
@@ -41,12 +42,12 @@ listing_shows s c x {k} {at} {a = a} e i h =
     let v : w.at ≡ at = same_value (sym w.captions ∙ ap (λ (y : Contents). captions_in (names_in s y) c) j ∙ i) in
     let long = noted_many (names_in s r.0) c w.captions ∙ names_many s r.0.places in
     ap (λ (y : Contents). get_or (shown_texts s c y.places at) x []) (sym j)
-    ∙ ap (λ (l : List ℕ). get_or (shown_texts s c r.0.places l) x []) (sym v)
+    ∙ ap (λ (l : List (Option ℕ)). get_or (shown_texts s c r.0.places l) x []) (sym v)
     ∙ shown_at s c r.0.places w.at x long w.number
     ∙ ap (part_text s c) (sym w.part)
 
 -- and there is a text for every signal.
-pub all_shown : (s c : List ℕ) (k : Contents) {at : List ℕ} {q : ℕ} → captions_in (names_in s k) c ≡ got at q → length (shown_texts s c k.places at) ≡ length k.places
+pub all_shown : (s c : List ℕ) (k : Contents) {at : List (Option ℕ)} {q : ℕ} → captions_in (names_in s k) c ≡ got at q → length (shown_texts s c k.places at) ≡ length k.places
 all_shown s c k {at} i = shown_many s c k.places at (noted_many (names_in s k) c i ∙ names_many s k.places)
 
 -- Without a caption the listing is settle's.
@@ -66,7 +67,7 @@ module _ {s r c T : List ℕ} where
       let z = take-append-drop (table_words (meant k)) T in
       (as_settle e ((captions_accepted (names_in s k) c).0 (at, q, i)) (subst (λ (X : List ℕ). Prints s r T X (refused n p)) z (plain-on-table e l (plain-not-added x))), z)
 
-  with_captions : {k : Contents} {at U : List ℕ} {q n p : ℕ} → sheet_in s ≡ accepted k → captions_in (names_in s k) c ≡ got at q → Prints s r T U (refused n p) → PrintsCaptioned s r c T U (refused n p)
+  with_captions : {k : Contents} {at : List (Option ℕ)} {U : List ℕ} {q n p : ℕ} → sheet_in s ≡ accepted k → captions_in (names_in s k) c ≡ got at q → Prints s r T U (refused n p) → PrintsCaptioned s r c T U (refused n p)
   with_captions e i (plain-no-sheet f) = absurd (accepted_refused (sym e ∙ f))
   with_captions e i (plain-no-room f l) = no_room e i (subst (λ (y : Contents). length T < table_words (meant y)) (accepted_one (sym f ∙ e)) l)
   with_captions {k} {at = at} {q = q} e i (plain-on-table {k = y} f l (plain-not-added x)) =

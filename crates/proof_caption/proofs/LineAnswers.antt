@@ -5,9 +5,11 @@ use mathlib.Core.Bool.{Bool, true, false}
 use mathlib.Core.List.{List, []}
 use Prim.Native.Nat.{ℕ, suc, ◌+◌, ◌<◌}
 use native.Mathlib.Omega.{arith}
-use borrow.Author.Tests.{ltb-true, ltb-false, eqb-true, eqb-false}
-use lib.Dec.{ltb, eqb}
+use borrow.Author.Tests.{ltb-true, ltb-false}
+use lib.Dec.{ltb}
 use lib.ListN.{length, get_or}
+use Rattle.std.specs.Prelude.{Option, Some, None}
+use Rattle.std.specs.Option.{is_some}
 use Rattle.read_bytes.specs.Read.{Read, and_then}
 use Rattle.read_bytes.specs.Read.Read.{got, refused}
 use Rattle.read_bytes.specs.Bytes.{pick}
@@ -22,26 +24,26 @@ use Rattle.proof_caption.proofs.LineTexts.{formed_line, line_formed}
 use Rattle.proof_caption.proofs.LineEnds.{line_last}
 use Rattle.proof_caption.proofs.TakenLines.{Taken}
 
-pub data LineIs (names : List (List ℕ)) (c at : List ℕ) (p : ℕ) : Read ℕ → Type 0 where
-  right : {w k : List ℕ} → LineAt c p w k → find_name w names < length names → get_or at (find_name w names) 0 ≡ 0 → LineIs names c at p (got (find_name w names) (suc (line_last p w k)))
+pub data LineIs (names : List (List ℕ)) (c : List ℕ) (at : List (Option ℕ)) (p : ℕ) : Read ℕ → Type 0 where
+  right : {w k : List ℕ} → LineAt c p w k → find_name w names < length names → get_or at (find_name w names) None ≡ None → LineIs names c at p (got (find_name w names) (suc (line_last p w k)))
   wrong : {n : ℕ} → LineFault names c p n → LineIs names c at p (refused n p)
 
 -- Two texts with one number are one name.
 same_name : (names : List (List ℕ)) (v w : List ℕ) → find_name v names ≡ find_name w names → find_name w names < length names → v ≡ w
 same_name names v w e l = sym (find_is v names (omega arith)) ∙ ap (λ (x : ℕ). get_or names x []) e ∙ find_is w names l
 
-module _ {names : List (List ℕ)} {c at : List ℕ} {p : ℕ} (t : Taken names c at p) where
+module _ {names : List (List ℕ)} {c : List ℕ} {at : List (Option ℕ)} {p : ℕ} (t : Taken names c at p) where
   -- A line of its form, by its name's number.
   by_name : {w k : List ℕ} → LineAt c p w k → LineIs names c at p (given_once at (length names) p (suc (line_last p w k)) (find_name w names))
   unfolding given_once
-  by_name {w} {k} h = go (ltb (find_name w names) (length names)) refl (eqb (get_or at (find_name w names) 0) 0) refl
+  by_name {w} {k} h = go (ltb (find_name w names) (length names)) refl (get_or at (find_name w names) None) refl
     where
-      go : (a : Bool) → ltb (find_name w names) (length names) ≡ a → (b : Bool) → eqb (get_or at (find_name w names) 0) 0 ≡ b
-          → LineIs names c at p (pick a (λ _. pick b (λ _. got (find_name w names) (suc (line_last p w k))) (refused 24 p)) (refused 12 p))
-      go true l true z = right h (ltb-true (find_name w names) (length names) l) (eqb-true (get_or at (find_name w names) 0) 0 z)
-      go true l false z =
+      go : (a : Bool) → ltb (find_name w names) (length names) ≡ a → (b : Option ℕ) → get_or at (find_name w names) None ≡ b
+          → LineIs names c at p (pick a (λ _. pick (is_some b) (λ _. refused 24 p) (got (find_name w names) (suc (line_last p w k)))) (refused 12 p))
+      go true l None z = right h (ltb-true (find_name w names) (length names) l) z
+      go true l (Some v) z =
           let d = ltb-true (find_name w names) (length names) l in
-          let o = t.noted (find_name w names) (eqb-false (get_or at (find_name w names) 0) 0 z) in
+          let o = t.noted (find_name w names) v z in
           wrong (repeated h d o.earlier o.starts (subst (λ u. LineAt c o.from u o.caption) (same_name names o.name w o.signal d) o.line))
       go false l b z = let m = ltb-false (find_name w names) (length names) l in wrong (not_declared h (λ d. omega arith))
 

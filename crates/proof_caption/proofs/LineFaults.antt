@@ -1,11 +1,13 @@
 -- Faults of caption lines: a line that was taken has none, no line of a well captioned text has one, and those of one line have one number.
 -- Assumes nothing. `names` are the declared names, c is the captions' text, `at` the places of the captions by signal.
-use mathlib.Core.Path.{◌≡◌, refl, subst}
+use mathlib.Core.Path.{◌≡◌, refl, sym, subst, ◌∙◌}
 use mathlib.Core.List.{List}
 use Prim.Native.Nat.{ℕ, ◌+◌, ◌<◌}
 use native.Mathlib.Omega.{arith}
 use native.Mathlib.Decide.{dec_lt}
 use lib.ListN.{length, get_or}
+use Rattle.std.specs.Prelude.{Option, Some, None}
+use Rattle.read_bytes.proofs.Values.{same_some}
 use Rattle.read_names.specs.Spellings.{find_name}
 use Rattle.proof_caption.specs.CaptionTexts.{LineAt, LineStart, WellCaptioned, LineFault, FirstFault}
 use Rattle.proof_caption.specs.CaptionTexts.LineFault.{not_formed, not_declared, repeated}
@@ -31,19 +33,18 @@ fault_one (repeated a e i s b) (not_formed g) = refl
 fault_one {names} {c} {p} (repeated b e i s d) (not_declared a f) = absurd (f (subst (λ u. find_name u names < length names) (one_line c p b a).0 e))
 fault_one (repeated a e i s b) (repeated f g j t h) = refl
 
-module _ {names : List (List ℕ)} {c at : List ℕ} {p : ℕ} (t : Taken names c at p) where
+module _ {names : List (List ℕ)} {c : List ℕ} {at : List (Option ℕ)} {p : ℕ} (t : Taken names c at p) where
   -- What is known of a line that was taken.
-  pub taken_at : {q : ℕ} {w k : List ℕ} → q < p → LineStart c q → LineAt c q w k → (find_name w names < length names) × (get_or at (find_name w names) 0 ≡ q + length w + 1)
+  pub taken_at : {q : ℕ} {w k : List ℕ} → q < p → LineStart c q → LineAt c q w k → (find_name w names < length names) × (get_or at (find_name w names) None ≡ Some (q + length w + 1))
   taken_at {q} l s h =
       let o = t.each q l s in
-      subst (λ u. (find_name u names < length names) × (get_or at (find_name u names) 0 ≡ q + length u + 1)) (one_line c q o.line h).0 (o.declared, o.kept)
+      subst (λ u. (find_name u names < length names) × (get_or at (find_name u names) None ≡ Some (q + length u + 1))) (one_line c q o.line h).0 (o.declared, o.kept)
 
   -- No other has its name.
   pub taken_once : {q r : ℕ} {w k l : List ℕ} → q < p → LineStart c q → LineAt c q w k → r < p → LineStart c r → LineAt c r w l → q ≡ r
-  taken_once i s h j u g =
-      let a = taken_at i s h in
-      let b = taken_at j u g in
-      omega (arith, a.1, b.1)
+  taken_once {q} {r} {w} i s h j u g =
+      let same : q + length w + 1 ≡ r + length w + 1 = same_some (sym (taken_at i s h).1 ∙ (taken_at j u g).1) in
+      omega arith
 
   pub taken_right : (q m : ℕ) → q < p → LineStart c q → LineFault names c q m → ⊥
   taken_right q m l s f =

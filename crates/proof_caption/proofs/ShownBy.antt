@@ -4,8 +4,8 @@ use mathlib.Core.Path.{◌≡◌, refl, sym, ap, subst, ◌∙◌}
 use mathlib.Core.List.{List, []}
 use Prim.Native.Nat.{ℕ, ◌-◌, ◌<◌, ◌≤◌}
 use native.Mathlib.Omega.{arith}
-use native.Mathlib.Decide.{ℕ_discrete}
-use borrow.Author.Tests.{eq-eqb, ne_eqb}
+use Rattle.std.specs.Prelude.{Option, Some, None}
+use Rattle.read_bytes.proofs.Values.{same_some}
 use lib.ListN.{length, get_or, take, drop}
 use Rattle.spec_tilco.proofs.Lists.{all_nth}
 use Rattle.read_bytes.specs.Bytes.{name_byte, run_end}
@@ -26,14 +26,14 @@ use Rattle.proof_caption.proofs.CaptionPlaces.{caption_there, captions_place, pl
 use Rattle.spec_caption.proofs.PartPlaces.{PartRead}
 
 -- The part by the caption's place.
-module _ (s c : List ℕ) (p v : ℕ) where
-  with_caption : (v ≡ 0 → ⊥) → shown_part s c p v ≡ InCaptions v (length (caption_at c v))
+module _ (s c : List ℕ) (p : ℕ) {o : Option ℕ} where
+  with_caption : {v : ℕ} → o ≡ Some v → shown_part s c p o ≡ InCaptions v (length (caption_at c v))
   unfolding shown_part
-  with_caption n = rw (ne_eqb v 0 n)
+  with_caption z = rw z
 
-  with_none : v ≡ 0 → shown_part s c p v ≡ InSheet p (length (spelling_at s p))
+  with_none : o ≡ None → shown_part s c p o ≡ InSheet p (length (spelling_at s p))
   unfolding shown_part
-  with_none z = rw (eq-eqb v 0 z)
+  with_none z = rw z
 
 -- The two cases of a part that is shown.
 pub data ShownBy (s c : List ℕ) (k : Contents) (x : ℕ) (a : Part) : Type 0 where
@@ -63,20 +63,20 @@ module _ (s c : List ℕ) {x : ℕ} {k : Contents} {a : Part} (r : PartRead s c 
       omega (arith, h.0.ahead)
 
   pub shown_by : ShownBy s c k x a
-  shown_by = go (ℕ_discrete (get_or r.at x 0) 0)
+  shown_by = go (get_or r.at x None) refl
     where
-      go : Dec (get_or r.at x 0 ≡ 0) → ShownBy s c k x a
-      go (yes z) =
+      go : (o : Option ℕ) → get_or r.at x None ≡ o → ShownBy s c k x a
+      go None z =
           by_name (λ l v h. (captions_none (names_in s k) c r.captions x).0 z (name_of s k x) l v h found)
-          (r.part ∙ with_none s c (get_or k.places x 0) (get_or r.at x 0) z ∙ ap (λ w. InSheet (get_or k.places x 0) (length w)) (sym name_there))
-      go (no n) =
-          let o = captions_place (names_in s k) c r.captions x (get_or r.at x 0) refl n in
+          (r.part ∙ with_none s c (get_or k.places x 0) z ∙ ap (λ w. InSheet (get_or k.places x 0) (length w)) (sym name_there))
+      go (Some v) z =
+          let o = captions_place (names_in s k) c r.captions x v z in
           let i : o.0 ≡ name_of s k x = sym (find_is o.0 (names_in s k) (rw o.3 name_number)) ∙ ap (λ (y : ℕ). get_or (names_in s k) y []) o.3 in
-          by_line (subst (λ u. HasLine c u o.1 (get_or r.at x 0)) i o.2)
-          (r.part ∙ with_caption s c (get_or k.places x 0) (get_or r.at x 0) n ∙ ap (λ w. InCaptions (get_or r.at x 0) (length w)) (caption_there o.2))
+          by_line (subst (λ u. HasLine c u o.1 v) i o.2)
+          (r.part ∙ with_caption s c (get_or k.places x 0) z ∙ ap (λ w. InCaptions v (length w)) (caption_there o.2))
 
   -- The name has one line at most.
   pub line_one : {w l : List ℕ} {u v : ℕ} → HasLine c (name_of s k x) w u → HasLine c (name_of s k x) l v → (u ≡ v) × (w ≡ l)
   line_one {w} {l} {u} {v} h g =
-      let i : u ≡ v = sym (place_captions (names_in s k) c r.captions h found) ∙ place_captions (names_in s k) c r.captions g found in
+      let i : u ≡ v = same_some (sym (place_captions (names_in s k) c r.captions h found) ∙ place_captions (names_in s k) c r.captions g found) in
       (i, sym (caption_there h) ∙ ap (caption_at c) i ∙ caption_there g)

@@ -5,6 +5,8 @@ use mathlib.Core.List.{List}
 use Prim.Native.Nat.{ℕ, suc, ◌+◌, ◌<◌, ◌≤◌}
 use native.Mathlib.Omega.{arith}
 use native.Mathlib.Decide.{ℕ_discrete, dec_lt}
+use Rattle.std.specs.Prelude.{Option, Some, None}
+use Rattle.read_bytes.proofs.Values.{same_some, none_not}
 use lib.ListN.{length, get_or, set, length-set, length-replicate}
 use lib.Seq.{get_or-set_same, get_or-set_other}
 use Rattle.read_names.specs.Spellings.{find_name}
@@ -15,15 +17,15 @@ use Rattle.proof_caption.specs.CaptionTexts.LineStart.{first}
 use Rattle.proof_caption.proofs.LineEnds.{line_last, last_inside, next_start, start_past}
 
 -- The line at q was taken.
-pub record TakenLine (names : List (List ℕ)) (c at : List ℕ) (q : ℕ) : Type 0 where
+pub record TakenLine (names : List (List ℕ)) (c : List ℕ) (at : List (Option ℕ)) (q : ℕ) : Type 0 where
   pub name : List ℕ
   pub caption : List ℕ
   pub line : LineAt c q name caption
   pub declared : find_name name names < length names
-  pub kept : get_or at (find_name name names) 0 ≡ q + length name + 1
+  pub kept : get_or at (find_name name names) None ≡ Some (q + length name + 1)
 
--- The caption of signal x is that of a line before p.
-pub record Origin (names : List (List ℕ)) (c at : List ℕ) (p x : ℕ) : Type 0 where
+-- The caption of signal x at v is that of a line before p.
+pub record Origin (names : List (List ℕ)) (c : List ℕ) (p x v : ℕ) : Type 0 where
   pub from : ℕ
   pub name : List ℕ
   pub caption : List ℕ
@@ -31,39 +33,39 @@ pub record Origin (names : List (List ℕ)) (c at : List ℕ) (p x : ℕ) : Type
   pub starts : LineStart c from
   pub line : LineAt c from name caption
   pub signal : find_name name names ≡ x
-  pub kept : get_or at x 0 ≡ from + length name + 1
+  pub place : v ≡ from + length name + 1
 
-pub record Taken (names : List (List ℕ)) (c at : List ℕ) (p : ℕ) : Type 0 where
+pub record Taken (names : List (List ℕ)) (c : List ℕ) (at : List (Option ℕ)) (p : ℕ) : Type 0 where
   pub many : length at ≡ length names
   pub starts : LineStart c p
   pub inside : p ≤ length c
   pub each : (q : ℕ) → q < p → LineStart c q → TakenLine names c at q
-  pub noted : (x : ℕ) → (get_or at x 0 ≡ 0 → ⊥) → Origin names c at p x
+  pub noted : (x v : ℕ) → get_or at x None ≡ Some v → Origin names c p x v
 
 module _ (names : List (List ℕ)) (c : List ℕ) where
   pub taken_none : Taken names c (no_captions (length names)) 0
   unfolding no_captions
   taken_none = record {
-    many = length-replicate {A = ℕ} (length names) 0;
+    many = length-replicate {A = Option ℕ} (length names) None;
     starts = first;
     inside = omega arith;
     each = λ q l. absurd (omega arith);
-    noted = λ x n. absurd (n (none_there (length names) x));
+    noted = λ x v n. absurd (none_not (sym (none_there (length names) x) ∙ n));
   }
 
   -- One line more, of a signal that had no caption.
-  module _ {at : List ℕ} {p : ℕ} (t : Taken names c at p) {w k : List ℕ} (h : LineAt c p w k) (d : find_name w names < length names) (new : get_or at (find_name w names) 0 ≡ 0) where
+  module _ {at : List (Option ℕ)} {p : ℕ} (t : Taken names c at p) {w k : List ℕ} (h : LineAt c p w k) (d : find_name w names < length names) (new : get_or at (find_name w names) None ≡ None) where
     abbrev place : ℕ
     place = p + length w + 1
 
-    abbrev now : List ℕ
-    now = set at (find_name w names) place
+    abbrev now : List (Option ℕ)
+    now = set at (find_name w names) (Some place)
 
-    here : get_or now (find_name w names) 0 ≡ place
-    here = get_or-set_same at (find_name w names) place 0 (omega (arith, t.many))
+    here : get_or now (find_name w names) None ≡ Some place
+    here = get_or-set_same at (find_name w names) (Some place) None (omega (arith, t.many))
 
-    other : (x : ℕ) → (get_or at x 0 ≡ 0 → ⊥) → get_or now x 0 ≡ get_or at x 0
-    other x n = get_or-set_other at (find_name w names) x place 0 (λ i. n (ap (λ (y : ℕ). get_or at y 0) i ∙ new))
+    other : (x : ℕ) → (x ≡ find_name w names → ⊥) → get_or now x None ≡ get_or at x None
+    other x n = get_or-set_other at (find_name w names) x (Some place) None n
 
     each_now : (q : ℕ) → q < suc (line_last p w k) → LineStart c q → TakenLine names c now q
     each_now q l s = go (dec_lt q p) (dec_lt p q)
@@ -76,16 +78,16 @@ module _ (names : List (List ℕ)) (c : List ℕ) where
               caption = o.caption;
               line = o.line;
               declared = o.declared;
-              kept = other (find_name o.name names) (λ z. (let y = o.kept in omega arith)) ∙ o.kept;
+              kept = other (find_name o.name names) (λ i. none_not (sym new ∙ ap (λ (y : ℕ). get_or at y None) (sym i) ∙ o.kept)) ∙ o.kept;
             }
         go (no i) (yes j) = absurd (let m = start_past h s j in omega arith)
         go (no i) (no j) = let e : p ≡ q = omega arith in subst (TakenLine names c now) e (record { name = w; caption = k; line = h; declared = d; kept = here })
 
-    noted_now : (x : ℕ) → (get_or now x 0 ≡ 0 → ⊥) → Origin names c now (suc (line_last p w k)) x
-    noted_now x n = go (ℕ_discrete (find_name w names) x) (ℕ_discrete (get_or at x 0) 0)
+    noted_now : (x v : ℕ) → get_or now x None ≡ Some v → Origin names c (suc (line_last p w k)) x v
+    noted_now x v n = go (ℕ_discrete (find_name w names) x)
       where
-        go : Dec (find_name w names ≡ x) → Dec (get_or at x 0 ≡ 0) → Origin names c now (suc (line_last p w k)) x
-        go (yes i) j = record {
+        go : Dec (find_name w names ≡ x) → Origin names c (suc (line_last p w k)) x v
+        go (yes i) = record {
           from = p;
           name = w;
           caption = k;
@@ -93,11 +95,10 @@ module _ (names : List (List ℕ)) (c : List ℕ) where
           starts = t.starts;
           line = h;
           signal = i;
-          kept = ap (λ (y : ℕ). get_or now y 0) (sym i) ∙ here;
+          place = same_some (sym n ∙ ap (λ (y : ℕ). get_or now y None) (sym i) ∙ here);
         }
-        go (no i) (yes j) = absurd (n (get_or-set_other at (find_name w names) x place 0 (λ e. i (sym e)) ∙ j))
-        go (no i) (no j) =
-            let o = t.noted x j in
+        go (no i) =
+            let o = t.noted x v (sym (other x (λ e. i (sym e))) ∙ n) in
             record {
               from = o.from;
               name = o.name;
@@ -106,7 +107,7 @@ module _ (names : List (List ℕ)) (c : List ℕ) where
               starts = o.starts;
               line = o.line;
               signal = o.signal;
-              kept = other x j ∙ o.kept;
+              place = o.place;
             }
 
     pub taken_more : Taken names c now (suc (line_last p w k))

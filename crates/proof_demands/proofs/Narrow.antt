@@ -8,9 +8,7 @@ use native.Mathlib.Omega.{arith}
 use lib.Dec.{eqb}
 use lib.ListN.{length, drop, length-append, length-drop}
 use lib.Seq.{drop-append-le}
-use Rattle.read_names.specs.declared.EndNumber.{EndNumber}
-use Rattle.read_names.specs.declared.NameRead.TheVariants.{Name}
-use Rattle.read_bytes.specs.declared.numbers.Number.TheVariants.{Value}
+use Rattle.std.specs.Prelude.{Option, Some}
 use Rattle.read_bytes.specs.Read.Read.{got}
 use Rattle.read_bytes.specs.Bytes.{bytes, byte, peek, between, digit, name_byte, run, run_at, run_end, every}
 use Rattle.read_names.specs.Spellings.{spelling_end, is_spelled, name_at}
@@ -18,7 +16,7 @@ use Rattle.read_bytes.specs.Numbers.{digits, number}
 use Rattle.read_lines.specs.Lines.{in_line, line_end, line, number_line, ranged_line, name_line}
 use Rattle.read_names.proofs.Spelling.{is_word}
 use Rattle.read_names.proofs.Names.{named, name_reach}
-use Rattle.read_bytes.proofs.Values.{digits_reach, number_reach}
+use Rattle.read_bytes.proofs.Values.{same_some, digits_reach, number_reach}
 use Rattle.read_bytes.proofs.Answers.{came, through}
 use Rattle.read_lines.proofs.KeyedLines.{Placed, line_is, whole_is, number_line_is, name_line_is, number_held, name_held}
 use Rattle.read_lines.proofs.Prefix.{peek_kept, starts_kept}
@@ -49,7 +47,7 @@ module _ (r x : List ℕ) where
   is_word_narrow : (p : ℕ) (w : List ℕ) → every name_byte w ≡ true → spelling_end (r ++ x) p < length r → is_spelled r p w ≡ is_spelled (r ++ x) p w
   is_word_narrow p w all h = rw (is_word r p w all, is_word (r ++ x) p w all, run_at_narrow name_byte p h)
 
-  name_at_narrow : (p : ℕ) {q : ℕ} {n : EndNumber} → name_at (r ++ x) p ≡ Name q n → q < length r → name_at r p ≡ Name q n
+  name_at_narrow : (p : ℕ) {q : ℕ} {n : Option ℕ} → name_at (r ++ x) p ≡ Some (q, n) → q < length r → name_at r p ≡ Some (q, n)
   unfolding name_at every name_byte
   name_at_narrow p e h =
       let n = named (r ++ x) p e in
@@ -57,7 +55,7 @@ module _ (r x : List ℕ) where
       let l : spelling_end (r ++ x) p < length r = omega (arith, n.ends) in
       rw (sym (peek_kept r x p (omega (arith, a.0.ahead))), run_at_narrow name_byte p l, run_end_narrow name_byte p l, is_word_narrow p (bytes "since") refl l, is_word_narrow p (bytes "until") refl l) e
 
-  digits_narrow : (k p v : ℕ) {y q : ℕ} → p ≤ length (r ++ x) → digits (r ++ x) k p v ≡ Value y q → q < length r → digits r k p v ≡ Value y q
+  digits_narrow : (k p v : ℕ) {y q : ℕ} → p ≤ length (r ++ x) → digits (r ++ x) k p v ≡ (y, q) → q < length r → digits r k p v ≡ (y, q)
   unfolding digits
   digits_narrow zero p v h e l = e
   digits_narrow (suc k) p v {y} {q} h e l = go (digit (peek r p)) refl (digits_narrow k (p + 1) (10 * v + (peek r p - byte "0")))
@@ -68,11 +66,11 @@ module _ (r x : List ℕ) where
       same : peek (r ++ x) p ≡ peek r p
       same = peek_kept r x p (omega (arith, a))
 
-      go : (b : Bool) → digit (peek r p) ≡ b → (p + 1 ≤ length (r ++ x) → digits (r ++ x) k (p + 1) (10 * v + (peek r p - byte "0")) ≡ Value y q → q < length r → digits r k (p + 1) (10 * v + (peek r p - byte "0")) ≡ Value y q) → digits r (suc k) p v ≡ Value y q
+      go : (b : Bool) → digit (peek r p) ≡ b → (p + 1 ≤ length (r ++ x) → digits (r ++ x) k (p + 1) (10 * v + (peek r p - byte "0")) ≡ (y, q) → q < length r → digits r k (p + 1) (10 * v + (peek r p - byte "0")) ≡ (y, q)) → digits r (suc k) p v ≡ (y, q)
       go true d i = rw d (i (omega (arith, a, length-append r x)) (rw (same, d) at e) l)
       go false d i = rw d (rw (same, d) at e)
 
-  number_narrow : (p : ℕ) {y q : ℕ} → number (r ++ x) p ≡ Value y q → q < length r → number r p ≡ Value y q
+  number_narrow : (p : ℕ) {y q : ℕ} → number (r ++ x) p ≡ Some (y, q) → q < length r → number r p ≡ Some (y, q)
   unfolding number
   number_narrow p {y} {q} e l = go (eqb (peek r p) (byte "0")) refl (between (byte "1") (byte "9") (peek r p)) refl
     where
@@ -82,9 +80,9 @@ module _ (r x : List ℕ) where
       same : peek (r ++ x) p ≡ peek r p
       same = peek_kept r x p (omega (arith, a))
 
-      go : (b : Bool) → eqb (peek r p) (byte "0") ≡ b → (c : Bool) → between (byte "1") (byte "9") (peek r p) ≡ c → number r p ≡ Value y q
+      go : (b : Bool) → eqb (peek r p) (byte "0") ≡ b → (c : Bool) → between (byte "1") (byte "9") (peek r p) ≡ c → number r p ≡ Some (y, q)
       go true f c g = rw f (rw (same, f) at e)
-      go false f true g = rw (f, g) (digits_narrow 5 p 0 (omega (arith, a, length-append r x)) (rw (same, f, g) at e) l)
+      go false f true g = rw (f, g) (ap Some (digits_narrow 5 p 0 (omega (arith, a, length-append r x)) (same_some (rw (same, f, g) at e)) l))
       go false f false g = rw (f, g) (rw (same, f, g) at e)
 
   module _ (p : ℕ) (key : List ℕ) (form : ℕ) where

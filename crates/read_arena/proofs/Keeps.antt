@@ -10,7 +10,7 @@ use native.Mathlib.Omega.{arith}
 use Rattle.spec_limits.specs.Limits.{most_offset}
 use Rattle.spec_tilco.specs.Formula.{Written, hiddens, defining, step_of}
 use lib.ListN.{get_or}
-use Rattle.read_arena.specs.Nodes.{pick, node_at, put_node, put_nodes, keep_nodes, put_keep}
+use Rattle.read_arena.specs.Nodes.{node_at, put_node, put_nodes, keep_nodes, put_keep}
 use Rattle.read_arena.specs.NodeRules.{form_of, form_at, AllChildrenBefore, Arena, NodeRoom, Same, Held}
 use Rattle.read_arena.specs.declared.Sign.{Sign}
 use Rattle.read_arena.specs.declared.Node.TheVariants.{Name, Pair, Time, Keep}
@@ -19,18 +19,9 @@ use Rattle.read_arena.proofs.Read.{form_step, text_step, definings_step}
 use Rattle.read_arena.proofs.Helds.{held_kept}
 
 -- The step of since or until is an offset from -63 to 63.
-step_right : (b : Bool) → (1 ≤ step_of b) × (step_of b + 0 ≤ most_offset)
+pub step_right : (b : Bool) → (1 ≤ step_of b) × (step_of b + 0 ≤ most_offset)
 step_right true = (omega arith, omega arith)
 step_right false = (omega arith, omega arith)
-
--- It is picked so.
-step_is : (b : Bool) → pick b 63 65 ≡ step_of b
-step_is true = refl
-step_is false = refl
-
--- The picked step is such an offset too.
-pub picked_right : (b : Bool) {step : ℕ} → step ≡ pick b 63 65 → (1 ≤ step) × (step + 0 ≤ most_offset)
-picked_right b e = rw (e, step_is b) (step_right b)
 
 -- The six nodes are right.
 keep_rights : (c : ℕ) (b : Bool) (x l r : ℕ) → l < c → r < c → AllChildrenBefore (keep_nodes c b x l r) c
@@ -89,9 +80,9 @@ module _ {a : List ℕ} {c : ℕ} (b : Bool) (x : ℕ) {l r : ℕ} (A : Arena c 
       }
 
 -- Six puts, one after the other, are it.
-pub six_puts : (a : List ℕ) {a₁ a₂ a₃ a₄ a₅ a₆ : List ℕ} (c : ℕ) (b : Bool) (x l r : ℕ) {step : ℕ} → step ≡ pick b 63 65
+pub six_puts : (a : List ℕ) {a₁ a₂ a₃ a₄ a₅ a₆ : List ℕ} (c : ℕ) (b : Bool) (x l r : ℕ) {step : ℕ} → step ≡ step_of b
     → a₁ ≡ put_node a c (Name x) → a₂ ≡ put_node a₁ (c + 1) (Pair Sign.And r c) → a₃ ≡ put_node a₂ (c + 2) (Pair Sign.Or l (c + 1))
     → a₄ ≡ put_node a₃ (c + 3) (Time true (c + 2) step 0) → a₅ ≡ put_node a₄ (c + 4) (Pair Sign.Iff c (c + 3))
     → a₆ ≡ put_node a₅ (c + 5) (Keep b l r x) → a₆ ≡ put_keep a c b x l r
 unfolding put_keep put_nodes
-six_puts a c b x l r e e₁ e₂ e₃ e₄ e₅ e₆ = rw (e₆, e₅, e₄, e₃, e₂, e₁, e, step_is b) (simp towards_suc)
+six_puts a c b x l r e e₁ e₂ e₃ e₄ e₅ e₆ = rw (e₆, e₅, e₄, e₃, e₂, e₁, e) (simp towards_suc)

@@ -6,6 +6,7 @@ use mathlib.Core.List.{List, [], ◌∷◌}
 use Prim.Native.Nat.{ℕ, zero, suc, ◌+◌, ◌*◌, ◌≤◌, ◌<◌}
 use native.Mathlib.Nat.{add-zero, add-suc, suc-add}
 use native.Mathlib.Decide.{ℕ_discrete}
+use native.Mathlib.Numerals.{towards_suc}
 use native.Mathlib.Omega.{arith}
 use lib.ListN.{length, get_or, set, length-set}
 use lib.Seq.{sets, length-sets, get_or-set_same, get_or-set_other}
@@ -30,13 +31,25 @@ at_sets m i (suc j) (w ∷ ws) h fits =
     rw (add-suc, ← suc-add) (at_sets (set m i w) (suc i) j ws (omega arith) (omega (arith, length-set m i w)))
 
 -- A node has four numbers.
-code_length : (k : Node) → length (code_of k) ≡ 4
+pub code_length : (k : Node) → length (code_of k) ≡ 4
 unfolding code_of
 code_length (Name x) = refl
 code_length (Deny x) = refl
 code_length (Pair s x y) = refl
-code_length (Time u x first more) = refl
-code_length (Keep b x y row) = refl
+code_length (Time true x first more) = refl
+code_length (Time false x first more) = refl
+code_length (Keep true x y row) = refl
+code_length (Keep false x y row) = refl
+
+-- Four numbers stored one after the other.
+pub four_stored : (a ws : List ℕ) (i : ℕ) → length ws ≡ 4
+    → set (set (set (set a i (get_or ws 0 0)) (i + 1) (get_or ws 1 0)) (i + 2) (get_or ws 2 0)) (i + 3) (get_or ws 3 0) ≡ sets a i ws
+four_stored a [] i e = absurd (omega arith)
+four_stored a (w ∷ []) i e = absurd (omega arith)
+four_stored a (w ∷ x ∷ []) i e = absurd (omega arith)
+four_stored a (w ∷ x ∷ y ∷ []) i e = absurd (omega arith)
+four_stored a (w ∷ x ∷ y ∷ z ∷ []) i e = simp towards_suc
+four_stored a (v ∷ w ∷ x ∷ y ∷ z ∷ ws) i e = absurd (omega arith)
 
 -- They give the node back.
 code_node : (k : Node) → node_of (get_or (code_of k) 0 0) (get_or (code_of k) 1 0) (get_or (code_of k) 2 0) (get_or (code_of k) 3 0) ≡ k

@@ -7,11 +7,6 @@ use Rattle.read_arena.specs.declared.Sign.{Sign}
 use Rattle.read_arena.specs.declared.Node.{Node}
 use Rattle.read_arena.specs.declared.Node.TheVariants.{Name, Deny, Pair, Time, Keep}
 
--- One of two numbers.
-abbrev pub pick : Bool → ℕ → ℕ → ℕ
-pick true m n = m
-pick false m n = n
-
 -- The sign that a rule is written with.
 abbrev pub op_of : Sign → Op
 op_of Sign.And = Op.And
@@ -52,8 +47,10 @@ unfoldable pub code_of : Node → List ℕ
 code_of (Name x) = 0 ∷ x ∷ 0 ∷ 0 ∷ []
 code_of (Deny x) = 1 ∷ x ∷ 0 ∷ 0 ∷ []
 code_of (Pair s x y) = 2 ∷ x ∷ y ∷ sign_number s ∷ []
-code_of (Time u x first more) = pick u 3 4 ∷ x ∷ first ∷ more ∷ []
-code_of (Keep b x y row) = pick b 5 6 ∷ x ∷ y ∷ row ∷ []
+code_of (Time true x first more) = 3 ∷ x ∷ first ∷ more ∷ []
+code_of (Time false x first more) = 4 ∷ x ∷ first ∷ more ∷ []
+code_of (Keep true x y row) = 5 ∷ x ∷ y ∷ row ∷ []
+code_of (Keep false x y row) = 6 ∷ x ∷ y ∷ row ∷ []
 
 -- The buffer with node k at number c.
 unfoldable pub put_node : List ℕ → ℕ → Node → List ℕ

@@ -1,18 +1,18 @@
-// One rule's formula as numbers in a lent buffer: four numbers a node, children before parents.
-// The rule parser puts nodes; lowering and printing read them.
+// One rule's formula as numbers in a lent buffer: four numbers a node, children before parents. The buffer is lent and of a fixed size, for the
+// reader asks for no memory. The rule parser puts nodes; lowering and printing read them.
 #![tactic(auto)]
 
-ghost use Rattle.std.specs.Prelude.{◌≡◌, [], ◌∷◌, ◌<◌};
-ghost use Rattle.read_arena.specs.Nodes.{pick, sign_of, sign_number, node_at, code_of, put_node, put_keep};
+ghost use Rattle.std.specs.Prelude.{◌≡◌, ◌<◌};
+ghost use Rattle.read_arena.specs.Nodes.{sign_of, node_at, code_of, put_node, put_keep};
 ghost use Rattle.read_arena.specs.NodeRules.{ChildrenBefore, Storable, HasNode, NodeRoom};
 
-// The signs & | => <=>.
+// The signs & | => <=>. A sign binds tighter than those with a larger number.
 #[derive(Clone, Copy)]
 pub enum Sign {
-    And,
-    Or,
-    Implies,
-    Iff,
+    And = 0,
+    Or = 1,
+    Implies = 2,
+    Iff = 3,
 }
 
 // A node of a rule. Its children are given by their numbers.
@@ -30,25 +30,8 @@ pub enum Node {
     Keep(bool, usize, usize, u16),
 }
 
-// A node's four numbers: its kind, then x, y and z.
-#[derive(Drop)]
-struct Code(u16, u16, u16, u16);
-
-// One of two numbers.
-fn pick_number(which: bool, yes: u16, no: u16) -> u16
-    ensures { result ≡ pick which yes no }
-{
-    if which { yes } else { no }
-}
-
-// A number of the buffer as a node's number.
-fn index(x: u16) -> usize
-    ensures { result ≡ x }
-{
-    x as usize
-}
-
 // The sign with this number.
+#[tactic(auto, using(crate::proofs::Cases::sign_past), unfolding(crate::specs::Nodes::sign_of))]
 fn sign_of(z: u16) -> Sign
     ensures { result ≡ sign_of z }
 {
@@ -60,31 +43,19 @@ fn sign_of(z: u16) -> Sign
     }
 }
 
-// The sign's number. A sign binds tighter than those with a larger one.
-fn sign_number(sign: Sign) -> u16
-    ensures { result ≡ sign_number sign }
-{
-    match sign {
-        Sign::And => 0,
-        Sign::Or => 1,
-        Sign::Implies => 2,
-        Sign::Iff => 3,
-    }
-}
-
 // Node n of the buffer.
+#[tactic(auto, unfolding(crate::specs::Nodes::node_at, crate::specs::Nodes::node_of))]
 pub fn node_at(arena: &[u16], n: usize) -> Node
     requires { HasNode arena.now n }
     ensures { result ≡ node_at arena.now n }
 {
     let at = 4 * n;
-    let kind = arena[at];
     let x = arena[at + 1];
     let y = arena[at + 2];
     let z = arena[at + 3];
-    let left = index(x);
-    let right = index(y);
-    match kind {
+    let left = x as usize;
+    let right = y as usize;
+    match arena[at] {
         0 => Node::Name(x),
         1 => Node::Deny(left),
         2 => Node::Pair(sign_of(z), left, right),
@@ -95,22 +66,20 @@ pub fn node_at(arena: &[u16], n: usize) -> Node
     }
 }
 
-// The four numbers of a node.
-fn code_of(node: Node) -> Code
+// The four numbers of a node: its kind, then x, y and z.
+#[tactic(auto, unfolding(crate::specs::Nodes::code_of))]
+fn code_of(node: Node) -> [u16; 4]
     requires { Storable node }
-    ensures { result.0 ∷ result.1 ∷ result.2 ∷ result.3 ∷ [] ≡ code_of node }
+    ensures { result ≡ code_of node }
 {
     match node {
-        Node::Name(x) => Code(0, x, 0, 0),
-        Node::Deny(x) => Code(1, x as u16, 0, 0),
-        Node::Pair(sign, x, y) => Code(2, x as u16, y as u16, sign_number(sign)),
-        Node::Time(always, x, first, more) => Code(
-            pick_number(always, 3, 4),
-            x as u16,
-            first,
-            more,
-        ),
-        Node::Keep(since, x, y, row) => Code(pick_number(since, 5, 6), x as u16, y as u16, row),
+        Node::Name(x) => [0, x, 0, 0],
+        Node::Deny(x) => [1, x as u16, 0, 0],
+        Node::Pair(sign, x, y) => [2, x as u16, y as u16, sign as u16],
+        Node::Time(true, x, first, more) => [3, x as u16, first, more],
+        Node::Time(false, x, first, more) => [4, x as u16, first, more],
+        Node::Keep(true, x, y, row) => [5, x as u16, y as u16, row],
+        Node::Keep(false, x, y, row) => [6, x as u16, y as u16, row],
     }
 }
 
@@ -120,12 +89,12 @@ pub fn put_node(arena: &mut [u16], count: usize, node: Node)
     requires children_before { ChildrenBefore node count }
     ensures { arena.new ≡ put_node arena.old count node }
 {
-    let code = code_of(node);
+    let [kind, x, y, z] = code_of(node);
     let at = 4 * count;
-    arena[at] = code.0;
-    arena[at + 1] = code.1;
-    arena[at + 2] = code.2;
-    arena[at + 3] = code.3;
+    arena[at] = kind;
+    arena[at + 1] = x;
+    arena[at + 2] = y;
+    arena[at + 3] = z;
 }
 
 // A since or an until with its arguments at left and right, past the first count nodes: first the five nodes of its hidden signal's
@@ -135,7 +104,7 @@ pub fn put_keep(arena: &mut [u16], count: usize, since: bool, row: u16, left: us
     requires left_lt_count { (left < count) × (right < count) }
     ensures { arena.new ≡ put_keep arena.old count since row left right }
 {
-    let step = pick_number(since, 63, 65);
+    let step = if since { 63 } else { 65 };
     put_node(arena, count, Node::Name(row));
     put_node(arena, count + 1, Node::Pair(Sign::And, right, count));
     put_node(arena, count + 2, Node::Pair(Sign::Or, left, count + 1));

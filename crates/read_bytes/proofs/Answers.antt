@@ -1,10 +1,10 @@
 -- Answers of readers: what a case of one says, and where a value that was read came from.
 -- Assumes nothing.
-use mathlib.Core.Path.{◌≡◌, refl, sym, ap, ◌∙◌, subst}
+use mathlib.Core.Path.{◌≡◌, refl, sym, ap, ◌∙◌}
 use mathlib.Core.Bool.{Bool, true, false}
 use Prim.Native.Nat.{ℕ}
 use native.Mathlib.Omega.{arith}
-use Rattle.read_bytes.specs.Read.{Read, and_then, Refusal}
+use Rattle.read_bytes.specs.Read.{Read, and_then}
 use Rattle.read_bytes.specs.Read.Read.{got, refused}
 use Rattle.read_bytes.specs.Bytes.{pick}
 
@@ -21,10 +21,6 @@ module _ {A : Type 0} {a b : A} {p q : ℕ} (e : got a p ≡ got b q) where
 -- What is read is what its answer says, by `says` or by another such definition.
 pub answered : {X A : Type 0} (f : X → Read A) {a x : X} {R : Read A} → f a ≡ R → a ≡ x → R ≡ f x
 answered f h g = sym h ∙ ap f g
-
--- An answer whose case says a refusal is one.
-pub is_refusal : {X A : Type 0} (f : X → Read A) {a x : X} → a ≡ x → Refusal (f x) → Refusal (f a)
-is_refusal f e h = subst (λ z. Refusal (f z)) (sym e) h
 
 -- A refusal is the answer of all that would have gone on.
 pub hand_on : {A B : Type 0} (K : A → ℕ → Read B) {R : Read A} {n p : ℕ} → R ≡ refused n p → refused n p ≡ and_then R K

@@ -10,8 +10,7 @@ use borrow.Author.Tests.{eqb-true, eqb-false, eq-eqb, ne_eqb}
 use lib.Dec.{eqb}
 use lib.ListN.{length}
 use lib.Seq.{drop-append-add, get_or-append-add}
-use Rattle.read_bytes.specs.declared.numbers.Number.{Number}
-use Rattle.read_bytes.specs.declared.numbers.Number.TheVariants.{Value, Missing}
+use Rattle.std.specs.Prelude.{Option, Some, None}
 use Rattle.read_bytes.specs.Read.{Read}
 use Rattle.read_bytes.specs.Read.Read.{got, refused}
 use Rattle.read_bytes.specs.Bytes.{byte, peek, pick, between, digit, starts, run, run_at, run_end}
@@ -26,10 +25,14 @@ moved f d (refused n p) = refused n (d + p)
 abbrev pub later : {A : Type 0} → ℕ → Read A → Read A
 later d = moved (λ a. a) d
 
--- The same of a number that is read.
-abbrev pub later_number : ℕ → Number → Number
-later_number d (Value v q) = Value v (d + q)
-later_number d Missing = Missing
+-- A value and the place after it, which is d later.
+abbrev pub later_pair : {A : Type 0} → ℕ → A × ℕ → A × ℕ
+later_pair d (v, q) = (v, d + q)
+
+-- The same where there may be none.
+abbrev pub later_some : {A : Type 0} → ℕ → Option (A × ℕ) → Option (A × ℕ)
+later_some d (Some x) = Some (later_pair d x)
+later_some d None = None
 
 -- What is made of one of two is one of what is made of them.
 pub pick_map : {A B : Type 0} (f : A → B) (b : Bool) (x y : A) → pick b (λ _. f x) (f y) ≡ f (pick b (λ _. x) y)
@@ -68,22 +71,22 @@ module _ (u t : List ℕ) where
   run_end_later i P = rw (run_at_later i P) (omega arith)
 
   -- numbers
-  pub digits_later : (i k v : ℕ) → digits (u ++ t) k (length u + i) v ≡ later_number (length u) (digits t k i v)
+  pub digits_later : (i k v : ℕ) → digits (u ++ t) k (length u + i) v ≡ later_pair (length u) (digits t k i v)
   unfolding digits
   digits_later i zero v = refl
   digits_later i (suc k) v =
       let n : length u + i + 1 ≡ length u + (i + 1) = omega arith in
       rw (n, peek_later i, digits_later (i + 1) k (10 * v + (peek t i - byte "0")))
-      (pick_map (later_number (length u)) (digit (peek t i)) (digits t k (i + 1) (10 * v + (peek t i - byte "0"))) (Value v i))
+      (pick_map (later_pair (length u)) (digit (peek t i)) (digits t k (i + 1) (10 * v + (peek t i - byte "0"))) (v, i))
 
-  pub number_later : (i : ℕ) → number (u ++ t) (length u + i) ≡ later_number (length u) (number t i)
+  pub number_later : (i : ℕ) → number (u ++ t) (length u + i) ≡ later_some (length u) (number t i)
   unfolding number
   number_later i =
       let n : length u + i + 1 ≡ length u + (i + 1) = omega arith in
       rw (n, peek_later i, digits_later i 5 0)
       (go (eqb (peek t i) (byte "0")) (between (byte "1") (byte "9") (peek t i)))
     where
-      go : (b c : Bool) → pick b (λ _. Value 0 (length u + (i + 1))) (pick c (λ _. later_number (length u) (digits t 5 i 0)) Missing) ≡ later_number (length u) (pick b (λ _. Value 0 (i + 1)) (pick c (λ _. digits t 5 i 0) Missing))
+      go : (b c : Bool) → pick b (λ _. Some (0, length u + (i + 1))) (pick c (λ _. Some (later_pair (length u) (digits t 5 i 0))) None) ≡ later_some (length u) (pick b (λ _. Some (0, i + 1)) (pick c (λ _. Some (digits t 5 i 0)) None))
       go true c = refl
       go false true = refl
       go false false = refl

@@ -1,6 +1,8 @@
 -- What reading a text finds (01, "Numbers of refusal").
 -- Assumes nothing.
-use Rattle.std.specs.Prelude.{ℕ}
+use Rattle.std.specs.Prelude.{ℕ, Result, Ok, Err}
+use Rattle.spec_refusals.specs.declared.Refusal.{Refusal}
+use Rattle.spec_refusals.specs.Numbers.{fault_number}
 
 -- A value and the place after it, or a refusal's number and place.
 pub data Read (A : Type 0) : Type 0 where
@@ -12,7 +14,7 @@ abbrev pub and_then : {A B : Type 0} → Read A → (A → ℕ → Read B) → R
 and_then (got a q) k = k a q
 and_then (refused n p) k = refused n p
 
--- It is a refusal, and no value was read.
-abbrev pub Refusal : {A : Type 0} → Read A → Type 0
-Refusal (got a q) = ⊥
-Refusal (refused n p) = Unit {0}
+-- What an answer says: what f says of its value, or the refusal's number and place.
+abbrev pub said : {V A : Type 0} → (V → Read A) → Result V Refusal → Read A
+said f (Ok v) = f v
+said f (Err r) = refused (fault_number r.fault) r.place

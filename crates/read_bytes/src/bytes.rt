@@ -3,7 +3,7 @@ ghost use Rattle.std.specs.Prelude.{◌≡◌, ◌+◌, ◌≤◌, length, drop}
 ghost use Rattle.read_bytes.specs.Bytes.{peek, class_of, name_byte, starts, four_at};
 
 // The classes of bytes: those that tokens are made of, and all others.
-#[derive(Drop)]
+#[derive(Clone, Copy)]
 pub enum Class {
     Letter,
     Digit,
@@ -36,11 +36,7 @@ pub fn class_of(b: u8) -> Class
 pub fn name_byte(b: u8) -> bool
     ensures { result ≡ name_byte b }
 {
-    match b {
-        b'a'..=b'z' => true,
-        b'0'..=b'9' => true,
-        _ => false,
-    }
+    b.is_ascii_lowercase() || b.is_ascii_digit()
 }
 
 // The four bytes at `at` as one number. The compiler makes one load of it.
@@ -59,20 +55,16 @@ fn rest_stands(s: &[u8], at: usize, w: &[u8], from: usize) -> bool
     requires { (at + length w.now ≤ length s.now) × (from ≤ length w.now) }
     ensures { result ≡ starts s.now (at + from) (drop from w.now) }
 {
-    let mut i = from;
-    while i < w.len() {
-        let p = at + i;
-        let b = s[p];
-        let x = w[i];
-        if b != x {
+    for i in from..w.len() {
+        if s[at + i] != w[i] {
             return false;
         }
-        i += 1;
     }
     true
 }
 
-// Do the bytes of `w` stand at `at`, where the text has room for them? Four are compared at once.
+// Do the bytes of `w` stand at `at`, where the text has room for them? Four are compared at once. Of a key that the compiler knows, std's starts_with
+// costs some four instructions more, `==` of slices five, `all` of the bytes one, and `step_by(4)` none, but that costs four more of any other word.
 pub fn stands_at(s: &[u8], at: usize, w: &[u8]) -> bool
     requires { at + length w.now ≤ length s.now }
     ensures { result ≡ starts s.now at w.now }
@@ -95,15 +87,10 @@ fn starts_past(s: &[u8], at: usize, w: &[u8]) -> bool
     requires { at ≤ length s.now }
     ensures { result ≡ starts s.now at w.now }
 {
-    let mut i = 0;
-    while i < w.len() {
-        let p = at + i;
-        let b = byte_at(s, p);
-        let x = w[i];
-        if b != x {
+    for i in 0..w.len() {
+        if byte_at(s, at + i) != w[i] {
             return false;
         }
-        i += 1;
     }
     true
 }

@@ -5,37 +5,28 @@ ghost use Rattle.read_bytes.specs.Numbers as spec;
 
 use crate::bytes::byte_at;
 
-// A number and the place after it, or no number.
-#[derive(Drop)]
-pub enum Number {
-    Value(usize, usize),
-    Missing,
-}
-
 // The value of the digits at `at`, of which `most` are read at the most, and the place after them.
-pub fn digits(s: &[u8], at: usize, most: usize) -> Number
+pub fn digits(s: &[u8], at: usize, most: usize) -> (usize, usize)
     requires { (at ≤ length s.now) × (most ≤ 5) }
     ensures { result ≡ spec.digits s.now most at 0 }
 {
-    let mut left = most;
     let mut p = at;
     let mut v: usize = 0;
-    while 0 < left {
+    for read in 0..most {
         let b = byte_at(s, p);
         match b {
             b'0'..=b'9' => {
                 v = 10 * v + (b as usize - 48);
                 p += 1;
-                left -= 1;
             }
-            _ => return Number::Value(v, p),
+            _ => return (v, p),
         }
     }
-    Number::Value(v, p)
+    (v, p)
 }
 
-// A number at `at`: one to five digits with no leading zero.
-pub fn number_at(s: &[u8], at: usize) -> Number
+// A number at `at`, one to five digits with no leading zero, and the place after it. Or no number.
+pub fn number_at(s: &[u8], at: usize) -> Option<(usize, usize)>
     requires { at ≤ length s.now }
     ensures { result ≡ number s.now at }
 {
@@ -43,9 +34,9 @@ pub fn number_at(s: &[u8], at: usize) -> Number
     match b {
         b'0' => {
             let next = at + 1;
-            Number::Value(0, next)
+            Some((0, next))
         }
-        b'1'..=b'9' => digits(s, at, 5),
-        _ => Number::Missing,
+        b'1'..=b'9' => Some(digits(s, at, 5)),
+        _ => None,
     }
 }

@@ -5,9 +5,11 @@ use mathlib.Core.Bool.{Bool, true, false}
 use mathlib.Core.List.{List}
 use Prim.Native.Nat.{ℕ, ◌+◌, ◌<◌, ◌≤◌}
 use native.Mathlib.Omega.{arith}
-use borrow.Author.Tests.{eq-eqb, ne_eqb, eqb-true, lt-ltb, le-ltb, ltb-true}
-use lib.Dec.{eqb, ltb}
+use borrow.Author.Tests.{lt-ltb, le-ltb, ltb-true}
+use lib.Dec.{ltb}
 use lib.ListN.{length, get_or}
+use Rattle.std.specs.Prelude.{Option, Some, None}
+use Rattle.std.specs.Option.{is_some}
 use Rattle.read_bytes.specs.Read.{Read}
 use Rattle.read_bytes.specs.Read.Read.{got, refused}
 use Rattle.read_bytes.specs.Bytes.{peek, pick, name_byte, run_end, every}
@@ -15,7 +17,7 @@ use Rattle.read_names.specs.Spellings.{spelling_at, spelling_end, find_name}
 use Rattle.read_index.specs.declared.Found.{Found}
 use Rattle.read_index.specs.Index.{name_count, names_in}
 use Rattle.read_index.specs.Finds.{Finds}
-use Rattle.read_bytes.proofs.Answers.{through, not_both, came}
+use Rattle.read_bytes.proofs.Answers.{not_both, same_value, same_place, came}
 use Rattle.read_bytes.proofs.Runs.{run_slice, end_at_lem, end_reach}
 use Rattle.read_index.proofs.Places.{names_in_many}
 use Rattle.read_index.proofs.NotNames.{not_found}
@@ -36,7 +38,7 @@ line_placed c p a =
     let h = form_said c p a in
     record { place = h.value; after = omega (arith, h.value); some = omega (arith, h.value, h.has.some); inside = lf_inside c _ h.has.ended }
 
-module _ (s T c at : List ℕ) (p : ℕ) (l : p ≤ length c) {v e : ℕ} (a : caption_form c p ≡ got v e) where
+module _ (s T c : List ℕ) (at : List (Option ℕ)) (p : ℕ) (l : p ≤ length c) {v e : ℕ} (a : caption_form c p ≡ got v e) where
   abbrev indexed : List (List ℕ)
   indexed = names_in s T
 
@@ -92,40 +94,41 @@ module _ (s T c at : List ℕ) (p : ℕ) (l : p ≤ length c) {v e : ℕ} (a : c
         known = let m = names_in_many s T in lt-ltb f.signal (length indexed) (omega arith)
 
         -- or one's that has a caption,
-        pub line_again : (get_or at f.signal 0 ≡ 0 → ⊥) → refused 24 p ≡ caption_line indexed c at p
+        pub line_again : is_some (get_or at f.signal None) ≡ true → refused 24 p ≡ caption_line indexed c at p
         unfolding given_once
-        line_again n = by_number f.signal number (rw (known, ne_eqb (get_or at f.signal 0) 0 n))
+        line_again n = by_number f.signal number (rw (known, n))
 
         -- or one's that has none.
-        pub line_new : get_or at f.signal 0 ≡ 0 → got f.signal (e + 1) ≡ caption_line indexed c at p
+        pub line_new : is_some (get_or at f.signal None) ≡ false → got f.signal (e + 1) ≡ caption_line indexed c at p
         unfolding given_once
-        line_new z = by_number f.signal number (rw (known, eq-eqb (get_or at f.signal 0) 0 z))
+        line_new z = by_number f.signal number (rw (known, z))
 
 -- What a line that was taken says: its form, its signal, and that there was no caption for it.
-pub record LineSaid (names : List (List ℕ)) (c at : List ℕ) (p x q : ℕ) : Type 0 where
+pub record LineSaid (names : List (List ℕ)) (c : List ℕ) (at : List (Option ℕ)) (p x q : ℕ) : Type 0 where
   pub end : ℕ
   pub form : caption_form c p ≡ got (caption_place c p) end
   pub signal : find_name (name_part c p) names ≡ x
   pub declared : x < length names
-  pub first : get_or at x 0 ≡ 0
+  pub first : get_or at x None ≡ None
   pub next : q ≡ end + 1
 
-pub line_said : (names : List (List ℕ)) (c at : List ℕ) (p : ℕ) {x q : ℕ} → caption_line names c at p ≡ got x q → LineSaid names c at p x q
+pub line_said : (names : List (List ℕ)) (c : List ℕ) (at : List (Option ℕ)) (p : ℕ) {x q : ℕ} → caption_line names c at p ≡ got x q → LineSaid names c at p x q
 unfolding caption_line given_once
 line_said names c at p {x} {q} h =
     let d = came (caption_form c p) _ h in
     let f = find_name (name_part c p) names in
-    let w = outer (ltb f (length names)) (eqb (get_or at f 0) 0) p d.then in
+    let w = outer (ltb f (length names)) (get_or at f None) p d.then in
     let i : f ≡ x = w.2 in
     record {
       end = d.place;
       form = d.first ∙ ap (λ (v : ℕ). got v d.place) (form_said c p d.first).value;
       signal = i;
       declared = rw (← i) (ltb-true f (length names) w.0);
-      first = rw (← i) (eqb-true (get_or at f 0) 0 w.1);
+      first = rw (← i) w.1;
       next = sym w.3;
     }
   where
-    outer : (b g : Bool) (p : ℕ) {f r x q : ℕ} → pick b (λ _. pick g (λ _. got f r) (refused 24 p)) (refused 12 p) ≡ got x q → (b ≡ true) × (g ≡ true) × (f ≡ x) × (r ≡ q)
-    outer true g p {f} {r} e = let w = through g f r 24 p e in (refl, w.0, w.1, w.2)
-    outer false g p e = absurd (not_both (sym e))
+    outer : (b : Bool) (o : Option ℕ) (p : ℕ) {f r x q : ℕ} → pick b (λ _. pick (is_some o) (λ _. refused 24 p) (got f r)) (refused 12 p) ≡ got x q → (b ≡ true) × (o ≡ None) × (f ≡ x) × (r ≡ q)
+    outer true None p e = (refl, refl, same_value e, same_place e)
+    outer true (Some v) p e = absurd (not_both (sym e))
+    outer false o p e = absurd (not_both (sym e))

@@ -1,50 +1,19 @@
 -- Caption lines one after the other: a turn takes one, and the rest is left.
 -- Assumes nothing. n is any number of turns that is enough.
-use mathlib.Core.Path.{◌≡◌, refl, subst, ◌∙◌}
+use mathlib.Core.Path.{◌≡◌, refl, ◌∙◌}
 use mathlib.Core.List.{List}
 use Prim.Native.Nat.{ℕ, zero, suc, ◌+◌, ◌-◌, ◌<◌, ◌≤◌}
 use native.Mathlib.Omega.{arith}
 use borrow.Author.Tests.{lt-ltb, le-ltb}
 use lib.ListN.{length, set}
+use Rattle.std.specs.Prelude.{Option, Some}
 use Rattle.read_bytes.specs.Read.Read.{got, refused}
 use Rattle.read_bytes.proofs.Places.{Reach}
-use Rattle.read_lines.specs.declared.Step.{Step}
-use Rattle.read_lines.specs.declared.Step.TheVariants as step
-use Rattle.read_captions.specs.Captions.{caption_place, caption_line, caption_lines, captions_in, no_captions, LineTaken, CaptionsNoted}
-use Rattle.read_captions.specs.Captions.CaptionsNoted.{noted, refused_at as unnoted}
-use Rattle.read_captions.specs.Captions.LineTaken.{taken, refused_at}
+use Rattle.read_captions.specs.Captions.{caption_place, caption_line, caption_lines, captions_in, no_captions}
 use Rattle.read_captions.proofs.CaptionLines.{line_said, line_placed}
 
--- What the reader of a line says, by its answer.
-module _ {names : List (List ℕ)} {c at at' : List ℕ} {p : ℕ} {l : Step} (w : LineTaken names c p at at' l) where
-  pub when_taken : {x q : ℕ} → l ≡ step.Got x q → (caption_line names c at p ≡ got x q) × (at' ≡ set at x (caption_place c p))
-  when_taken e = go (subst (LineTaken names c p at at') e w)
-    where
-      go : {x q : ℕ} → LineTaken names c p at at' (step.Got x q) → (caption_line names c at p ≡ got x q) × (at' ≡ set at x (caption_place c p))
-      go (taken a b) = (a, b)
-
-  pub when_refused : {n q : ℕ} → l ≡ step.Refused n q → caption_line names c at p ≡ refused n q
-  when_refused e = go (subst (LineTaken names c p at at') e w)
-    where
-      go : {n q : ℕ} → LineTaken names c p at at' (step.Refused n q) → caption_line names c at p ≡ refused n q
-      go (refused_at a) = a
-
--- What the reader of all lines says, by its answer.
-module _ {names : List (List ℕ)} {c at : List ℕ} {l : Step} (w : CaptionsNoted names c at l) where
-  pub when_noted : {x q : ℕ} → l ≡ step.Got x q → captions_in names c ≡ got at q
-  when_noted e = go (subst (CaptionsNoted names c at) e w)
-    where
-      go : {x q : ℕ} → CaptionsNoted names c at (step.Got x q) → captions_in names c ≡ got at q
-      go (noted a) = a
-
-  pub when_not_noted : {n q : ℕ} → l ≡ step.Refused n q → captions_in names c ≡ refused n q
-  when_not_noted e = go (subst (CaptionsNoted names c at) e w)
-    where
-      go : {n q : ℕ} → CaptionsNoted names c at (step.Refused n q) → captions_in names c ≡ refused n q
-      go (unnoted a) = a
-
 -- A line that is taken ends in the text.
-pub line_reach : (names : List (List ℕ)) (c at : List ℕ) (p : ℕ) {x q : ℕ} → caption_line names c at p ≡ got x q → Reach c (p + 1) q
+pub line_reach : (names : List (List ℕ)) (c : List ℕ) (at : List (Option ℕ)) (p : ℕ) {x q : ℕ} → caption_line names c at p ≡ got x q → Reach c (p + 1) q
 line_reach names c at p e =
     let y = line_said names c at p e in
     let z = line_placed c p y.form in
@@ -52,9 +21,9 @@ line_reach names c at p e =
 
 module _ (names : List (List ℕ)) (c : List ℕ) where
   -- A turn more, whose line is taken or refused; and none is left.
-  module _ (at : List ℕ) (p : ℕ) where
+  module _ (at : List (Option ℕ)) (p : ℕ) where
     line_more : (n : ℕ) → p < length c → length c ≤ p + n → {x q : ℕ} → caption_line names c at p ≡ got x q
-        → caption_lines names c n at p ≡ caption_lines names c (n - 1) (set at x (caption_place c p)) q
+        → caption_lines names c n at p ≡ caption_lines names c (n - 1) (set at x (Some (caption_place c p))) q
     unfolding caption_lines
     line_more zero h l e = absurd (omega arith)
     line_more (suc n) h l e = let z : suc n - 1 ≡ n = omega arith in rw (lt-ltb p (length c) h, e, z)
@@ -70,7 +39,7 @@ module _ (names : List (List ℕ)) (c : List ℕ) where
     line_none (suc n) h = rw (le-ltb p (length c) h)
 
   -- What is left to be taken from p on, after those that are in `at`, is all that there is.
-  pub record Left (at : List ℕ) (p : ℕ) : Type 0 where
+  pub record Left (at : List (Option ℕ)) (p : ℕ) : Type 0 where
     pub turns : ℕ
     pub enough : length c ≤ p + turns
     pub all : captions_in names c ≡ caption_lines names c turns at p
@@ -79,8 +48,8 @@ module _ (names : List (List ℕ)) (c : List ℕ) where
   unfolding captions_in
   left_all = record { turns = length c; enough = omega arith; all = refl }
 
-  module _ {at : List ℕ} {p : ℕ} (w : Left at p) where
-    pub left_more : p < length c → {x q : ℕ} → caption_line names c at p ≡ got x q → {at' : List ℕ} → at' ≡ set at x (caption_place c p) → Left at' q
+  module _ {at : List (Option ℕ)} {p : ℕ} (w : Left at p) where
+    pub left_more : p < length c → {x q : ℕ} → caption_line names c at p ≡ got x q → {at' : List (Option ℕ)} → at' ≡ set at x (Some (caption_place c p)) → Left at' q
     left_more h {x} {q} e {at'} i =
         let z = line_reach names c at p e in
         record {
@@ -92,5 +61,5 @@ module _ (names : List (List ℕ)) (c : List ℕ) where
     pub left_refused : p < length c → {m r : ℕ} → caption_line names c at p ≡ refused m r → captions_in names c ≡ refused m r
     left_refused h e = w.all ∙ line_refused at p w.turns h w.enough e
 
-    pub left_none : length c ≤ p → captions_in names c ≡ got at p
-    left_none h = w.all ∙ line_none at p w.turns h
+    pub left_none : p ≡ length c → captions_in names c ≡ got at (length c)
+    left_none e = rw (← e) (w.all ∙ line_none at p w.turns (omega arith))

@@ -4,17 +4,16 @@ use mathlib.Core.Path.{◌≡◌, refl, sym, ap, ap₂, subst, ◌∙◌}
 use mathlib.Core.List.{List, [], ◌∷◌}
 use Prim.Native.Nat.{ℕ, zero, suc, ◌+◌, ◌-◌, ◌<◌, ◌≤◌}
 use native.Mathlib.Omega.{arith}
-use native.Mathlib.Decide.{ℕ_discrete}
 use denote.Ref.{Bor}
 use lib.ListN.{length, get_or, take, drop}
-use borrow.Author.Tests.{eq-eqb, ne_eqb}
+use Rattle.std.specs.Prelude.{Option, Some, None}
 use Rattle.spec_tilco.proofs.Lists.{all_nth}
 use Rattle.read_bytes.specs.Bytes.{name_byte, run_end}
 use Rattle.read_names.specs.Spellings.{spelling_at, spelling_end, names_at}
 use Rattle.read_bytes.proofs.Runs.{end_reach, run_slice}
 use Rattle.read_captions.specs.declared.Part.{Part}
 use Rattle.read_captions.specs.declared.Part.TheVariants.{InSheet, InCaptions}
-use Rattle.read_captions.specs.Parts.{shown_part, part_text, shown_texts, Showable, Inside, PartOf, Shows}
+use Rattle.read_captions.specs.Parts.{shown_part, part_text, shown_texts, CaptionWithin, Showable, Inside, PartOf, Shows}
 use Rattle.read_captions.specs.Captions.{printable, caption_at, caption_end, no_captions}
 use Rattle.read_captions.specs.Parts.Shows.{of_sheet, of_captions}
 
@@ -26,39 +25,35 @@ module _ (s c : List ℕ) {part : Part} (h : Inside s c part) {a n : ℕ} where
   in_captions_lem e = subst (Inside s c) e h
 
 -- What is shown, by the place after it.
-module _ (s c : List ℕ) (p v e : ℕ) where
-  pub shows_name : v ≡ 0 → e ≡ spelling_end s p → InSheet p (e - p) ≡ shown_part s c p v
+module _ (s c : List ℕ) (p : ℕ) where
+  pub shows_name : {e : ℕ} → e ≡ spelling_end s p → InSheet p (e - p) ≡ shown_part s c p None
   unfolding shown_part run_end
-  shows_name z i = let j : e - p ≡ length (spelling_at s p) = omega arith in rw (j, eq-eqb v 0 z)
+  shows_name {e} i = let j : e - p ≡ length (spelling_at s p) = omega arith in rw j
 
-  pub shows_caption : (v ≡ 0 → ⊥) → e ≡ caption_end c v → InCaptions v (e - v) ≡ shown_part s c p v
+  pub shows_caption : (v : ℕ) {e : ℕ} → e ≡ caption_end c v → InCaptions v (e - v) ≡ shown_part s c p (Some v)
   unfolding shown_part run_end
-  shows_caption n i = let j : e - v ≡ length (caption_at c v) = omega arith in rw (j, ne_eqb v 0 n)
+  shows_caption v {e} i = let j : e - v ≡ length (caption_at c v) = omega arith in rw j
 
--- It lies in its text, and its bytes are the caption or the name.
-module _ (s c : List ℕ) (p v : ℕ) where
-  pub shown_inside : p ≤ length s → v ≤ length c → Inside s c (shown_part s c p v)
-  shown_inside l k = go (ℕ_discrete v 0)
-    where
-      go : Dec (v ≡ 0) → Inside s c (shown_part s c p v)
-      go (yes z) = subst (Inside s c) (shows_name s c p v (spelling_end s p) z refl) (let w = end_reach name_byte s p l in omega (arith, w.ahead, w.inside))
-      go (no n) = subst (Inside s c) (shows_caption s c p v (caption_end c v) n refl) (let w = end_reach printable c v k in omega (arith, w.ahead, w.inside))
+  -- It lies in its text, and its bytes are the caption or the name.
+  pub shown_inside : (v : Option ℕ) → p ≤ length s → CaptionWithin c v → Inside s c (shown_part s c p v)
+  shown_inside None l k = subst (Inside s c) (shows_name {e = spelling_end s p} refl) (let w = end_reach name_byte s p l in omega (arith, w.ahead, w.inside))
+  shown_inside (Some v) l k = subst (Inside s c) (shows_caption v {e = caption_end c v} refl) (let w = end_reach printable c v k in omega (arith, w.ahead, w.inside))
 
-  pub name_text : v ≡ 0 → part_text s c (shown_part s c p v) ≡ spelling_at s p
-  name_text z = ap (part_text s c) (sym (shows_name s c p v (spelling_end s p) z refl)) ∙ run_slice name_byte s p (spelling_end s p) refl
+  pub name_text : part_text s c (shown_part s c p None) ≡ spelling_at s p
+  name_text = ap (part_text s c) (sym (shows_name {e = spelling_end s p} refl)) ∙ run_slice name_byte s p (spelling_end s p) refl
 
-  pub caption_text : (v ≡ 0 → ⊥) → part_text s c (shown_part s c p v) ≡ caption_at c v
-  caption_text n = ap (part_text s c) (sym (shows_caption s c p v (caption_end c v) n refl)) ∙ run_slice printable c v (caption_end c v) refl
+  pub caption_text : (v : ℕ) → part_text s c (shown_part s c p (Some v)) ≡ caption_at c v
+  caption_text v = ap (part_text s c) (sym (shows_caption v {e = caption_end c v} refl)) ∙ run_slice printable c v (caption_end c v) refl
 
 -- What is shown of signal x.
-pub shown_at : (s c ps vs : List ℕ) (x : ℕ) → length vs ≡ length ps → x < length ps → get_or (shown_texts s c ps vs) x [] ≡ part_text s c (shown_part s c (get_or ps x 0) (get_or vs x 0))
+pub shown_at : (s c ps : List ℕ) (vs : List (Option ℕ)) (x : ℕ) → length vs ≡ length ps → x < length ps → get_or (shown_texts s c ps vs) x [] ≡ part_text s c (shown_part s c (get_or ps x 0) (get_or vs x None))
 unfolding shown_texts
 shown_at s c [] vs x e h = absurd (omega arith)
 shown_at s c (p ∷ ps) [] x e h = absurd (omega arith)
 shown_at s c (p ∷ ps) (v ∷ vs) zero e h = refl
 shown_at s c (p ∷ ps) (v ∷ vs) (suc x) e h = shown_at s c ps vs x (omega arith) (omega arith)
 
-pub shown_many : (s c ps vs : List ℕ) → length vs ≡ length ps → length (shown_texts s c ps vs) ≡ length ps
+pub shown_many : (s c ps : List ℕ) (vs : List (Option ℕ)) → length vs ≡ length ps → length (shown_texts s c ps vs) ≡ length ps
 unfolding shown_texts
 shown_many s c [] vs e = refl
 shown_many s c (p ∷ ps) [] e = absurd (omega arith)
@@ -68,7 +63,7 @@ shown_many s c (p ∷ ps) (v ∷ vs) e = ap suc (shown_many s c ps vs (omega ari
 pub shown_names : (s c ps : List ℕ) → shown_texts s c ps (no_captions (length ps)) ≡ names_at s ps
 unfolding shown_texts names_at no_captions
 shown_names s c [] = refl
-shown_names s c (p ∷ ps) = ap₂ ◌∷◌ (name_text s c p 0 refl) (shown_names s c ps)
+shown_names s c (p ∷ ps) = ap₂ ◌∷◌ (name_text s c p) (shown_names s c ps)
 
 -- The bytes of the slice.
 pub shows_text : {s c r : Bor (List ℕ)} {a : Part} → Shows s c r a → r.now ≡ part_text s.now c.now a
@@ -76,14 +71,14 @@ shows_text (of_sheet h) = h.holds
 shows_text (of_captions h) = h.holds
 
 -- Where the places of names and captions are known.
-module _ {s c ps vs : List ℕ} (h : Showable s c ps vs) {x : ℕ} (l : x < length ps) where
-  pub places_in_lem : (get_or ps x 0 ≤ length s) × (get_or vs x 0 ≤ length c)
+module _ {s c ps : List ℕ} {vs : List (Option ℕ)} (h : Showable s c ps vs) {x : ℕ} (l : x < length ps) where
+  pub places_in_lem : (get_or ps x 0 ≤ length s) × CaptionWithin c (get_or vs x None)
   places_in_lem = (all_nth (λ p. p ≤ length s) 0 ps x h.names l, h.within x)
 
-  pub part_in : {a : Part} → a ≡ shown_part s c (get_or ps x 0) (get_or vs x 0) → Inside s c a
-  part_in e = subst (Inside s c) (sym e) (shown_inside s c (get_or ps x 0) (get_or vs x 0) places_in_lem.0 places_in_lem.1)
+  pub part_in : {a : Part} → a ≡ shown_part s c (get_or ps x 0) (get_or vs x None) → Inside s c a
+  part_in e = subst (Inside s c) (sym e) (shown_inside s c (get_or ps x 0) (get_or vs x None) places_in_lem.0 places_in_lem.1)
 
-  pub text_is : {a : Part} {w : List ℕ} → a ≡ shown_part s c (get_or ps x 0) (get_or vs x 0) → w ≡ part_text s c a → w ≡ get_or (shown_texts s c ps vs) x []
+  pub text_is : {a : Part} {w : List ℕ} → a ≡ shown_part s c (get_or ps x 0) (get_or vs x None) → w ≡ part_text s c a → w ≡ get_or (shown_texts s c ps vs) x []
   text_is e i = i ∙ ap (part_text s c) e ∙ sym (shown_at s c ps vs x h.many l)
 
 -- A slice of n bytes from a on.

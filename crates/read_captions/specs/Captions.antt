@@ -1,15 +1,16 @@
 -- Captions by house, read line by line (E7): "lines `name=caption`, at most one for each name, captions of 1 to 40 printable ASCII bytes".
--- Assumes nothing. `names` are the declared names in sheet order, c is the captions' text and p a place in it. What is kept of the lines is a list `at` with a number
--- for each signal: the place of its caption in c, or 0 where it has none. No caption stands at 0, for a `=` stands before it.
-use Rattle.std.specs.Prelude.{◌≡◌, Bool, not, ◌&&◌, List, ℕ, zero, suc, ◌+◌, ltb, eqb, length, get_or, set, replicate}
+-- Assumes nothing. `names` are the declared names in sheet order, c is the captions' text and p a place in it. What is kept of the lines is a list `at` with an entry
+-- for each signal: the place of its caption in c, where it has one.
+use Rattle.std.specs.Prelude.{◌≡◌, Bool, not, ◌&&◌, List, ℕ, zero, suc, ◌+◌, ltb, eqb, length, get_or, set, replicate, Option, Some, None, Result, Ok, Err}
+use Rattle.std.specs.Option.{is_some}
 use Rattle.spec_limits.specs.Limits.{most_caption_bytes}
+use Rattle.spec_refusals.specs.declared.Refusal.{Refusal}
+use Rattle.spec_refusals.specs.Numbers.{fault_number}
 use Rattle.read_bytes.specs.Read.{Read, and_then}
 use Rattle.read_bytes.specs.Read.Read.{got, refused}
 use Rattle.read_bytes.specs.Bytes.{byte, peek, pick, between, run_at, run_end}
 use Rattle.read_names.specs.Spellings.{find_name}
 use Rattle.read_lines.specs.Lines.{in_line, lf_at}
-use Rattle.read_lines.specs.declared.Step.{Step}
-use Rattle.read_lines.specs.declared.Step.TheVariants as step
 
 -- Is b a printable ASCII byte?
 unfoldable pub printable : ℕ → Bool
@@ -43,33 +44,38 @@ caption_form c p =
     (λ _. got (caption_place c p) (caption_end c (caption_place c p))) (refused 24 p)
 
 -- The line at p, which ends before q, has a name with the number x of n: "12 for a name that isn't declared", at the name, "24 for a name repeated".
-unfoldable pub given_once : List ℕ → ℕ → ℕ → ℕ → ℕ → Read ℕ
-given_once at n p q x = pick (ltb x n) (λ _. pick (eqb (get_or at x 0) 0) (λ _. got x q) (refused 24 p)) (refused 12 p)
+unfoldable pub given_once : List (Option ℕ) → ℕ → ℕ → ℕ → ℕ → Read ℕ
+given_once at n p q x = pick (ltb x n) (λ _. pick (is_some (get_or at x None)) (λ _. refused 24 p) (got x q)) (refused 12 p)
 
 -- The line at p: the number of its signal, and the place after the line.
-unfoldable pub caption_line : List (List ℕ) → List ℕ → List ℕ → ℕ → Read ℕ
+unfoldable pub caption_line : List (List ℕ) → List ℕ → List (Option ℕ) → ℕ → Read ℕ
 caption_line names c at p = and_then (caption_form c p) (λ v e. given_once at (length names) p (e + 1) (find_name (name_part c p) names))
 
 -- The lines from p on, at most n, after those whose captions are in `at`.
-unfoldable pub caption_lines : List (List ℕ) → List ℕ → ℕ → List ℕ → ℕ → Read (List ℕ)
+unfoldable pub caption_lines : List (List ℕ) → List ℕ → ℕ → List (Option ℕ) → ℕ → Read (List (Option ℕ))
 caption_lines names c zero at p = got at p
 caption_lines names c (suc n) at p =
-    pick (ltb p (length c)) (λ _. and_then (caption_line names c at p) (λ x q. caption_lines names c n (set at x (caption_place c p)) q)) (got at p)
+    pick (ltb p (length c)) (λ _. and_then (caption_line names c at p) (λ x q. caption_lines names c n (set at x (Some (caption_place c p))) q)) (got at p)
 
 -- No signal has a caption yet.
-unfoldable pub no_captions : ℕ → List ℕ
-no_captions n = replicate n 0
+unfoldable pub no_captions : ℕ → List (Option ℕ)
+no_captions n = replicate n None
 
 -- All captions of a text, "line by line".
-unfoldable pub captions_in : List (List ℕ) → List ℕ → Read (List ℕ)
+unfoldable pub captions_in : List (List ℕ) → List ℕ → Read (List (Option ℕ))
 captions_in names c = caption_lines names c (length c) (no_captions (length names)) 0
 
--- What each case of the reader of a line says and leaves in the list of captions, which was `at` and is at'.
-pub data LineTaken (names : List (List ℕ)) (c : List ℕ) (p : ℕ) (at at' : List ℕ) : Step → Type 0 where
-  taken : {x q : ℕ} → caption_line names c at p ≡ got x q → at' ≡ set at x (caption_place c p) → LineTaken names c p at at' (step.Got x q)
-  refused_at : {n q : ℕ} → caption_line names c at p ≡ refused n q → LineTaken names c p at at' (step.Refused n q)
+-- The line at p is taken: its signal is x, and its caption is in the list of captions, which was `at` and is at'.
+pub record Taken (names : List (List ℕ)) (c : List ℕ) (p : ℕ) (at at' : List (Option ℕ)) (x q : ℕ) : Type 0 where
+  pub line : caption_line names c at p ≡ got x q
+  pub noted : at' ≡ set at x (Some (caption_place c p))
 
--- What each case of the reader of all lines says: the captions are in the list, or they are refused.
-pub data CaptionsNoted (names : List (List ℕ)) (c at' : List ℕ) : Step → Type 0 where
-  noted : {x q : ℕ} → captions_in names c ≡ got at' q → CaptionsNoted names c at' (step.Got x q)
-  refused_at : {n q : ℕ} → captions_in names c ≡ refused n q → CaptionsNoted names c at' (step.Refused n q)
+-- What an answer of the reader of a line says.
+abbrev pub LineTaken : List (List ℕ) → List ℕ → ℕ → List (Option ℕ) → List (Option ℕ) → Result (ℕ × ℕ) Refusal → Type 0
+LineTaken names c p at at' (Ok y) = Taken names c p at at' y.0 y.1
+LineTaken names c p at at' (Err r) = caption_line names c at p ≡ refused (fault_number r.fault) r.place
+
+-- What an answer of the reader of all lines says: the captions are in the list, up to the end of the text, or they are refused.
+abbrev pub CaptionsNoted : List (List ℕ) → List ℕ → List (Option ℕ) → Result Unit Refusal → Type 0
+CaptionsNoted names c at' (Ok y) = captions_in names c ≡ got at' (length c)
+CaptionsNoted names c at' (Err r) = captions_in names c ≡ refused (fault_number r.fault) r.place

@@ -7,15 +7,16 @@ ghost use Rattle.read_lines.specs.Lines.{says};
 ghost use Rattle.read_bytes.specs.Bytes.{run_end};
 ghost use Rattle.read_index.specs.Index.{name_count, names_in, IndexOf};
 ghost use Rattle.read_captions.specs.Captions.{before_equals, caption_end, caption_form, no_captions, LineTaken, CaptionsNoted};
-ghost use Rattle.read_captions.specs.Parts.{shown_part, shown_texts, Showable, Inside, Shows};
+ghost use Rattle.read_captions.specs.Parts.{shown_part, shown_texts, CaptionWithin, Showable, Inside, Shows};
 
 use read_index::find;
-use read_lines::{Step, lf_at};
+use read_lines::lf_at;
 use read_names::spelling_end;
 use spec_limits::CAPTION_BYTES;
+use spec_refusals::{Fault, Refusal};
 
 // A part of the sheet or of the captions: where it starts, and its length.
-#[derive(Drop)]
+#[derive(Clone, Copy)]
 pub enum Part {
     InSheet(usize, usize),
     InCaptions(usize, usize),
@@ -25,116 +26,125 @@ pub enum Part {
 fn name_end(c: &[u8], at: usize) -> usize
     ensures { result ≡ run_end before_equals c.now at }
 {
-    let mut i = at;
-    while i < c.len() {
-        if c[i] == b'=' {
+    for i in at..c.len() {
+        if c[i] == b'=' || c[i] == b'\n' {
             return i;
         }
-        if c[i] == b'\n' {
-            return i;
-        }
-        i += 1;
     }
-    i
+    if at < c.len() { c.len() } else { at }
 }
 
 // The place after the caption at `at`.
 fn caption_end(c: &[u8], at: usize) -> usize
     ensures { result ≡ caption_end c.now at }
 {
-    let mut i = at;
-    while i < c.len() {
-        if c[i] < b' ' {
+    for i in at..c.len() {
+        if c[i] < b' ' || b'~' < c[i] {
             return i;
         }
-        if b'~' < c[i] {
-            return i;
-        }
-        i += 1;
     }
-    i
+    if at < c.len() { c.len() } else { at }
 }
 
 // The line at `p` in its form: the place of its caption, and that of its LF.
-fn caption_form(c: &[u8], p: usize) -> Step
+fn caption_form(c: &[u8], p: usize) -> Result<(usize, usize), Refusal>
     requires { p ≤ length c.now }
     ensures { says result ≡ caption_form c.now p }
 {
+    let no_form = Refusal {
+        fault: Fault::CaptionLine,
+        place: p,
+    };
     let a = name_end(c, p);
     if c.len() <= a {
-        return Step::Refused(24, p);
+        return Err(no_form);
     }
     if c[a] != b'=' {
-        return Step::Refused(24, p);
+        return Err(no_form);
     }
     let v = a + 1;
     let e = caption_end(c, v);
     if e == v {
-        return Step::Refused(24, p);
+        return Err(no_form);
     }
     if v + CAPTION_BYTES < e {
-        return Step::Refused(24, p);
+        return Err(no_form);
     }
     if lf_at(c, e) {
-        Step::Got(v, e)
+        Ok((v, e))
     } else {
-        Step::Refused(24, p)
+        Err(no_form)
     }
 }
 
 // Takes the line at `p`: notes the place of its caption at its signal's number. What is found among the names is a name, and is not judged.
-fn take_line(s: &[u8], names: &[u16], c: &[u8], p: usize, captions: &mut [usize]) -> Step
+// The signal's number, and the place after the line.
+fn take_line(
+    s: &[u8],
+    names: &[u16],
+    c: &[u8],
+    p: usize,
+    captions: &mut [Option<usize>],
+) -> Result<(usize, usize), Refusal>
     requires { IndexOf s.now names.now × (p ≤ length c.now) × (length captions.old ≡ name_count names.now) }
     ensures { LineTaken (names_in s.now names.now) c.now p captions.old captions.new result }
 {
-    let l = caption_form(c, p);
-    let Step::Got(v, e) = l else {
-        return l;
+    let (v, e) = caption_form(c, p)?;
+    let unknown = Refusal {
+        fault: Fault::UnknownName,
+        place: p,
     };
     let next = e + 1;
     let f = find(s, names, c, p);
     let x = f.signal;
-    let end = f.end;
-    if end + 1 != v {
-        return Step::Refused(12, p);
+    if f.end + 1 != v {
+        return Err(unknown);
     }
     if captions.len() <= x {
-        return Step::Refused(12, p);
+        return Err(unknown);
     }
-    if captions[x] != 0 {
-        return Step::Refused(24, p);
+    if captions[x].is_some() {
+        return Err(Refusal {
+            fault: Fault::CaptionLine,
+            place: p,
+        });
     }
-    captions[x] = v;
-    Step::Got(x, next)
+    captions[x] = Some(v);
+    Ok((x, next))
 }
 
-// Takes all lines. The list of captions has a 0 for each signal.
-pub fn note_captions(s: &[u8], names: &[u16], c: &[u8], captions: &mut [usize]) -> Step
+// Takes all lines. No signal has a caption in the list before.
+pub fn note_captions(
+    s: &[u8],
+    names: &[u16],
+    c: &[u8],
+    captions: &mut [Option<usize>],
+) -> Result<(), Refusal>
     requires { IndexOf s.now names.now × (captions.old ≡ no_captions (name_count names.now)) }
     ensures { CaptionsNoted (names_in s.now names.now) c.now captions.new result }
 {
     let mut p = 0;
     while p < c.len() {
-        let l = take_line(s, names, c, p, captions);
-        let Step::Got(_, next) = l else {
-            return l;
-        };
+        let (_, next) = take_line(s, names, c, p, captions)?;
         p = next;
     }
-    Step::Got(0, p)
+    Ok(())
 }
 
-// The part that is shown of the name at `name`, whose caption stands at `caption` unless that is 0.
-pub fn shown_part(s: &[u8], c: &[u8], name: usize, caption: usize) -> Part
-    requires { (name ≤ length s.now) × (caption ≤ length c.now) }
+// The part that is shown of the name at `name`: its caption, which stands at `caption`, or the name where it has none.
+pub fn shown_part(s: &[u8], c: &[u8], name: usize, caption: Option<usize>) -> Part
+    requires { (name ≤ length s.now) × CaptionWithin c.now caption }
     ensures { result ≡ shown_part s.now c.now name caption }
 {
-    if caption == 0 {
-        let e = spelling_end(s, name);
-        Part::InSheet(name, e - name)
-    } else {
-        let e = caption_end(c, caption);
-        Part::InCaptions(caption, e - caption)
+    match caption {
+        Some(v) => {
+            let e = caption_end(c, v);
+            Part::InCaptions(v, e - v)
+        }
+        None => {
+            let e = spelling_end(s, name);
+            Part::InSheet(name, e - name)
+        }
     }
 }
 
@@ -154,7 +164,7 @@ pub fn shown_text<'a>(
     s: &'a [u8],
     c: &'a [u8],
     places: &[u16],
-    captions: &[usize],
+    captions: &[Option<usize>],
     x: usize,
 ) -> &'a [u8]
     requires { Showable s.now c.now places.now captions.now × (x < length places.now) }

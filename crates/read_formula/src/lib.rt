@@ -4,20 +4,22 @@
 #![tactic(auto)]
 
 ghost use Rattle.std.specs.Prelude.{◌-◌};
+ghost use Rattle.read_arena.specs.Nodes.{op_of};
 ghost use Rattle.spec_tilco.specs.Formula.{And, Or, Implies, Iff};
 ghost use Rattle.read_index.specs.Index.{IndexOf};
 ghost use Rattle.read_parts.specs.Parsed.{PartReady};
 ghost use Rattle.read_parts.specs.Promise.{AtByte, AtLetter, AfterKeyword, AfterFirst};
-ghost use Rattle.read_parts.specs.Promise.{plain_at, timed_at, level_at, negated_at, parens_at, name_or_keep_at, since_until_at, second_at, Reads, ReadsSecond};
+ghost use Rattle.read_parts.specs.Promise.{plain_at, timed_at, level_at, below_at, negated_at, parens_at, name_or_keep_at, since_until_at, second_at, Reads, ReadsSecond};
 
 use read_arena::{Node, Sign, put_keep, put_node};
-use read_bytes::bytes::{Class, byte_at, class_of, starts_at};
+use read_bytes::bytes::{Class, byte_at, class_of};
 use read_index::{LINKS, find};
 use read_names::{is_since, is_until};
-use read_parts::parts::{Parsed, join, letter_at, name, sign_after_first, time_at, times_at};
+use read_parts::parts::{Parsed, goes_on, join, letter_at, name, text_of, times_at};
+use spec_refusals::{Fault, Refusal};
 
 // A plain part. A declared name is looked up at once: it is neither since nor until.
-#[cycle(and_part_deny_formula_implication_keep_operand_or_part_paren_plain_part_second_timed_word)]
+#[cycle(parser)]
 fn operand(
     s: &[u8],
     names: &[u16],
@@ -26,7 +28,7 @@ fn operand(
     used: usize,
     hidden: usize,
     depth: usize,
-) -> Parsed
+) -> Result<Parsed, Refusal>
     requires { PartReady s.now arena.old (IndexOf s.now names.now) at used hidden }
     ensures { Reads (plain_at s names depth at) s arena at used hidden result }
 {
@@ -36,15 +38,18 @@ fn operand(
         let next = f.end;
         if i < names.len() - LINKS {
             put_node(arena, used, Node::Name(i as u16));
-            let count = used + 1;
-            return Parsed::Got(next, count, hidden);
+            return Ok(Parsed {
+                place: next,
+                nodes: used + 1,
+                rows: hidden,
+            });
         }
     }
     plain_part(s, names, arena, at, used, hidden, depth)
 }
 
 // A plain part and its intervals.
-#[cycle(and_part_deny_formula_implication_keep_operand_or_part_paren_plain_part_second_timed_word)]
+#[cycle(parser)]
 fn timed(
     s: &[u8],
     names: &[u16],
@@ -53,23 +58,74 @@ fn timed(
     used: usize,
     hidden: usize,
     depth: usize,
-) -> Parsed
+) -> Result<Parsed, Refusal>
     requires { PartReady s.now arena.old (IndexOf s.now names.now) at used hidden }
     ensures { Reads (timed_at s names depth at) s arena at used hidden result }
 {
-    let r = operand(s, names, arena, at, used, hidden, depth);
-    let Parsed::Got(next, count, rows) = r else {
-        return r;
-    };
-    if time_at(s, next) {
-        times_at(s, arena, next, count, rows)
-    } else {
-        r
+    let part = operand(s, names, arena, at, used, hidden, depth)?;
+    times_at(s, arena, part.place, part.nodes, part.rows)
+}
+
+// A part of the sign's level, which the level below reads.
+#[inline(always)]
+#[cycle(parser)]
+fn below(
+    s: &[u8],
+    names: &[u16],
+    arena: &mut [u16],
+    at: usize,
+    used: usize,
+    hidden: usize,
+    depth: usize,
+    sign: Sign,
+) -> Result<Parsed, Refusal>
+    requires { PartReady s.now arena.old (IndexOf s.now names.now) at used hidden }
+    ensures { Reads (below_at s names depth (op_of sign) at) s arena at used hidden result }
+{
+    match sign {
+        Sign::And => timed(s, names, arena, at, used, hidden, depth),
+        Sign::Or => and_part(s, names, arena, at, used, hidden, depth),
+        Sign::Implies => or_part(s, names, arena, at, used, hidden, depth),
+        Sign::Iff => implication(s, names, arena, at, used, hidden, depth),
+    }
+}
+
+// The level of a sign: its parts, joined by the sign. It is written into each of the four levels, where the sign is a constant: as a
+// function that is called it costs 27 % of a check.
+#[inline(always)]
+#[cycle(parser)]
+fn level(
+    s: &[u8],
+    names: &[u16],
+    arena: &mut [u16],
+    at: usize,
+    used: usize,
+    hidden: usize,
+    depth: usize,
+    sign: Sign,
+) -> Result<Parsed, Refusal>
+    requires { PartReady s.now arena.old (IndexOf s.now names.now) at used hidden }
+    ensures { Reads (level_at s names depth (op_of sign) at) s arena at used hidden result }
+{
+    let text = text_of(sign);
+    let mut place = at;
+    let mut nodes = used;
+    let mut rows = hidden;
+    let mut first = true;
+    loop {
+        let part = below(s, names, arena, place, nodes, rows, depth, sign)?;
+        nodes = join(arena, sign, first, nodes, part.nodes);
+        if !goes_on(s, part.place, first, sign) {
+            return Ok(Parsed { nodes, ..part });
+        }
+        place = part.place + text.len();
+        rows = part.rows;
+        first = false;
     }
 }
 
 // And-part: timed parts joined by `&`.
-#[cycle(and_part_deny_formula_implication_keep_operand_or_part_paren_plain_part_second_timed_word)]
+#[cycle(parser)]
 fn and_part(
     s: &[u8],
     names: &[u16],
@@ -78,32 +134,15 @@ fn and_part(
     used: usize,
     hidden: usize,
     depth: usize,
-) -> Parsed
+) -> Result<Parsed, Refusal>
     requires { PartReady s.now arena.old (IndexOf s.now names.now) at used hidden }
     ensures { Reads (level_at s names depth And at) s arena at used hidden result }
 {
-    let mut place = at;
-    let mut nodes = used;
-    let mut rows = hidden;
-    let mut first = true;
-    loop {
-        let r = timed(s, names, arena, place, nodes, rows, depth);
-        let Parsed::Got(next, last, below) = r else {
-            return r;
-        };
-        let count = join(arena, Sign::And, first, nodes, last);
-        if !starts_at(s, next, b"&") {
-            return Parsed::Got(next, count, below);
-        }
-        place = next + 1;
-        nodes = count;
-        rows = below;
-        first = false;
-    }
+    level(s, names, arena, at, used, hidden, depth, Sign::And)
 }
 
 // Or-part: and-parts joined by `|`.
-#[cycle(and_part_deny_formula_implication_keep_operand_or_part_paren_plain_part_second_timed_word)]
+#[cycle(parser)]
 fn or_part(
     s: &[u8],
     names: &[u16],
@@ -112,32 +151,15 @@ fn or_part(
     used: usize,
     hidden: usize,
     depth: usize,
-) -> Parsed
+) -> Result<Parsed, Refusal>
     requires { PartReady s.now arena.old (IndexOf s.now names.now) at used hidden }
     ensures { Reads (level_at s names depth Or at) s arena at used hidden result }
 {
-    let mut place = at;
-    let mut nodes = used;
-    let mut rows = hidden;
-    let mut first = true;
-    loop {
-        let r = and_part(s, names, arena, place, nodes, rows, depth);
-        let Parsed::Got(next, last, below) = r else {
-            return r;
-        };
-        let count = join(arena, Sign::Or, first, nodes, last);
-        if !starts_at(s, next, b"|") {
-            return Parsed::Got(next, count, below);
-        }
-        place = next + 1;
-        nodes = count;
-        rows = below;
-        first = false;
-    }
+    level(s, names, arena, at, used, hidden, depth, Sign::Or)
 }
 
 // Implication part: one or-part, or two joined by `=>`.
-#[cycle(and_part_deny_formula_implication_keep_operand_or_part_paren_plain_part_second_timed_word)]
+#[cycle(parser)]
 fn implication(
     s: &[u8],
     names: &[u16],
@@ -146,32 +168,15 @@ fn implication(
     used: usize,
     hidden: usize,
     depth: usize,
-) -> Parsed
+) -> Result<Parsed, Refusal>
     requires { PartReady s.now arena.old (IndexOf s.now names.now) at used hidden }
     ensures { Reads (level_at s names depth Implies at) s arena at used hidden result }
 {
-    let mut place = at;
-    let mut nodes = used;
-    let mut rows = hidden;
-    let mut first = true;
-    loop {
-        let r = or_part(s, names, arena, place, nodes, rows, depth);
-        let Parsed::Got(next, last, below) = r else {
-            return r;
-        };
-        let count = join(arena, Sign::Implies, first, nodes, last);
-        if !sign_after_first(s, next, first, b"=>") {
-            return Parsed::Got(next, count, below);
-        }
-        place = next + 2;
-        nodes = count;
-        rows = below;
-        first = false;
-    }
+    level(s, names, arena, at, used, hidden, depth, Sign::Implies)
 }
 
 // Formula: one implication part, or two joined by `<=>`.
-#[cycle(and_part_deny_formula_implication_keep_operand_or_part_paren_plain_part_second_timed_word)]
+#[cycle(parser)]
 pub fn formula(
     s: &[u8],
     names: &[u16],
@@ -180,32 +185,15 @@ pub fn formula(
     used: usize,
     hidden: usize,
     depth: usize,
-) -> Parsed
+) -> Result<Parsed, Refusal>
     requires { PartReady s.now arena.old (IndexOf s.now names.now) at used hidden }
     ensures { Reads (level_at s names depth Iff at) s arena at used hidden result }
 {
-    let mut place = at;
-    let mut nodes = used;
-    let mut rows = hidden;
-    let mut first = true;
-    loop {
-        let r = implication(s, names, arena, place, nodes, rows, depth);
-        let Parsed::Got(next, last, below) = r else {
-            return r;
-        };
-        let count = join(arena, Sign::Iff, first, nodes, last);
-        if !sign_after_first(s, next, first, b"<=>") {
-            return Parsed::Got(next, count, below);
-        }
-        place = next + 3;
-        nodes = count;
-        rows = below;
-        first = false;
-    }
+    level(s, names, arena, at, used, hidden, depth, Sign::Iff)
 }
 
 // A plain part, by its first byte.
-#[cycle(and_part_deny_formula_implication_keep_operand_or_part_paren_plain_part_second_timed_word)]
+#[cycle(parser)]
 fn plain_part(
     s: &[u8],
     names: &[u16],
@@ -214,35 +202,38 @@ fn plain_part(
     used: usize,
     hidden: usize,
     depth: usize,
-) -> Parsed
+) -> Result<Parsed, Refusal>
     requires { PartReady s.now arena.old (IndexOf s.now names.now) at used hidden }
     ensures { Reads (plain_at s names depth at) s arena at used hidden result }
 {
+    let refusal = Refusal {
+        fault: Fault::Formula,
+        place: at,
+    };
     let b = byte_at(s, at);
-    let k = class_of(b);
-    match k {
+    match class_of(b) {
         Class::Letter => word(s, names, arena, at, used, hidden, depth),
         Class::Sign => {
             if b == b'!' {
                 deny(s, names, arena, at, used, hidden, depth)
             } else {
-                Parsed::Refused(5, at)
+                Err(refusal)
             }
         }
         Class::Bracket => {
             if b == b'(' {
                 paren(s, names, arena, at, used, hidden, depth)
             } else {
-                Parsed::Refused(5, at)
+                Err(refusal)
             }
         }
-        Class::Digit => Parsed::Refused(5, at),
-        Class::Other => Parsed::Refused(5, at),
+        Class::Digit => Err(refusal),
+        Class::Other => Err(refusal),
     }
 }
 
 // `!` and a plain part.
-#[cycle(and_part_deny_formula_implication_keep_operand_or_part_paren_plain_part_second_timed_word)]
+#[cycle(parser)]
 fn deny(
     s: &[u8],
     names: &[u16],
@@ -251,26 +242,29 @@ fn deny(
     used: usize,
     hidden: usize,
     depth: usize,
-) -> Parsed
+) -> Result<Parsed, Refusal>
     requires { AtByte s.now arena.old (IndexOf s.now names.now) at used hidden }
     ensures { Reads (negated_at s names depth at) s arena at used hidden result }
 {
     if depth == 0 {
-        return Parsed::Refused(8, at);
+        return Err(Refusal {
+            fault: Fault::Nesting,
+            place: at,
+        });
     }
     let inner = at + 1;
-    let r = plain_part(s, names, arena, inner, used, hidden, depth - 1);
-    let Parsed::Got(next, last, rows) = r else {
-        return r;
-    };
-    let child = last - 1;
-    put_node(arena, last, Node::Deny(child));
-    let count = last + 1;
-    Parsed::Got(next, count, rows)
+    let part = plain_part(s, names, arena, inner, used, hidden, depth - 1)?;
+    let child = part.nodes - 1;
+    put_node(arena, part.nodes, Node::Deny(child));
+    let count = part.nodes + 1;
+    Ok(Parsed {
+        nodes: count,
+        ..part
+    })
 }
 
 // A formula in parentheses.
-#[cycle(and_part_deny_formula_implication_keep_operand_or_part_paren_plain_part_second_timed_word)]
+#[cycle(parser)]
 fn paren(
     s: &[u8],
     names: &[u16],
@@ -279,28 +273,34 @@ fn paren(
     used: usize,
     hidden: usize,
     depth: usize,
-) -> Parsed
+) -> Result<Parsed, Refusal>
     requires { AtByte s.now arena.old (IndexOf s.now names.now) at used hidden }
     ensures { Reads (parens_at s names depth at) s arena at used hidden result }
 {
     if depth == 0 {
-        return Parsed::Refused(8, at);
+        return Err(Refusal {
+            fault: Fault::Nesting,
+            place: at,
+        });
     }
     let inner = at + 1;
-    let r = formula(s, names, arena, inner, used, hidden, depth - 1);
-    let Parsed::Got(next, count, rows) = r else {
-        return r;
-    };
-    let b = byte_at(s, next);
+    let part = formula(s, names, arena, inner, used, hidden, depth - 1)?;
+    let b = byte_at(s, part.place);
     if b != b')' {
-        return Parsed::Refused(5, next);
+        return Err(Refusal {
+            fault: Fault::Formula,
+            place: part.place,
+        });
     }
-    let after = next + 1;
-    Parsed::Got(after, count, rows)
+    let after = part.place + 1;
+    Ok(Parsed {
+        place: after,
+        ..part
+    })
 }
 
 // A name, or since or until with what follows.
-#[cycle(and_part_deny_formula_implication_keep_operand_or_part_paren_plain_part_second_timed_word)]
+#[cycle(parser)]
 fn word(
     s: &[u8],
     names: &[u16],
@@ -309,7 +309,7 @@ fn word(
     used: usize,
     hidden: usize,
     depth: usize,
-) -> Parsed
+) -> Result<Parsed, Refusal>
     requires { AtLetter s.now arena.old (IndexOf s.now names.now) at used hidden }
     ensures { Reads (name_or_keep_at s names depth at) s arena at used hidden result }
 {
@@ -327,7 +327,7 @@ fn word(
 }
 
 // What follows since or until, which are five bytes before it: `(`, two formulas, `)`.
-#[cycle(and_part_deny_formula_implication_keep_operand_or_part_paren_plain_part_second_timed_word)]
+#[cycle(parser)]
 fn keep(
     s: &[u8],
     names: &[u16],
@@ -337,28 +337,41 @@ fn keep(
     hidden: usize,
     depth: usize,
     since: bool,
-) -> Parsed
+) -> Result<Parsed, Refusal>
     requires { AfterKeyword s.now arena.old (IndexOf s.now names.now) at used hidden }
     ensures { Reads (since_until_at s names depth since at) s arena (at - 5) used hidden result }
 {
     let b = byte_at(s, at);
     if b != b'(' {
-        return Parsed::Refused(5, at);
+        return Err(Refusal {
+            fault: Fault::Formula,
+            place: at,
+        });
     }
     if depth == 0 {
-        return Parsed::Refused(8, at);
+        return Err(Refusal {
+            fault: Fault::Nesting,
+            place: at,
+        });
     }
     let inner = at + 1;
     let first = hidden + 1;
-    let r = formula(s, names, arena, inner, used, first, depth - 1);
-    let Parsed::Got(next, count, rows) = r else {
-        return r;
-    };
-    second(s, names, arena, next, count, rows, depth - 1, since, hidden)
+    let part = formula(s, names, arena, inner, used, first, depth - 1)?;
+    second(
+        s,
+        names,
+        arena,
+        part.place,
+        part.nodes,
+        part.rows,
+        depth - 1,
+        since,
+        hidden,
+    )
 }
 
 // From the comma of since or until on; the first formula's node is the last one, and `row` is the hidden signal's.
-#[cycle(and_part_deny_formula_implication_keep_operand_or_part_paren_plain_part_second_timed_word)]
+#[cycle(parser)]
 fn second(
     s: &[u8],
     names: &[u16],
@@ -369,27 +382,34 @@ fn second(
     depth: usize,
     since: bool,
     row: usize,
-) -> Parsed
+) -> Result<Parsed, Refusal>
     requires { AfterFirst s.now arena.old (IndexOf s.now names.now) at used hidden row }
     ensures { ReadsSecond (second_at s names depth since at) s arena (at - 4) used hidden row result }
 {
     let b = byte_at(s, at);
     if b != b',' {
-        return Parsed::Refused(5, at);
+        return Err(Refusal {
+            fault: Fault::Formula,
+            place: at,
+        });
     }
     let inner = at + 1;
-    let r = formula(s, names, arena, inner, used, hidden, depth);
-    let Parsed::Got(next, last, rows) = r else {
-        return r;
-    };
-    let c = byte_at(s, next);
+    let part = formula(s, names, arena, inner, used, hidden, depth)?;
+    let c = byte_at(s, part.place);
     if c != b')' {
-        return Parsed::Refused(5, next);
+        return Err(Refusal {
+            fault: Fault::Formula,
+            place: part.place,
+        });
     }
     let left = used - 1;
-    let right = last - 1;
-    put_keep(arena, last, since, row as u16, left, right);
-    let after = next + 1;
-    let count = last + 6;
-    Parsed::Got(after, count, rows)
+    let right = part.nodes - 1;
+    put_keep(arena, part.nodes, since, row as u16, left, right);
+    let after = part.place + 1;
+    let count = part.nodes + 6;
+    Ok(Parsed {
+        place: after,
+        nodes: count,
+        rows: part.rows,
+    })
 }

@@ -6,7 +6,6 @@ use Prim.Native.Nat.{ℕ, ◌+◌, ◌-◌, ◌<◌, ◌≤◌}
 use native.Mathlib.Omega.{arith}
 use lib.ListN.{length, take, drop, length-drop, drop_of_length-le}
 use lib.Seq.{length-take-le}
-use Rattle.read_bytes.specs.Read.{Read}
 use Rattle.read_bytes.specs.Read.Read.{got, refused}
 use Rattle.spec_limits.specs.Limits.{most_signals}
 use Rattle.read_bytes.specs.Bytes.{bytes}
@@ -20,11 +19,7 @@ use Rattle.read_index.proofs.Putting.{no_names, one_more}
 use Rattle.read_lines.specs.Lines.{name_line, in_turn}
 use Rattle.read_lines.proofs.KeyedLines.{name_held}
 use Rattle.read_lines.proofs.Loops.{turn_start, turn_next, turn_off, turn_end}
-use Rattle.read_lines.specs.declared.Step.{Step}
-use Rattle.read_lines.specs.declared.Step.TheVariants as step
-use Rattle.read_head.specs.SheetHead.{signal_line, first_places, NamesPut, SignalRead, SignalsRead, NoNames}
-use Rattle.read_head.specs.SheetHead.SignalRead.{new, refused_at as not_new}
-use Rattle.read_head.specs.SheetHead.SignalsRead.{all_read, refused_at as not_read}
+use Rattle.read_head.specs.SheetHead.{signal_line, first_places, NamesPut, SignalPut, NoNames}
 use Rattle.read_head.proofs.Signals.{signal_line_lem}
 
 module _ {s T : List ℕ} {n : ℕ} (k : NamesPut s T n) where
@@ -60,43 +55,11 @@ line_text_lem s p h =
     let d = name_held s p (bytes "signal=") 2 4 h in
     subst (λ (x : ℕ). NameText (spelling_at s x)) d.what.1 (name_text s d.value d.what.0)
 
--- ---- a signal's line
-
-of_new : {s T T' : List ℕ} {n p v q : ℕ} → SignalRead s T T' n p (step.Got v q)
-    → (signal_line s (first_places n T) p ≡ got v q) × NamesPut s T' (n + 1) × (first_places (n + 1) T' ≡ first_places n T ++ (v ∷ []))
-of_new (new e k f) = (e, k, f)
-
-of_not_new : {s T T' : List ℕ} {n p i x : ℕ} → SignalRead s T T' n p (step.Refused i x) → signal_line s (first_places n T) p ≡ refused i x
-of_not_new (not_new e) = e
-
-module _ {s T T' : List ℕ} {n p : ℕ} {r : Step} (x : SignalRead s T T' n p r) where
-  pub when_new : {v q : ℕ} → r ≡ step.Got v q → (signal_line s (first_places n T) p ≡ got v q) × NamesPut s T' (n + 1) × (first_places (n + 1) T' ≡ first_places n T ++ (v ∷ []))
-  when_new e = of_new (subst (SignalRead s T T' n p) e x)
-
-  pub when_not_new : {i y : ℕ} → r ≡ step.Refused i y → signal_line s (first_places n T) p ≡ refused i y
-  when_not_new e = of_not_new (subst (SignalRead s T T' n p) e x)
-
--- ---- the lines of all signals
-
-of_all : {s T : List ℕ} {n k q : ℕ} {R : Read (List ℕ)} → SignalsRead s T n R (step.Got k q) → (R ≡ got (first_places n T) q) × NamesPut s T n
-of_all (all_read e k) = (e, k)
-
-of_not_all : {s T : List ℕ} {n k p : ℕ} {R : Read (List ℕ)} → SignalsRead s T n R (step.Refused k p) → R ≡ refused k p
-of_not_all (not_read e) = e
-
-module _ {s T : List ℕ} {n : ℕ} {R : Read (List ℕ)} {r : Step} (x : SignalsRead s T n R r) where
-  pub when_all : {k q : ℕ} → r ≡ step.Got k q → (R ≡ got (first_places n T) q) × NamesPut s T n
-  when_all e = of_all (subst (SignalsRead s T n R) e x)
-
-  pub when_not_all : {k p : ℕ} → r ≡ step.Refused k p → R ≡ refused k p
-  when_not_all e = of_not_all (subst (SignalsRead s T n R) e x)
-
 -- ---- the lines of n signals from `at` on
 
 -- i of them are read, up to p, and their names put.
 pub record ReadTo (s T : List ℕ) (n at i p : ℕ) : Type 0 where
   pub same : in_turn (signal_line s) n [] at ≡ in_turn (signal_line s) (n - i) (first_places i T) p
-  pub most : i ≤ n
   pub inside : p ≤ length s
   pub put : NamesPut s T i
 
@@ -105,29 +68,24 @@ module _ {s T : List ℕ} {n at : ℕ} where
   pub read_none : NamesPut s T 0 → at ≤ length s → ReadTo s T n at 0 at
   read_none k h = record {
     same = turn_start (signal_line s) n [] at ∙ ap (λ (t : List ℕ). in_turn (signal_line s) (n - 0) t at) (sym (no_places k));
-    most = omega arith;
     inside = h;
     put = k;
   }
 
   module _ {i p : ℕ} (k : ReadTo s T n at i p) where
     -- one more is read
-    pub read_one : {T' : List ℕ} {r : Step} {v q : ℕ} → i < n → SignalRead s T T' i p r → r ≡ step.Got v q → ReadTo s T' n at (i + 1) q
-    read_one {T'} {v = v} {q} h x e =
-        let w = when_new x e in
-        record {
-          same = k.same ∙ turn_next (signal_line s) n i (first_places i T) p h w.0 ∙ ap (λ (t : List ℕ). in_turn (signal_line s) (n - (i + 1)) t q) (sym w.2);
-          most = omega arith;
-          inside = (signal_line_lem s (first_places i T) p w.0).past.inside;
-          put = w.1;
-        }
+    pub read_one : {T' : List ℕ} {v q : ℕ} → i < n → SignalPut s T T' i p v q → ReadTo s T' n at (i + 1) q
+    read_one {T'} {v} {q} h w = record {
+      same = k.same ∙ turn_next (signal_line s) n i (first_places i T) p h w.line ∙ ap (λ (t : List ℕ). in_turn (signal_line s) (n - (i + 1)) t q) (sym w.places);
+      inside = (signal_line_lem s (first_places i T) p w.line).past.inside;
+      put = w.put;
+    }
 
     -- one is refused, and so are all
-    pub read_off : {T' : List ℕ} {r : Step} {y z : ℕ} → i < n → SignalRead s T T' i p r → r ≡ step.Refused y z → SignalsRead s T' n (in_turn (signal_line s) n [] at) r
-    read_off {T'} h x e = subst (SignalsRead s T' n (in_turn (signal_line s) n [] at)) (sym e) (not_read (k.same ∙ turn_off (signal_line s) (n - i) (first_places i T) p (omega arith) (when_not_new x e)))
+    pub read_off : {m x : ℕ} → i < n → signal_line s (first_places i T) p ≡ refused m x → in_turn (signal_line s) n [] at ≡ refused m x
+    read_off h e = k.same ∙ turn_off (signal_line s) (n - i) (first_places i T) p (omega arith) e
 
     -- all are read
-    pub read_all : n ≤ i → SignalsRead s T n (in_turn (signal_line s) n [] at) (step.Got n p)
-    read_all h =
-        let e : i ≡ n = omega (arith, k.most) in
-        all_read (k.same ∙ turn_end (signal_line s) (n - i) (first_places i T) p (omega arith) ∙ ap (λ (j : ℕ). got (first_places j T) p) e) (subst (NamesPut s T) e k.put)
+    pub read_all : i ≡ n → (in_turn (signal_line s) n [] at ≡ got (first_places n T) p) × NamesPut s T n
+    read_all e =
+        (k.same ∙ turn_end (signal_line s) (n - i) (first_places i T) p (omega arith) ∙ ap (λ (j : ℕ). got (first_places j T) p) e, subst (NamesPut s T) e k.put)

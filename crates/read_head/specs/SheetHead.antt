@@ -1,17 +1,16 @@
 -- A sheet's head, what each answer of its readers says of the text, and what they leave in the lent table (01, "The sheet" and "Numbers of refusal" 2 to 4).
 -- Assumes nothing. `s` is the sheet's text and p a place in it; T is the index of the names after the call.
-use Rattle.std.specs.Prelude.{◌≡◌, ℕ, ◌+◌, ◌<◌, ◌≤◌, List, [], ◌∷◌, ◌++◌, length, get_or, eqb}
+use Rattle.std.specs.Prelude.{◌≡◌, ℕ, ◌+◌, ◌<◌, ◌≤◌, List, [], ◌∷◌, ◌++◌, length, get_or, eqb, Result, Ok, Err}
 use Rattle.spec_limits.specs.Limits.{most_rules, most_signals, most_ticks}
+use Rattle.spec_refusals.specs.declared.Refusal.{Refusal}
+use Rattle.spec_refusals.specs.Numbers.{fault_number}
 use Rattle.read_bytes.specs.Read.{Read, and_then}
 use Rattle.read_bytes.specs.Read.Read.{got, refused}
 use Rattle.read_bytes.specs.Bytes.{bytes, pick}
 use Rattle.read_names.specs.Spellings.{spelling_at, names_at, find_name}
 use Rattle.read_index.specs.Index.{slots, index_numbers, places_in, first_names, IndexOf}
-use Rattle.read_lines.specs.declared.Step.{Step}
-use Rattle.read_lines.specs.declared.Step.TheVariants as step
 use Rattle.read_lines.specs.Lines.{ranged_line, name_line, in_turn}
-use Rattle.read_head.specs.declared.Heading.{Heading}
-use Rattle.read_head.specs.declared.Heading.TheVariants as heading
+use Rattle.read_head.specs.declared.HeadLines.{HeadLines}
 
 -- The line `signal=` with a name, after those at `places`: the place of the name, and the place after the line. A name given twice is 4.
 unfoldable pub signal_line : List ℕ → List ℕ → ℕ → Read ℕ
@@ -47,15 +46,21 @@ pub record NamesPut (s T : List ℕ) (n : ℕ) : Type 0 where
   pub few : n ≤ most_signals
   pub index : IndexOf s (first_names n T)
 
--- What each case of the reader of a signal's line says, after the first n names: the name is put into the index, which was T and is T'.
-pub data SignalRead (s T T' : List ℕ) (n p : ℕ) : Step → Type 0 where
-  new : {v q : ℕ} → signal_line s (first_places n T) p ≡ got v q → NamesPut s T' (n + 1) → first_places (n + 1) T' ≡ first_places n T ++ (v ∷ []) → SignalRead s T T' n p (step.Got v q)
-  refused_at : {k x : ℕ} → signal_line s (first_places n T) p ≡ refused k x → SignalRead s T T' n p (step.Refused k x)
+-- A signal's line is read, after the first n names: its name at v is put into the index, which was T and is T'.
+pub record SignalPut (s T T' : List ℕ) (n p v q : ℕ) : Type 0 where
+  pub line : signal_line s (first_places n T) p ≡ got v q
+  pub put : NamesPut s T' (n + 1)
+  pub places : first_places (n + 1) T' ≡ first_places n T ++ (v ∷ [])
 
--- What each case of the signals' reader says: R are the places of their names.
-pub data SignalsRead (s T : List ℕ) (n : ℕ) (R : Read (List ℕ)) : Step → Type 0 where
-  all_read : {k q : ℕ} → R ≡ got (first_places n T) q → NamesPut s T n → SignalsRead s T n R (step.Got k q)
-  refused_at : {k p : ℕ} → R ≡ refused k p → SignalsRead s T n R (step.Refused k p)
+-- What an answer of the reader of a signal's line says.
+abbrev pub SignalRead : List ℕ → List ℕ → List ℕ → ℕ → ℕ → Result (ℕ × ℕ) Refusal → Type 0
+SignalRead s T T' n p (Ok x) = SignalPut s T T' n p x.0 x.1
+SignalRead s T T' n p (Err r) = signal_line s (first_places n T) p ≡ refused (fault_number r.fault) r.place
+
+-- What an answer of the signals' reader says: R are the places of their names.
+abbrev pub SignalsRead : List ℕ → List ℕ → ℕ → Read (List ℕ) → Result ℕ Refusal → Type 0
+SignalsRead s T n R (Ok q) = (R ≡ got (first_places n T) q) × NamesPut s T n
+SignalsRead s T n R (Err r) = R ≡ refused (fault_number r.fault) r.place
 
 -- An index of a sheet before its first name: there is none in any slot.
 pub record NoNames (T : List ℕ) : Type 0 where
@@ -70,12 +75,13 @@ pub record Sizes (w n m : ℕ) : Type 0 where
   pub signals_high : n ≤ most_signals
   pub rules_high : m ≤ most_rules
 
--- What each case of the head's reader says.
-pub data Headed (s T : List ℕ) : Heading → Type 0 where
-  headed : {w n m p : ℕ} → head s ≡ got (head_of w (first_places n T) m) p → Sizes w n m → NamesPut s T n → Headed s T (heading.Lines w n m p)
-  refused_at : {k p : ℕ} → head s ≡ refused k p → Headed s T (heading.Refused k p)
+-- The head h of s is read, and its signals' names are put into the index.
+pub record HeadPut (s T : List ℕ) (h : HeadLines) : Type 0 where
+  pub lines : head s ≡ got (head_of h.window (first_places h.signals T) h.rules) h.first
+  pub sizes : Sizes h.window h.signals h.rules
+  pub put : NamesPut s T h.signals
 
--- What each case of it says of the rules: how many follow, and the place of the first one's line.
-abbrev pub head_says : Heading → Read ℕ
-head_says (heading.Lines w n m p) = got m p
-head_says (heading.Refused k p) = refused k p
+-- What an answer of the head's reader says.
+abbrev pub Headed : List ℕ → List ℕ → Result HeadLines Refusal → Type 0
+Headed s T (Ok h) = HeadPut s T h
+Headed s T (Err r) = head s ≡ refused (fault_number r.fault) r.place

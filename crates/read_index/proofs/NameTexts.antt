@@ -6,10 +6,9 @@ use mathlib.Core.List.{List, [], ◌∷◌}
 use Prim.Native.Nat.{ℕ, ◌-◌, ◌<◌, ◌≤◌}
 use native.Mathlib.Omega.{arith}
 use lib.ListN.{length}
+use Rattle.std.specs.Prelude.{Option, Some}
 use Rattle.spec_limits.specs.Limits.{most_name_bytes}
 use Rattle.read_bytes.specs.Bytes.{bytes, byte, peek, letter, name_byte, run_end, every}
-use Rattle.read_names.specs.declared.EndNumber.{EndNumber}
-use Rattle.read_names.specs.declared.NameRead.TheVariants.{Name}
 use Rattle.read_names.specs.EndNumbers.{end_number}
 use Rattle.read_names.specs.Spellings.{spelling_at, spelling_end, is_spelled, is_reserved, name_at, same_text_lem}
 use Rattle.read_bytes.proofs.Tests.{between_is}
@@ -39,7 +38,7 @@ module _ (s : List ℕ) (p : ℕ) where
       go true e = rw (word_more s p e) at h
       go false e = absurd (false≢true (rw (word_none s p e) at h))
 
-  pub name_text : {q : ℕ} {n : EndNumber} → name_at s p ≡ Name q n → NameText (spelling_at s p)
+  pub name_text : {q : ℕ} {n : Option ℕ} → name_at s p ≡ Some (q, n) → NameText (spelling_at s p)
   name_text h =
       let n = named s p h in
       record {
@@ -54,7 +53,7 @@ module _ (s : List ℕ) (p : ℕ) where
   unfolding is_reserved
   not_reserved t = rw (since_same ∙ t.not_since, until_same ∙ t.not_until)
 
-  pub text_name : NameText (spelling_at s p) → name_at s p ≡ Name (spelling_end s p) (end_number (spelling_at s p))
+  pub text_name : NameText (spelling_at s p) → name_at s p ≡ Some (spelling_end s p, end_number (spelling_at s p))
   unfolding run_end
   text_name t =
       let l = between_is (byte "a") (byte "z") (peek s p) (letter_first t.first) in

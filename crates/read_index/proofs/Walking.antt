@@ -9,7 +9,6 @@ use lib.ListN.{length, get_or}
 use Rattle.read_bytes.specs.Bytes.{name_byte, run_end}
 use Rattle.read_names.specs.Spellings.{spelling_at, spelling_end}
 use Rattle.read_bytes.proofs.Runs.{run_more, end_more}
-use Rattle.read_index.specs.declared.Slot.{Slot}
 use Rattle.read_index.specs.Index.{mixed, slot_of, mixed_numbers, golden, per_slot}
 use Rattle.read_index.specs.Finds.{Slotted}
 
@@ -32,10 +31,10 @@ module _ {r : List ℕ} {p i h : ℕ} (w : Walked r p i h) where
         small = omega arith;
       }
 
-  pub walk_end : (k : Slot) → k.end ≡ i → k.slot ≡ h / per_slot → spelling_at r i ≡ [] → Slotted r p k
+  pub walk_end : (j : ℕ) → j ≡ i → spelling_at r i ≡ [] → Slotted r p (j, h / per_slot)
   unfolding run_end mixed slot_of
-  walk_end k e f n =
+  walk_end j e n =
       record {
         ends = omega (arith, w.ends, ap length n);
-        slot = f ∙ sym (ap (λ x. x / per_slot) (w.mixes ∙ ap (mixed h) n));
+        slot = sym (ap (λ x. x / per_slot) (w.mixes ∙ ap (mixed h) n));
       }

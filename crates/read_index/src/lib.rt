@@ -29,59 +29,38 @@ const MIXED: usize = 4294967296;
 // per_slot
 const PER_SLOT: usize = MIXED / SLOTS;
 
-// The place after a spelling, and its slot.
-#[derive(Drop)]
-pub struct Slot {
-    pub end: usize,
-    pub slot: usize,
-}
-
 // The number of a name, or how many names there are; the place after the spelling, and its slot.
-#[derive(Drop)]
+#[derive(Clone, Copy)]
 pub struct Found {
     pub signal: usize,
     pub end: usize,
     pub slot: usize,
 }
 
-// The spelling at `at`. A byte below `a` is no letter, so it is a digit or ends the spelling. The test
-// stands here as branches: as a function's answer it costs some five instructions a byte more.
-fn slot_at(r: &[u8], at: usize) -> Slot
+// The place after the spelling at `at`, and its slot. A byte below `a` is no letter, so it is a digit or ends the spelling. The
+// test stands here as branches: as a function's answer it costs some five instructions a byte more.
+fn slot_at(r: &[u8], at: usize) -> (usize, usize)
     requires { at ≤ length r.now }
     ensures { Slotted r.now at result }
 {
-    let mut i = at;
     let mut h: usize = 0;
-    while i < r.len() {
+    for i in at..r.len() {
         let b = r[i];
         if b < b'a' {
             if b < b'0' {
-                return Slot {
-                    end: i,
-                    slot: h / PER_SLOT,
-                };
+                return (i, h / PER_SLOT);
             }
             if b'9' < b {
-                return Slot {
-                    end: i,
-                    slot: h / PER_SLOT,
-                };
+                return (i, h / PER_SLOT);
             }
         } else {
             if b'z' < b {
-                return Slot {
-                    end: i,
-                    slot: h / PER_SLOT,
-                };
+                return (i, h / PER_SLOT);
             }
         }
         h = (h + b as usize) * GOLDEN % MIXED;
-        i += 1;
     }
-    Slot {
-        end: i,
-        slot: h / PER_SLOT,
-    }
+    (r.len(), h / PER_SLOT)
 }
 
 // Is the spelling at `a` the spelling `w`?
@@ -89,12 +68,7 @@ fn is_name(s: &[u8], a: usize, w: &[u8]) -> bool
     requires { (a ≤ length s.now) × (every name_byte w.now ≡ true) }
     ensures { result ≡ same_text_lem (spelling_at s.now a) w.now }
 {
-    let next = a + w.len();
-    if next <= s.len() {
-        spelled_inside(s, a, w)
-    } else {
-        false
-    }
+    a + w.len() <= s.len() && spelled_inside(s, a, w)
 }
 
 // Looks the spelling at `at` of `r` up.
@@ -102,9 +76,7 @@ pub fn find(s: &[u8], names: &[u16], r: &[u8], at: usize) -> Found
     requires { IndexOf s.now names.now × (at ≤ length r.now) }
     ensures { Finds (names_in s.now names.now) r.now at result }
 {
-    let k = slot_at(r, at);
-    let end = k.end;
-    let slot = k.slot;
+    let (end, slot) = slot_at(r, at);
     let w = &r[at..end];
     let mut signal = names.len() - LINKS;
     let mut link = names[slot] as usize;

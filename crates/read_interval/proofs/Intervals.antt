@@ -10,14 +10,13 @@ use borrow.Author.Tests.{eq-eqb, ne_eqb, le-leb, lt-leb, leb-true}
 use lib.Dec.{eqb, leb}
 use lib.ListN.{length}
 use Rattle.spec_limits.specs.Limits.{most_offset}
-use Rattle.read_bytes.specs.declared.numbers.Number.{Number}
-use Rattle.read_bytes.specs.declared.numbers.Number.TheVariants.{Value, Missing}
+use Rattle.std.specs.Prelude.{Option, Some, None, Ok, Err}
+use Rattle.spec_refusals.specs.declared.Fault.{Fault}
+use Rattle.spec_refusals.specs.declared.Fault.TheVariants.{Formula, Interval}
 use Rattle.read_bytes.specs.Bytes.{byte, bytes, peek, pick, one_of}
 use Rattle.read_bytes.proofs.Tests.{between_is}
 use Rattle.read_bytes.proofs.Places.{Reach, inside_test}
-use Rattle.read_interval.specs.declared.Offsets.{Offsets}
-use Rattle.read_interval.specs.declared.Offsets.TheVariants.{Over, Refused}
-use Rattle.read_interval.specs.Interval.{end_at, left_out, near, offsets_of, end_then, end_after_lem, close_at, comma_at, interval, least_end, greatest_end, over_offset}
+use Rattle.read_interval.specs.Interval.{Offsets, refusing, end_at, left_out, near, offsets_of, end_then, end_after_lem, close_at, comma_at, interval, least_end, greatest_end, over_offset}
 use Rattle.read_interval.proofs.Ends.{end_reach}
 
 -- A byte that equals one of two, or neither.
@@ -39,15 +38,15 @@ left_out_most b round = go (eqb b round)
 -- The answers to a whole interval.
 module _ (p o v w c x : ℕ) where
   module _ {l r : ℕ} (el : l ≡ left_out o (byte "(")) (er : r ≡ left_out c (byte ")")) (hv : near v ≡ true) (hw : near w ≡ true) where
-    pub offsets_in : v + l ≤ w - r → Over (v + l - over_offset) (w - r - (v + l)) x ≡ offsets_of p o v w c x
+    pub offsets_in : v + l ≤ w - r → Ok (v + l - over_offset, w - r - (v + l), x) ≡ offsets_of p o v w c x
     unfolding offsets_of
     offsets_in h = rw (← el, ← er, hv, hw, le-leb (v + l) (w - r) h)
 
-    pub offsets_empty : w - r < v + l → Refused 7 p ≡ offsets_of p o v w c x
+    pub offsets_empty : w - r < v + l → refusing Interval p ≡ offsets_of p o v w c x
     unfolding offsets_of
     offsets_empty h = rw (← el, ← er, hv, hw, lt-leb (v + l) (w - r) h)
 
-  pub offsets_far : near v && near w ≡ false → Refused 7 p ≡ offsets_of p o v w c x
+  pub offsets_far : near v && near w ≡ false → refusing Interval p ≡ offsets_of p o v w c x
   unfolding offsets_of
   offsets_far h = rw h
 
@@ -57,22 +56,22 @@ module _ (s : List ℕ) (p o v w x b : ℕ) (eb : b ≡ peek s x) where
   unfolding close_at
   close_is h = rw (← eb, h)
 
-  pub close_not : one_of b (bytes "])") ≡ false → Refused 5 x ≡ close_at s p o v w x
+  pub close_not : one_of b (bytes "])") ≡ false → refusing Formula x ≡ close_at s p o v w x
   unfolding close_at
   close_not h = rw (← eb, h)
 
 -- The answers to a sign and an end.
 module _ (s : List ℕ) (p : ℕ) (K : ℕ → ℕ → Offsets) (t : Bool) where
-  pub after_not : t ≡ false → Refused 5 p ≡ end_after_lem t s p K
+  pub after_not : t ≡ false → refusing Formula p ≡ end_after_lem t s p K
   unfolding end_after_lem
   after_not h = rw h
 
-  module _ {d : Number} (h : t ≡ true) (e : d ≡ end_at s (p + 1)) where
-    pub after_end : {v q : ℕ} → d ≡ Value v q → K v q ≡ end_after_lem t s p K
+  module _ {d : Option (ℕ × ℕ)} (h : t ≡ true) (e : d ≡ end_at s (p + 1)) where
+    pub after_end : {v q : ℕ} → d ≡ Some (v, q) → K v q ≡ end_after_lem t s p K
     unfolding end_after_lem
     after_end f = rw (h, ← e, f)
 
-    pub after_cut : d ≡ Missing → Refused 5 (p + 1) ≡ end_after_lem t s p K
+    pub after_cut : d ≡ None → refusing Formula (p + 1) ≡ end_after_lem t s p K
     unfolding end_after_lem
     after_cut f = rw (h, ← e, f)
 
@@ -87,8 +86,8 @@ interval_by s p b eb = rw eb
 
 -- What holds of what is read at p: an interval ends after p and lies in -63 to 63, and a refusal is 5 or 7 and its place is in the text.
 abbrev pub Sound : List ℕ → ℕ → Offsets → Type 0
-Sound s p (Over first more q) = Reach s (p + 1) q × (1 ≤ first) × (first + more ≤ most_offset)
-Sound s p (Refused n k) = ((n ≡ 5) ⊎ (n ≡ 7)) × (p ≤ length s → k ≤ length s)
+Sound s p (Ok (first, more, q)) = Reach s (p + 1) q × (1 ≤ first) × (first + more ≤ most_offset)
+Sound s p (Err r) = ((r.fault ≡ Formula) ⊎ (r.fault ≡ Interval)) × (p ≤ length s → r.place ≤ length s)
 
 module _ (s : List ℕ) (p : ℕ) where
   -- Each step of the reading keeps what holds.
@@ -96,16 +95,16 @@ module _ (s : List ℕ) (p : ℕ) where
   sound_pick true a b f g = f refl
   sound_pick false a b f g = g
 
-  sound_end : (d : Number) (k : ℕ) (K : ℕ → ℕ → Offsets) → ((v q : ℕ) → d ≡ Value v q → Sound s p (K v q)) → Sound s p (Refused 5 k) → Sound s p (end_then d k K)
-  sound_end (Value v q) k K f g = f v q refl
-  sound_end Missing k K f g = g
+  sound_end : (d : Option (ℕ × ℕ)) (k : ℕ) (K : ℕ → ℕ → Offsets) → ((v q : ℕ) → d ≡ Some (v, q) → Sound s p (K v q)) → Sound s p (refusing Formula k) → Sound s p (end_then d k K)
+  sound_end (Some (v, q)) k K f g = f v q refl
+  sound_end None k K f g = g
 
   sound_offsets : (o v w c x : ℕ) → Reach s (p + 1) x → Sound s p (offsets_of p o v w c x)
   unfolding offsets_of
   sound_offsets o v w c x r =
       let l = left_out o (byte "(") in
       let m = left_out c (byte ")") in
-      sound_pick (near v && near w && leb (v + l) (w - m)) (Over (v + l - over_offset) (w - m - (v + l)) x) (Refused 7 p)
+      sound_pick (near v && near w && leb (v + l) (w - m)) (Ok (v + l - over_offset, w - m - (v + l), x)) (refusing Interval p)
       (λ h.
       let a = (and-eq-true_iff (near v && near w) (leb (v + l) (w - m))).0 h in
       let b = (and-eq-true_iff (near v) (near w)).0 a.0 in
@@ -118,7 +117,7 @@ module _ (s : List ℕ) (p : ℕ) where
   sound_close : (o v w x : ℕ) → Reach s (p + 1) x → Sound s p (close_at s p o v w x)
   unfolding close_at
   sound_close o v w x r =
-      sound_pick (one_of (peek s x) (bytes "])")) (offsets_of p o v w (peek s x) (x + 1)) (Refused 5 x)
+      sound_pick (one_of (peek s x) (bytes "])")) (offsets_of p o v w (peek s x) (x + 1)) (refusing Formula x)
       (λ h.
       let i = inside_test s x (λ b. one_of b (bytes "])")) refl h in
       sound_offsets o v w (peek s x) (x + 1) (record { ahead = omega (arith, r.ahead); inside = omega arith }))
@@ -127,7 +126,7 @@ module _ (s : List ℕ) (p : ℕ) where
   sound_after : (t : Bool) (q : ℕ) (K : ℕ → ℕ → Offsets) → p ≤ q → (p ≤ length s → q ≤ length s) → (t ≡ true → q < length s) → ((v x : ℕ) → Reach s (p + 1) x → Sound s p (K v x)) → Sound s p (end_after_lem t s q K)
   unfolding end_after_lem
   sound_after t q K a i n f =
-      sound_pick t (end_then (end_at s (q + 1)) (q + 1) K) (Refused 5 q)
+      sound_pick t (end_then (end_at s (q + 1)) (q + 1) K) (refusing Formula q)
       (λ h.
       let m = n h in
       sound_end (end_at s (q + 1)) (q + 1) K
@@ -151,9 +150,9 @@ module _ (s : List ℕ) (p : ℕ) where
       (λ v q. sound_comma (peek s p) v q)
 
   -- Where an interval ends, and how far its offsets lie.
-  pub interval_reach : {first more q : ℕ} → interval s p ≡ Over first more q → Reach s (p + 1) q × (1 ≤ first) × (first + more ≤ most_offset)
+  pub interval_reach : {first more q : ℕ} → interval s p ≡ Ok (first, more, q) → Reach s (p + 1) q × (1 ≤ first) × (first + more ≤ most_offset)
   interval_reach e = subst (Sound s p) e interval_sound
 
-  -- A refusal's number and place.
-  pub interval_refused : {n k : ℕ} → interval s p ≡ Refused n k → ((n ≡ 5) ⊎ (n ≡ 7)) × (p ≤ length s → k ≤ length s)
+  -- A refusal's fault and place.
+  pub interval_refused : {f : Fault} {k : ℕ} → interval s p ≡ refusing f k → ((f ≡ Formula) ⊎ (f ≡ Interval)) × (p ≤ length s → k ≤ length s)
   interval_refused e = subst (Sound s p) e interval_sound

@@ -7,8 +7,9 @@ ghost use Rattle.read_interval.specs.Interval.{end_at, left_out, offsets_of, clo
 ghost use Rattle.read_interval.specs.Interval as spec;
 
 use read_bytes::bytes::byte_at;
-use read_bytes::numbers::{Number, digits};
+use read_bytes::numbers::digits;
 use spec_limits::{END, OFFSET_ZERO};
+use spec_refusals::{Fault, Refusal};
 
 // end_zero: the end 0 as it is kept.
 const END_ZERO: usize = 10000;
@@ -22,31 +23,21 @@ const GREATEST: usize = END_ZERO + END;
 // over_offset
 const OVER_OFFSET: usize = END_ZERO - OFFSET_ZERO;
 
-// The offsets of an interval: its first whole number with 64 added, how many more follow, and the place after it; or a refusal's number and place.
-#[derive(Drop)]
-pub enum Offsets {
-    Over(usize, usize, usize),
-    Refused(usize, usize),
-}
-
-// One to four digits at `at`, with the sign that stands before them.
-fn signed(s: &[u8], at: usize, plus: bool) -> Number
+// The value of one to four digits at `at` with the sign that stands before them, and the place after them.
+fn signed(s: &[u8], at: usize, plus: bool) -> (usize, usize)
     requires { at ≤ length s.now }
     ensures { result ≡ spec.signed plus (number.digits s.now 4 at 0) }
 {
-    let d = digits(s, at, 4);
-    let Number::Value(v, q) = d else {
-        return Number::Missing;
-    };
+    let (v, q) = digits(s, at, 4);
     if plus {
-        Number::Value(END_ZERO + v, q)
+        (END_ZERO + v, q)
     } else {
-        Number::Value(END_ZERO - v, q)
+        (END_ZERO - v, q)
     }
 }
 
-// An end at `at`: `0`, or an optional `-` and one to four digits, the first not 0.
-fn end_at(s: &[u8], at: usize) -> Number
+// An end at `at`, `0` or an optional `-` and one to four digits, the first not 0, and the place after it. Or no end.
+fn end_at(s: &[u8], at: usize) -> Option<(usize, usize)>
     requires { at ≤ length s.now }
     ensures { result ≡ end_at s.now at }
 {
@@ -54,18 +45,18 @@ fn end_at(s: &[u8], at: usize) -> Number
     match b {
         b'0' => {
             let next = at + 1;
-            Number::Value(END_ZERO, next)
+            Some((END_ZERO, next))
         }
-        b'1'..=b'9' => signed(s, at, true),
+        b'1'..=b'9' => Some(signed(s, at, true)),
         b'-' => {
             let next = at + 1;
             let e = byte_at(s, next);
             match e {
-                b'1'..=b'9' => signed(s, next, false),
-                _ => Number::Missing,
+                b'1'..=b'9' => Some(signed(s, next, false)),
+                _ => None,
             }
         }
-        _ => Number::Missing,
+        _ => None,
     }
 }
 
@@ -80,14 +71,18 @@ fn left_out(b: u8, round: u8) -> usize
 fn near(v: usize) -> bool
     ensures { result ≡ spec.near v }
 {
-    match v {
-        LEAST..=GREATEST => true,
-        _ => false,
-    }
+    LEAST <= v && v <= GREATEST
 }
 
 // The offsets of the whole interval from the bracket `o` at `at` to the bracket `c`, with the ends `v` and `w`; `x` is the place after it.
-fn offsets_of(at: usize, o: u8, v: usize, w: usize, c: u8, x: usize) -> Offsets
+fn offsets_of(
+    at: usize,
+    o: u8,
+    v: usize,
+    w: usize,
+    c: u8,
+    x: usize,
+) -> Result<(usize, usize, usize), Refusal>
     ensures { result ≡ offsets_of at o v w c x }
 {
     if near(v) {
@@ -95,15 +90,25 @@ fn offsets_of(at: usize, o: u8, v: usize, w: usize, c: u8, x: usize) -> Offsets
             let lo = v + left_out(o, b'(');
             let hi = w - left_out(c, b')');
             if lo <= hi {
-                return Offsets::Over(lo - OVER_OFFSET, hi - lo, x);
+                return Ok((lo - OVER_OFFSET, hi - lo, x));
             }
         }
     }
-    Offsets::Refused(7, at)
+    Err(Refusal {
+        fault: Fault::Interval,
+        place: at,
+    })
 }
 
 // The closing bracket at `x`, after the ends `v` and `w`.
-fn close_at(s: &[u8], at: usize, o: u8, v: usize, w: usize, x: usize) -> Offsets
+fn close_at(
+    s: &[u8],
+    at: usize,
+    o: u8,
+    v: usize,
+    w: usize,
+    x: usize,
+) -> Result<(usize, usize, usize), Refusal>
     requires { x ≤ length s.now }
     ensures { result ≡ close_at s.now at o v w x }
 {
@@ -113,29 +118,43 @@ fn close_at(s: &[u8], at: usize, o: u8, v: usize, w: usize, x: usize) -> Offsets
             let next = x + 1;
             offsets_of(at, o, v, w, c, next)
         }
-        _ => Offsets::Refused(5, x),
+        _ => Err(Refusal {
+            fault: Fault::Formula,
+            place: x,
+        }),
     }
 }
 
 // The comma at `q`, after the end `v`, and what follows it.
-fn comma_at(s: &[u8], at: usize, o: u8, v: usize, q: usize) -> Offsets
+fn comma_at(
+    s: &[u8],
+    at: usize,
+    o: u8,
+    v: usize,
+    q: usize,
+) -> Result<(usize, usize, usize), Refusal>
     requires { q ≤ length s.now }
     ensures { result ≡ comma_at s.now at o v q }
 {
     let b = byte_at(s, q);
     if b != b',' {
-        return Offsets::Refused(5, q);
+        return Err(Refusal {
+            fault: Fault::Formula,
+            place: q,
+        });
     }
     let next = q + 1;
-    let d = end_at(s, next);
-    let Number::Value(w, x) = d else {
-        return Offsets::Refused(5, next);
+    let Some((w, x)) = end_at(s, next) else {
+        return Err(Refusal {
+            fault: Fault::Formula,
+            place: next,
+        });
     };
     close_at(s, at, o, v, w, x)
 }
 
-// The interval at `at`.
-pub fn interval_at(s: &[u8], at: usize) -> Offsets
+// The interval at `at`: its first whole number with 64 added, how many more follow, and the place after it.
+pub fn interval_at(s: &[u8], at: usize) -> Result<(usize, usize, usize), Refusal>
     requires { at ≤ length s.now }
     ensures { result ≡ interval s.now at }
 {
@@ -143,12 +162,17 @@ pub fn interval_at(s: &[u8], at: usize) -> Offsets
     match o {
         b'[' | b'(' => {
             let next = at + 1;
-            let d = end_at(s, next);
-            let Number::Value(v, q) = d else {
-                return Offsets::Refused(5, next);
+            let Some((v, q)) = end_at(s, next) else {
+                return Err(Refusal {
+                    fault: Fault::Formula,
+                    place: next,
+                });
             };
             comma_at(s, at, o, v, q)
         }
-        _ => Offsets::Refused(5, at),
+        _ => Err(Refusal {
+            fault: Fault::Formula,
+            place: at,
+        }),
     }
 }

@@ -8,10 +8,7 @@ use native.Mathlib.Omega.{arith}
 use borrow.Author.Tests.{eq-eqb, ne_eqb, eqb-true, not-false, ltb-true, lt-ltb, le-ltb}
 use lib.Dec.{eqb, ltb}
 use lib.ListN.{length, get_or}
-use Rattle.read_names.specs.declared.NameRead.{NameRead}
-use Rattle.read_names.specs.declared.NameRead.TheVariants.{Name, Other}
-use Rattle.read_bytes.specs.declared.numbers.Number.{Number}
-use Rattle.read_bytes.specs.declared.numbers.Number.TheVariants.{Value, Missing}
+use Rattle.std.specs.Prelude.{Option, Some, None}
 use Rattle.read_bytes.specs.Read.{Read, and_then}
 use Rattle.read_bytes.specs.Read.Read.{got, refused}
 use Rattle.read_bytes.specs.Bytes.{byte, pick, between, peek, starts, run_end}
@@ -78,11 +75,11 @@ module _ (s : List ℕ) (p : ℕ) (key : List ℕ) (form : ℕ) where
   line_not a = rw a
 
   module _ {v e : ℕ} (a : line s p key form ≡ got v e) where
-    pub number_line_is : {n : Number} → number s v ≡ n → whole_number p form e n ≡ number_line s p key form
+    pub number_line_is : {n : Option (ℕ × ℕ)} → number s v ≡ n → whole_number p form e n ≡ number_line s p key form
     unfolding number_line
     number_line_is b = rw (a, b)
 
-    pub name_line_is : (content : ℕ) {w : NameRead} → name_at s v ≡ w → whole_name v content e w ≡ name_line s p key form content
+    pub name_line_is : (content : ℕ) {w : Option (ℕ × Option ℕ)} → name_at s v ≡ w → whole_name v content e w ≡ name_line s p key form content
     unfolding name_line
     name_line_is content b = rw (a, b)
 
@@ -123,35 +120,35 @@ pub record Held (s : List ℕ) (p : ℕ) (key : List ℕ) (What : ℕ → ℕ �
   pub what : What value lf
   pub next : lf + 1 ≡ q
 
-pub number_held : (s : List ℕ) (p : ℕ) (key : List ℕ) (form : ℕ) {x q : ℕ} → number_line s p key form ≡ got x q → Held s p key (λ v e. number s v ≡ Value x e) q
+pub number_held : (s : List ℕ) (p : ℕ) (key : List ℕ) (form : ℕ) {x q : ℕ} → number_line s p key form ≡ got x q → Held s p key (λ v e. number s v ≡ Some (x, e)) q
 unfolding number_line
 number_held s p key form {x} {q} h =
     let d = came (line s p key form) (λ v e. whole_number p form e (number s v)) h in
     let w = go d.place (number s d.value) d.then in
     record { value = d.value; lf = d.place; at = placed s p key form d.first; what = w.0; next = w.1 }
   where
-    go : (e : ℕ) (n : Number) → whole_number p form e n ≡ got x q → (n ≡ Value x e) × (e + 1 ≡ q)
-    go e (Value y z) f =
+    go : (e : ℕ) (n : Option (ℕ × ℕ)) → whole_number p form e n ≡ got x q → (n ≡ Some (x, e)) × (e + 1 ≡ q)
+    go e (Some (y, z)) f =
         let t = through (eqb z e) y (e + 1) form p f in
         let i = eqb-true z e t.0 in
         let j = t.1 in
         (cc, t.2)
-    go e Missing f = absurd (not_both (sym f))
+    go e None f = absurd (not_both (sym f))
 
-pub name_held : (s : List ℕ) (p : ℕ) (key : List ℕ) (form content : ℕ) {x q : ℕ} → name_line s p key form content ≡ got x q → Held s p key (λ v e. (name_at s v ≡ Name e (end_number (spelling_at s v))) × (v ≡ x)) q
+pub name_held : (s : List ℕ) (p : ℕ) (key : List ℕ) (form content : ℕ) {x q : ℕ} → name_line s p key form content ≡ got x q → Held s p key (λ v e. (name_at s v ≡ Some (e, end_number (spelling_at s v))) × (v ≡ x)) q
 unfolding name_line
 name_held s p key form content {x} {q} h =
     let d = came (line s p key form) (λ v e. whole_name v content e (name_at s v)) h in
     let w = go d.value d.place (name_at s d.value) refl d.then in
     record { value = d.value; lf = d.place; at = placed s p key form d.first; what = (w.0, w.1); next = w.2 }
   where
-    go : (v e : ℕ) (w : NameRead) → name_at s v ≡ w → whole_name v content e w ≡ got x q → (name_at s v ≡ Name e (end_number (spelling_at s v))) × (v ≡ x) × (e + 1 ≡ q)
-    go v e (Name z n) a f =
+    go : (v e : ℕ) (w : Option (ℕ × Option ℕ)) → name_at s v ≡ w → whole_name v content e w ≡ got x q → (name_at s v ≡ Some (e, end_number (spelling_at s v))) × (v ≡ x) × (e + 1 ≡ q)
+    go v e (Some (z, n)) a f =
         let t = through (eqb z e) v (e + 1) content v f in
         let i = eqb-true z e t.0 in
         let m = (named s v a).number in
         (cc, t.1, t.2)
-    go v e Other a f = absurd (not_both (sym f))
+    go v e None a f = absurd (not_both (sym f))
 
 -- What follows a line stands after it, whatever the line holds.
 pub line_past : {s : List ℕ} {p : ℕ} {key : List ℕ} {What : ℕ → ℕ → Type 0} {q : ℕ} → Held s p key What q → Reach s (p + 1) q

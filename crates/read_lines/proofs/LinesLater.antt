@@ -8,17 +8,14 @@ use native.Mathlib.Omega.{arith}
 use borrow.Author.Tests.{ltb-true, ltb-false, lt-ltb, le-ltb}
 use lib.Dec.{ltb, eqb}
 use lib.ListN.{length, length-append}
-use Rattle.read_names.specs.declared.NameRead.{NameRead}
-use Rattle.read_names.specs.declared.NameRead.TheVariants.{Name, Other}
-use Rattle.read_bytes.specs.declared.numbers.Number.{Number}
-use Rattle.read_bytes.specs.declared.numbers.Number.TheVariants.{Value, Missing}
+use Rattle.std.specs.Prelude.{Option, Some, None}
 use Rattle.read_bytes.specs.Read.{Read, and_then}
 use Rattle.read_bytes.specs.Read.Read.{got, refused}
 use Rattle.read_bytes.specs.Bytes.{between, starts}
 use Rattle.read_names.specs.Spellings.{name_at}
 use Rattle.read_bytes.specs.Numbers.{number}
 use Rattle.read_lines.specs.Lines.{in_line, line_end, line, whole, whole_number, whole_name, number_line, ranged_line, name_line, up_to}
-use Rattle.read_bytes.proofs.Later.{moved, later, later_number, pick_map, eqb_later, starts_later, run_end_later, number_later}
+use Rattle.read_bytes.proofs.Later.{moved, later, later_some, pick_map, eqb_later, starts_later, run_end_later, number_later}
 use Rattle.read_names.proofs.NamesLater.{later_word, name_at_later}
 
 -- An answer whose place is d later, and so is its value, which is a place too.
@@ -44,13 +41,13 @@ module _ (d : ℕ) where
       let i : d + e + 1 ≡ d + (e + 1) = omega arith in
       rw (i, eqb_later d q e) (pick_map (moved f d) (eqb q e) (got x (e + 1)) (refused n p))
 
-  whole_number_later : (p form e : ℕ) (x : Number) → whole_number (d + p) form (d + e) (later_number d x) ≡ later d (whole_number p form e x)
-  whole_number_later p form e (Value x q) = whole_later (λ v. v) x q e form p
-  whole_number_later p form e Missing = refl
+  whole_number_later : (p form e : ℕ) (x : Option (ℕ × ℕ)) → whole_number (d + p) form (d + e) (later_some d x) ≡ later d (whole_number p form e x)
+  whole_number_later p form e (Some (x, q)) = whole_later (λ v. v) x q e form p
+  whole_number_later p form e None = refl
 
-  whole_name_later : (v content e : ℕ) (w : NameRead) → whole_name (d + v) content (d + e) (later_word d w) ≡ later_place d (whole_name v content e w)
-  whole_name_later v content e (Name q n) = whole_later (λ y. d + y) v q e content v
-  whole_name_later v content e Other = refl
+  whole_name_later : (v content e : ℕ) (w : Option (ℕ × Option ℕ)) → whole_name (d + v) content (d + e) (later_word d w) ≡ later_place d (whole_name v content e w)
+  whole_name_later v content e (Some (q, n)) = whole_later (λ y. d + y) v q e content v
+  whole_name_later v content e None = refl
 
 module _ (u t : List ℕ) (i : ℕ) (key : List ℕ) (form : ℕ) where
   -- a line's place of its value is later too

@@ -8,9 +8,7 @@ use native.Mathlib.Omega.{arith}
 use lib.Dec.{eqb}
 use lib.ListN.{length, drop, length-append, length-drop, get_or-append}
 use lib.Seq.{drop-append-le}
-use Rattle.read_names.specs.declared.EndNumber.{EndNumber}
-use Rattle.read_names.specs.declared.NameRead.TheVariants.{Name}
-use Rattle.read_bytes.specs.declared.numbers.Number.TheVariants.{Value}
+use Rattle.std.specs.Prelude.{Option, Some}
 use Rattle.read_bytes.specs.Read.Read.{got}
 use Rattle.read_bytes.specs.Bytes.{bytes, byte, peek, between, digit, name_byte, starts, run, run_at, run_end, every}
 use Rattle.read_names.specs.Spellings.{spelling_at, spelling_end, is_spelled, name_at}
@@ -18,7 +16,7 @@ use Rattle.read_bytes.specs.Numbers.{digits, number}
 use Rattle.read_lines.specs.Lines.{in_line, line_end, line, number_line, ranged_line, name_line}
 use Rattle.read_names.proofs.Spelling.{is_word}
 use Rattle.read_names.proofs.Names.{named, name_reach}
-use Rattle.read_bytes.proofs.Values.{digits_reach, number_reach}
+use Rattle.read_bytes.proofs.Values.{same_some, digits_reach, number_reach}
 use Rattle.read_bytes.proofs.Answers.{came}
 use Rattle.read_lines.proofs.KeyedLines.{Placed, line_is, whole_is, number_line_is, name_line_is, number_held, name_held}
 
@@ -59,7 +57,7 @@ module _ (r x : List ℕ) where
   is_word_kept p w all h = rw (is_word (r ++ x) p w all, is_word r p w all, run_at_kept name_byte p h)
 
   -- names
-  pub name_at_kept : (p : ℕ) {q : ℕ} {n : EndNumber} → name_at r p ≡ Name q n → q < length r → name_at (r ++ x) p ≡ Name q n
+  pub name_at_kept : (p : ℕ) {q : ℕ} {n : Option ℕ} → name_at r p ≡ Some (q, n) → q < length r → name_at (r ++ x) p ≡ Some (q, n)
   unfolding name_at every name_byte
   name_at_kept p e h =
       let n = named r p e in
@@ -68,7 +66,7 @@ module _ (r x : List ℕ) where
       rw (peek_kept p (omega (arith, a.0.ahead)), run_at_kept name_byte p l, run_end_kept name_byte p l, is_word_kept p (bytes "since") refl l, is_word_kept p (bytes "until") refl l) e
 
   -- numbers
-  digits_kept : (k p v : ℕ) {y q : ℕ} → p ≤ length r → digits r k p v ≡ Value y q → q < length r → digits (r ++ x) k p v ≡ Value y q
+  digits_kept : (k p v : ℕ) {y q : ℕ} → p ≤ length r → digits r k p v ≡ (y, q) → q < length r → digits (r ++ x) k p v ≡ (y, q)
   unfolding digits
   digits_kept zero p v h e l = e
   digits_kept (suc k) p v {y} {q} h e l = go (digit (peek r p)) refl (digits_kept k (p + 1) (10 * v + (peek r p - byte "0")))
@@ -76,20 +74,20 @@ module _ (r x : List ℕ) where
       a : p ≤ q
       a = (digits_reach r (suc k) p v h e).0.ahead
 
-      go : (b : Bool) → digit (peek r p) ≡ b → (p + 1 ≤ length r → digits r k (p + 1) (10 * v + (peek r p - byte "0")) ≡ Value y q → q < length r → digits (r ++ x) k (p + 1) (10 * v + (peek r p - byte "0")) ≡ Value y q) → digits (r ++ x) (suc k) p v ≡ Value y q
+      go : (b : Bool) → digit (peek r p) ≡ b → (p + 1 ≤ length r → digits r k (p + 1) (10 * v + (peek r p - byte "0")) ≡ (y, q) → q < length r → digits (r ++ x) k (p + 1) (10 * v + (peek r p - byte "0")) ≡ (y, q)) → digits (r ++ x) (suc k) p v ≡ (y, q)
       go true d i = rw (peek_kept p (omega (arith, a)), d) (i (omega (arith, a)) (rw d at e) l)
       go false d i = rw (peek_kept p (omega (arith, a)), d) (rw d at e)
 
-  pub number_kept : (p : ℕ) {y q : ℕ} → number r p ≡ Value y q → q < length r → number (r ++ x) p ≡ Value y q
+  pub number_kept : (p : ℕ) {y q : ℕ} → number r p ≡ Some (y, q) → q < length r → number (r ++ x) p ≡ Some (y, q)
   unfolding number
   number_kept p {y} {q} e l = go (eqb (peek r p) (byte "0")) refl (between (byte "1") (byte "9") (peek r p)) refl
     where
       a : p + 1 ≤ q
       a = (number_reach r p e).0.ahead
 
-      go : (b : Bool) → eqb (peek r p) (byte "0") ≡ b → (c : Bool) → between (byte "1") (byte "9") (peek r p) ≡ c → number (r ++ x) p ≡ Value y q
+      go : (b : Bool) → eqb (peek r p) (byte "0") ≡ b → (c : Bool) → between (byte "1") (byte "9") (peek r p) ≡ c → number (r ++ x) p ≡ Some (y, q)
       go true f c g = rw (peek_kept p (omega (arith, a)), f) (rw f at e)
-      go false f true g = rw (peek_kept p (omega (arith, a)), f, g) (digits_kept 5 p 0 (omega (arith, a)) (rw (f, g) at e) l)
+      go false f true g = rw (peek_kept p (omega (arith, a)), f, g) (ap Some (digits_kept 5 p 0 (omega (arith, a)) (same_some (rw (f, g) at e)) l))
       go false f false g = rw (peek_kept p (omega (arith, a)), f, g) (rw (f, g) at e)
 
   -- A line.

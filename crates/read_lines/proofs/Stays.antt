@@ -9,10 +9,7 @@ use native.Mathlib.Omega.{arith}
 use borrow.Author.Tests.{ltb-true}
 use lib.Dec.{ltb, eqb}
 use lib.ListN.{length}
-use Rattle.read_names.specs.declared.NameRead.{NameRead}
-use Rattle.read_names.specs.declared.NameRead.TheVariants.{Name, Other}
-use Rattle.read_bytes.specs.declared.numbers.Number.{Number}
-use Rattle.read_bytes.specs.declared.numbers.Number.TheVariants.{Value, Missing}
+use Rattle.std.specs.Prelude.{Option, Some, None}
 use Rattle.read_bytes.specs.Read.{Read, and_then}
 use Rattle.read_bytes.specs.Read.Read.{got, refused}
 use Rattle.read_bytes.specs.Bytes.{pick, between, starts, run_end}
@@ -79,9 +76,9 @@ module _ (s : List ℕ) (p : ℕ) (h : p ≤ length s) (key : List ℕ) (form : 
       then_stays Any (length s) (λ v. v ≤ length s) (line s p key form) (λ v e. whole_number p form e (number s v)) line_stays
       (λ v e f i l. go e (number s v) (placed s p key form f).inside)
     where
-      go : (e : ℕ) (x : Number) → e < length s → Stays Any (length s) (whole_number p form e x)
-      go e (Value x q) l = pick_stays Any (length s) (eqb q e) (got x (e + 1)) (refused form p) (λ _. (tt, omega arith)) h
-      go e Missing l = h
+      go : (e : ℕ) (x : Option (ℕ × ℕ)) → e < length s → Stays Any (length s) (whole_number p form e x)
+      go e (Some (x, q)) l = pick_stays Any (length s) (eqb q e) (got x (e + 1)) (refused form p) (λ _. (tt, omega arith)) h
+      go e None l = h
 
   -- the value of a number's line stands in the text
   value_stays : {x q : ℕ} → number_line s p key form ≡ got x q → p + length key ≤ length s
@@ -105,6 +102,6 @@ module _ (s : List ℕ) (p : ℕ) (h : p ≤ length s) (key : List ℕ) (form : 
       then_stays (λ v. v ≤ length s) (length s) (λ v. v ≤ length s) (line s p key form) (λ v e. whole_name v content e (name_at s v)) line_stays
       (λ v e f i l. go v e (name_at s v) i (placed s p key form f).inside)
     where
-      go : (v e : ℕ) (x : NameRead) → v ≤ length s → e < length s → Stays (λ v. v ≤ length s) (length s) (whole_name v content e x)
-      go v e (Name q n) k l = pick_stays (λ v. v ≤ length s) (length s) (eqb q e) (got v (e + 1)) (refused content v) (λ _. (k, omega arith)) k
-      go v e Other k l = k
+      go : (v e : ℕ) (x : Option (ℕ × Option ℕ)) → v ≤ length s → e < length s → Stays (λ v. v ≤ length s) (length s) (whole_name v content e x)
+      go v e (Some (q, n)) k l = pick_stays (λ v. v ≤ length s) (length s) (eqb q e) (got v (e + 1)) (refused content v) (λ _. (k, omega arith)) k
+      go v e None k l = k

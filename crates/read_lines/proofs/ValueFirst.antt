@@ -8,16 +8,13 @@ use native.Mathlib.Omega.{arith}
 use borrow.Author.Tests.{eqb-true, eq-eqb, ltb-true, lt-ltb, le-ltb, leb-true, le-leb, lt-leb, leb-false}
 use lib.Dec.{leb, ltb, eqb}
 use lib.ListN.{length, get_or}
-use Rattle.read_names.specs.declared.EndNumber.{EndNumber}
-use Rattle.read_names.specs.declared.NameRead.{NameRead}
-use Rattle.read_names.specs.declared.NameRead.TheVariants.{Name, Other}
-use Rattle.read_bytes.specs.declared.numbers.Number.{Number}
-use Rattle.read_bytes.specs.declared.numbers.Number.TheVariants.{Value, Missing}
+use Rattle.std.specs.Prelude.{Option, Some, None}
 use Rattle.read_bytes.specs.Read.Read.{got, refused}
 use Rattle.read_bytes.specs.Bytes.{byte, peek, pick, between, digit, name_byte, starts, run_end}
 use Rattle.read_names.specs.Spellings.{name_at}
 use Rattle.read_bytes.specs.Numbers.{digits, number}
 use Rattle.read_lines.specs.Lines.{in_line, line_end, keyed_at, lf_at, NoName, line, whole_number, whole_name, number_line, ranged_line, ended_number, number_value, ranged_value, name_line}
+use Rattle.read_bytes.proofs.Values.{same_first, same_second, same_some, none_not}
 use Rattle.read_bytes.proofs.Places.{peek_in, inside_test}
 use Rattle.read_bytes.proofs.Runs.{end_more, end_here, end_within}
 use Rattle.read_names.proofs.Names.{named}
@@ -34,32 +31,26 @@ module _ (s : List ℕ) where
       let l = inside_test s p digit refl d in
       end_more in_line s p l (rw (peek_in s p l) (in_line_lem digit refl (peek s p) d))
 
-  digits_on_line : (k p v : ℕ) {x q : ℕ} → digits s k p v ≡ Value x q → line_end s p ≡ line_end s q
+  digits_on_line : (k p v : ℕ) {x q : ℕ} → digits s k p v ≡ (x, q) → line_end s p ≡ line_end s q
   unfolding digits
-  digits_on_line zero p v {x} {q} e = let i : p ≡ q = cc in ap (line_end s) i
+  digits_on_line zero p v e = ap (line_end s) (same_second e)
   digits_on_line (suc k) p v {x} {q} e = go (digit (peek s p)) refl (digits_on_line k (p + 1) (10 * v + (peek s p - byte "0")))
     where
-      go : (b : Bool) → digit (peek s p) ≡ b → (digits s k (p + 1) (10 * v + (peek s p - byte "0")) ≡ Value x q → line_end s (p + 1) ≡ line_end s q) → line_end s p ≡ line_end s q
+      go : (b : Bool) → digit (peek s p) ≡ b → (digits s k (p + 1) (10 * v + (peek s p - byte "0")) ≡ (x, q) → line_end s (p + 1) ≡ line_end s q) → line_end s p ≡ line_end s q
       go true d r = digit_on p d ∙ r (rw d at e)
-      go false d r = let f = rw d at e in let i : p ≡ q = cc in ap (line_end s) i
+      go false d r = ap (line_end s) (same_second (rw d at e))
 
-  number_on_line : (p : ℕ) {x q : ℕ} → number s p ≡ Value x q → line_end s p ≡ line_end s q
+  number_on_line : (p : ℕ) {x q : ℕ} → number s p ≡ Some (x, q) → line_end s p ≡ line_end s q
   unfolding number
   number_on_line p {x} {q} e = go (eqb (peek s p) (byte "0")) refl (between (byte "1") (byte "9") (peek s p)) refl
     where
       go : (b : Bool) → eqb (peek s p) (byte "0") ≡ b → (c : Bool) → between (byte "1") (byte "9") (peek s p) ≡ c → line_end s p ≡ line_end s q
       go true f c g =
-          let a : Value 0 (p + 1) ≡ Value x q = rw f at e in
-          let i : p + 1 ≡ q = cc in
-          digit_on p (rw (eqb-true (peek s p) (byte "0") f)) ∙ ap (line_end s) i
-      go false f true g = digits_on_line 5 p 0 (rw (f, g) at e)
-      go false f false g =
-          let a : Missing ≡ Value x q = rw (f, g) at e in
-          let z : ◌≡◌ {A = ℕ} 0 1 = cc in
-          let w : ⊥ = omega arith in
-          absurd w
+          digit_on p (rw (eqb-true (peek s p) (byte "0") f)) ∙ ap (line_end s) (same_second (same_some (rw f at e)))
+      go false f true g = digits_on_line 5 p 0 (same_some (rw (f, g) at e))
+      go false f false g = absurd (none_not (rw (f, g) at e))
 
-  name_on_line : (p : ℕ) {q : ℕ} {n : EndNumber} → name_at s p ≡ Name q n → line_end s p ≡ line_end s q
+  name_on_line : (p : ℕ) {q : ℕ} {n : Option ℕ} → name_at s p ≡ Some (q, n) → line_end s p ≡ line_end s q
   unfolding name_byte
   name_on_line p e = end_within name_byte in_line (in_line_lem name_byte refl) s p ∙ ap (line_end s) (sym (named s p e).ends)
 
@@ -120,10 +111,10 @@ module _ (s : List ℕ) (p : ℕ) (key : List ℕ) where
       value_line : line_end s (p + length key) ≡ line_end s q → line s p key form ≡ got (p + length key) q
       value_line e = sym (line_is s p key form q (keyed_is k).1 (sym (e ∙ lf_end s q l)) (lf_inside s q l))
 
-      pub number_first : {x : ℕ} → number s (p + length key) ≡ Value x q → got x (q + 1) ≡ number_line s p key form
+      pub number_first : {x : ℕ} → number s (p + length key) ≡ Some (x, q) → got x (q + 1) ≡ number_line s p key form
       number_first {x} e = whole_is x q q form p refl ∙ number_line_is s p key form (value_line (number_on_line s (p + length key) e)) e
 
-      pub name_first : (content : ℕ) {n : EndNumber} → name_at s (p + length key) ≡ Name q n → got (p + length key) (q + 1) ≡ name_line s p key form content
+      pub name_first : (content : ℕ) {n : Option ℕ} → name_at s (p + length key) ≡ Some (q, n) → got (p + length key) (q + 1) ≡ name_line s p key form content
       name_first content e = whole_is (p + length key) q q content (p + length key) refl ∙ name_line_is s p key form (value_line (name_on_line s (p + length key) e)) content e
 
     -- The line's LF is one of the text.
@@ -131,7 +122,7 @@ module _ (s : List ℕ) (p : ℕ) (key : List ℕ) where
     lf_placed {v} {e} {q} h f i = true≢false (sym (lf_yes s e h.inside h.lf) ∙ sym (ap (lf_at s) i) ∙ f)
 
     -- A line whose value does not end so.
-    number_refused : (n : Number) → number s (p + length key) ≡ n → ((e : ℕ) → Placed s p key (p + length key) e → refused form p ≡ whole_number p form e n) → refused form p ≡ number_line s p key form
+    number_refused : (n : Option (ℕ × ℕ)) → number s (p + length key) ≡ n → ((e : ℕ) → Placed s p key (p + length key) e → refused form p ≡ whole_number p form e n) → refused form p ≡ number_line s p key form
     unfolding line number_line
     number_refused n f missed = go (starts s p key && ltb (line_end s (p + length key)) (length s)) refl
       where
@@ -141,20 +132,20 @@ module _ (s : List ℕ) (p : ℕ) (key : List ℕ) where
             let a : line s p key form ≡ got (p + length key) (line_end s (p + length key)) = rw g in
             missed (line_end s (p + length key)) (placed s p key form a) ∙ number_line_is s p key form a f
 
-    pub number_missing : number s (p + length key) ≡ Missing → refused form p ≡ number_line s p key form
-    number_missing f = number_refused Missing f (λ e h. refl)
+    pub number_missing : number s (p + length key) ≡ None → refused form p ≡ number_line s p key form
+    number_missing f = number_refused None f (λ e h. refl)
 
-    pub number_open : {x q : ℕ} → number s (p + length key) ≡ Value x q → lf_at s q ≡ false → refused form p ≡ number_line s p key form
-    number_open {x} {q} f l = number_refused (Value x q) f (λ e h. whole_not x q e form p (lf_placed h l))
+    pub number_open : {x q : ℕ} → number s (p + length key) ≡ Some (x, q) → lf_at s q ≡ false → refused form p ≡ number_line s p key form
+    number_open {x} {q} f l = number_refused (Some (x, q)) f (λ e h. whole_not x q e form p (lf_placed h l))
 
     -- What follows the key of a line is all that is left to read of it,
     number_keyed : keyed_at s p key ≡ true → number_value s p (p + length key) form ≡ number_line s p key form
     unfolding number_value
     number_keyed k = go (number s (p + length key)) refl
       where
-        go : (n : Number) → number s (p + length key) ≡ n → ended_number s p form n ≡ number_line s p key form
-        go Missing f = number_missing f
-        go (Value x q) f = on (lf_at s q) refl
+        go : (n : Option (ℕ × ℕ)) → number s (p + length key) ≡ n → ended_number s p form n ≡ number_line s p key form
+        go None f = number_missing f
+        go (Some (x, q)) f = on (lf_at s q) refl
           where
             on : (b : Bool) → lf_at s q ≡ b → pick b (λ _. got x (q + 1)) (refused form p) ≡ number_line s p key form
             on true l = number_first k l f
@@ -174,17 +165,17 @@ module _ (s : List ℕ) (p : ℕ) (key : List ℕ) where
         let h = placed s p key form a in
         missed h (name_at s v) refl ∙ name_line_is s p key form a content refl
       where
-        missed : Placed s p key v e → (w : NameRead) → name_at s v ≡ w → refused content v ≡ whole_name v content e w
-        missed h (Name q n) f = whole_not v q e content v (lf_placed h (never q n (sym (ap (name_at s) h.value) ∙ f)))
-        missed h Other f = refl
+        missed : Placed s p key v e → (w : Option (ℕ × Option ℕ)) → name_at s v ≡ w → refused content v ≡ whole_name v content e w
+        missed h (Some (q, n)) f = whole_not v q e content v (lf_placed h (never q n (sym (ap (name_at s) h.value) ∙ f)))
+        missed h None f = refl
 
 -- The number that follows a key: none, one with an LF after it, or one without.
 module _ (s : List ℕ) (p v form : ℕ) where
-  pub value_missing : number s v ≡ Missing → refused form p ≡ number_value s p v form
+  pub value_missing : number s v ≡ None → refused form p ≡ number_value s p v form
   unfolding number_value
   value_missing f = rw f
 
-  module _ {x q : ℕ} (f : number s v ≡ Value x q) where
+  module _ {x q : ℕ} (f : number s v ≡ Some (x, q)) where
     pub value_ended : lf_at s q ≡ true → got x (q + 1) ≡ number_value s p v form
     unfolding number_value
     value_ended l = rw (f, l)
@@ -195,11 +186,8 @@ module _ (s : List ℕ) (p v form : ℕ) where
 
 -- Where no name was read, or one that no LF follows.
 module _ (s : List ℕ) (v : ℕ) where
-  pub other_no_name : name_at s v ≡ Other → NoName s v
-  other_no_name f q n e =
-      let z : ◌≡◌ {A = ℕ} 0 1 = cc in
-      let w : ⊥ = omega arith in
-      absurd w
+  pub other_no_name : name_at s v ≡ None → NoName s v
+  other_no_name f q n e = absurd (none_not (sym f ∙ e))
 
-  pub open_no_name : {q : ℕ} {n : EndNumber} → name_at s v ≡ Name q n → lf_at s q ≡ false → NoName s v
-  open_no_name {q} f l r m e = let i : q ≡ r = cc in rw i at l
+  pub open_no_name : {q : ℕ} {n : Option ℕ} → name_at s v ≡ Some (q, n) → lf_at s q ≡ false → NoName s v
+  open_no_name f l r m e = let i = same_first (same_some (sym f ∙ e)) in rw i at l

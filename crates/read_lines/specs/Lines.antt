@@ -1,23 +1,16 @@
 -- Lines with a key and a value, and lines one after another (01, "The sheet", "Readings" and "Numbers of refusal").
 -- Assumes nothing. `form` is the number of the refusal for a line's form, and `content` that for its content.
-use Rattle.std.specs.Prelude.{◌≡◌, ℕ, zero, suc, ◌+◌, List, [], ◌∷◌, ◌++◌, Bool, false, not, ◌&&◌, length, leb, ltb, eqb}
-use Rattle.read_lines.specs.declared.Step.{Step}
-use Rattle.read_lines.specs.declared.Step.TheVariants.{Got, Refused}
-use Rattle.read_names.specs.declared.EndNumber.{EndNumber}
-use Rattle.read_names.specs.declared.NameRead.{NameRead}
-use Rattle.read_names.specs.declared.NameRead.TheVariants.{Name, Other}
-use Rattle.read_bytes.specs.declared.numbers.Number.{Number}
-use Rattle.read_bytes.specs.declared.numbers.Number.TheVariants.{Value, Missing}
-use Rattle.read_bytes.specs.Read.{Read, and_then}
+use Rattle.std.specs.Prelude.{◌≡◌, ℕ, zero, suc, ◌+◌, List, [], ◌∷◌, ◌++◌, Bool, false, not, ◌&&◌, length, leb, ltb, eqb, Option, Some, None, Result}
+use Rattle.spec_refusals.specs.declared.Refusal.{Refusal}
+use Rattle.read_bytes.specs.Read.{Read, and_then, said}
 use Rattle.read_bytes.specs.Read.Read.{got, refused}
 use Rattle.read_bytes.specs.Bytes.{byte, peek, pick, between, starts, run_end}
 use Rattle.read_names.specs.Spellings.{name_at}
 use Rattle.read_bytes.specs.Numbers.{number}
 
--- What each case of an answer of a reader of lines says.
-abbrev pub says : Step → Read ℕ
-says (Got v q) = got v q
-says (Refused n p) = refused n p
+-- What an answer of a reader of lines says: a value with the place after it, or a refusal.
+abbrev pub says : Result (ℕ × ℕ) Refusal → Read ℕ
+says = said (λ x. got x.0 x.1)
 
 -- Is b no LF?
 unfoldable pub in_line : ℕ → Bool
@@ -46,14 +39,14 @@ abbrev pub whole : ℕ → ℕ → ℕ → ℕ → ℕ → Read ℕ
 whole x q e n p = pick (eqb q e) (λ _. got x (e + 1)) (refused n p)
 
 -- A number that takes the line at p whole.
-abbrev pub whole_number : ℕ → ℕ → ℕ → Number → Read ℕ
-whole_number p form e (Value x q) = whole x q e form p
-whole_number p form e Missing = refused form p
+abbrev pub whole_number : ℕ → ℕ → ℕ → Option (ℕ × ℕ) → Read ℕ
+whole_number p form e (Some (x, q)) = whole x q e form p
+whole_number p form e None = refused form p
 
 -- A name that takes the line whole from its value's place v on. Its place is its value.
-abbrev pub whole_name : ℕ → ℕ → ℕ → NameRead → Read ℕ
-whole_name v content e (Name q n) = whole v q e content v
-whole_name v content e Other = refused content v
+abbrev pub whole_name : ℕ → ℕ → ℕ → Option (ℕ × Option ℕ) → Read ℕ
+whole_name v content e (Some (q, n)) = whole v q e content v
+whole_name v content e None = refused content v
 
 -- The line at p with a key and a number: the number, and the place after the line. Or its form is refused at p.
 unfoldable pub number_line : List ℕ → ℕ → List ℕ → ℕ → Read ℕ
@@ -65,9 +58,9 @@ ranged_line s p key form content lo hi =
     and_then (number_line s p key form) (λ x q. pick (between lo hi x) (λ _. got x q) (refused content (p + length key)))
 
 -- A number with an LF after it, of the line at p: the number, and the place after the line. Or the line's form is refused at p.
-abbrev pub ended_number : List ℕ → ℕ → ℕ → Number → Read ℕ
-ended_number s p form (Value x q) = pick (lf_at s q) (λ _. got x (q + 1)) (refused form p)
-ended_number s p form Missing = refused form p
+abbrev pub ended_number : List ℕ → ℕ → ℕ → Option (ℕ × ℕ) → Read ℕ
+ended_number s p form (Some (x, q)) = pick (lf_at s q) (λ _. got x (q + 1)) (refused form p)
+ended_number s p form None = refused form p
 
 -- What follows the key of the line at p, from v on: a number with an LF after it.
 unfoldable pub number_value : List ℕ → ℕ → ℕ → ℕ → Read ℕ
@@ -84,7 +77,7 @@ name_line s p key form content = and_then (line s p key form) (λ v e. whole_nam
 
 -- No name from v on takes its line whole.
 abbrev pub NoName : List ℕ → ℕ → Type 0
-NoName s v = (q : ℕ) (n : EndNumber) → name_at s v ≡ Name q n → lf_at s q ≡ false
+NoName s v = (q : ℕ) (n : Option ℕ) → name_at s v ≡ Some (q, n) → lf_at s q ≡ false
 
 -- What was read, t, and n things more that P reads in turn, which sees those before.
 unfoldable pub in_turn : {A : Type 0} → (List A → ℕ → Read A) → ℕ → List A → ℕ → Read (List A)

@@ -1,45 +1,38 @@
 // Lines of a text: a key, a value, and LF. Assumes nothing of the text.
-// `form` is the number of the refusal for a line's form, at the line, and `content` that for its content, at the value.
+// `form` is the fault of a line that is not of its form, at the line, and `content` that of a value that is wrong, at the value. What is read comes with the place after it.
 #![tactic(auto)]
 
 ghost use Rattle.std.specs.Prelude.{◌≡◌, ◌+◌, ◌≤◌, length};
+ghost use Rattle.spec_refusals.specs.Numbers.{fault_number};
 ghost use Rattle.read_lines.specs.Lines.{says, line_end, keyed_at, lf_at, NoName, line, number_value, ranged_value, ranged_line, name_line};
 
 use read_bytes::bytes::stands_at;
-use read_bytes::numbers::{Number, number_at};
-use read_names::{NameRead, name_at};
-
-// What a reader of lines answers: a value and the place after it, or a refusal's number and place.
-#[derive(Drop)]
-pub enum Step {
-    Got(usize, usize),
-    Refused(usize, usize),
-}
+use read_bytes::numbers::number_at;
+use read_names::name_at;
+use spec_refusals::{Fault, Refusal};
 
 // The place of the first LF from `at` on, or the text's length. The bytes are looked at one by one.
 fn rest_end(s: &[u8], at: usize) -> usize
     ensures { result ≡ line_end s.now at }
 {
-    let mut i = at;
-    while i < s.len() {
+    for i in at..s.len() {
         if s[i] == b'\n' {
             return i;
         }
-        i += 1;
     }
-    i
+    if at < s.len() { s.len() } else { at }
 }
 
-// The same, four bytes a turn while four are left.
+// The same, four bytes a turn. Where none of these is LF, the few bytes left tell, and they are looked at one by one.
+// std's `position` looks at a byte a turn, and costs half as many instructions again.
 pub fn line_end(s: &[u8], at: usize) -> usize
     ensures { result ≡ line_end s.now at }
 {
     if s.len() < 4 {
         return rest_end(s, at);
     }
-    let last = s.len() - 4;
-    let mut i = at;
-    while i <= last {
+    let last = s.len() - 3;
+    for i in (at..last).step_by(4) {
         if s[i] == b'\n' {
             return i;
         }
@@ -52,9 +45,8 @@ pub fn line_end(s: &[u8], at: usize) -> usize
         if s[i + 3] == b'\n' {
             return i + 3;
         }
-        i += 4;
     }
-    rest_end(s, i)
+    rest_end(s, at)
 }
 
 // Does the key stand at `at`, and the text reach to the place of its value?
@@ -78,34 +70,42 @@ pub fn lf_at(s: &[u8], at: usize) -> bool
 }
 
 // The line at `at` with the key `key`: the place of its value, and that of its LF.
-pub fn line_at(s: &[u8], at: usize, key: &[u8], form: usize) -> Step
+pub fn line_at(s: &[u8], at: usize, key: &[u8], form: Fault) -> Result<(usize, usize), Refusal>
     requires { at ≤ length s.now }
-    ensures { says result ≡ line s.now at key.now form }
+    ensures { says result ≡ line s.now at key.now (fault_number form) }
 {
     if keyed(s, at, key) {
         let v = at + key.len();
         let e = line_end(s, v);
         if e < s.len() {
-            return Step::Got(v, e);
+            return Ok((v, e));
         }
     }
-    Step::Refused(form, at)
+    Err(Refusal {
+        fault: form,
+        place: at,
+    })
 }
 
 // The number at `v` and the LF after it, of the line at `at`: the number, and the place after the line.
-fn number_value(s: &[u8], at: usize, v: usize, form: usize) -> Step
+fn number_value(s: &[u8], at: usize, v: usize, form: Fault) -> Result<(usize, usize), Refusal>
     requires { v ≤ length s.now }
-    ensures { says result ≡ number_value s.now at v form }
+    ensures { says result ≡ number_value s.now at v (fault_number form) }
 {
-    let d = number_at(s, v);
-    let Number::Value(x, q) = d else {
-        return Step::Refused(form, at);
+    let Some((x, q)) = number_at(s, v) else {
+        return Err(Refusal {
+            fault: form,
+            place: at,
+        });
     };
     if lf_at(s, q) {
         let next = q + 1;
-        Step::Got(x, next)
+        Ok((x, next))
     } else {
-        Step::Refused(form, at)
+        Err(Refusal {
+            fault: form,
+            place: at,
+        })
     }
 }
 
@@ -114,25 +114,28 @@ pub fn ranged_value(
     s: &[u8],
     at: usize,
     v: usize,
-    form: usize,
-    content: usize,
+    form: Fault,
+    content: Fault,
     lo: usize,
     hi: usize,
-) -> Step
+) -> Result<(usize, usize), Refusal>
     requires { v ≤ length s.now }
-    ensures { says result ≡ ranged_value s.now at v form content lo hi }
+    ensures { says result ≡ ranged_value s.now at v (fault_number form) (fault_number content) lo hi }
 {
-    let l = number_value(s, at, v, form);
-    let Step::Got(x, q) = l else {
-        return l;
-    };
+    let (x, q) = number_value(s, at, v, form)?;
     if x < lo {
-        return Step::Refused(content, v);
+        return Err(Refusal {
+            fault: content,
+            place: v,
+        });
     }
     if hi < x {
-        return Step::Refused(content, v);
+        return Err(Refusal {
+            fault: content,
+            place: v,
+        });
     }
-    Step::Got(x, q)
+    Ok((x, q))
 }
 
 // The line at `at` with the key `key` and such a number.
@@ -140,50 +143,67 @@ pub fn ranged_line(
     s: &[u8],
     at: usize,
     key: &[u8],
-    form: usize,
-    content: usize,
+    form: Fault,
+    content: Fault,
     lo: usize,
     hi: usize,
-) -> Step
+) -> Result<(usize, usize), Refusal>
     requires { at ≤ length s.now }
-    ensures { says result ≡ ranged_line s.now at key.now form content lo hi }
+    ensures { says result ≡ ranged_line s.now at key.now (fault_number form) (fault_number content) lo hi }
 {
     if keyed(s, at, key) {
         let v = at + key.len();
         ranged_value(s, at, v, form, content, lo, hi)
     } else {
-        Step::Refused(form, at)
+        Err(Refusal {
+            fault: form,
+            place: at,
+        })
     }
 }
 
 // The refusal of a line whose value is no name that takes it whole: for its form, where the key or the LF is missing, or for its content.
-fn no_name(s: &[u8], at: usize, key: &[u8], form: usize, content: usize) -> Step
+fn no_name(
+    s: &[u8],
+    at: usize,
+    key: &[u8],
+    form: Fault,
+    content: Fault,
+) -> Result<(usize, usize), Refusal>
     requires { (at ≤ length s.now) × NoName s.now (at + length key.now) }
-    ensures { says result ≡ name_line s.now at key.now form content }
+    ensures { says result ≡ name_line s.now at key.now (fault_number form) (fault_number content) }
 {
-    let l = line_at(s, at, key, form);
-    let Step::Got(v, _) = l else {
-        return l;
-    };
-    Step::Refused(content, v)
+    let (v, _) = line_at(s, at, key, form)?;
+    Err(Refusal {
+        fault: content,
+        place: v,
+    })
 }
 
 // The line at `at` with the key `key` and a name: the place of the name, and the place after the line.
-pub fn name_line(s: &[u8], at: usize, key: &[u8], form: usize, content: usize) -> Step
+pub fn name_line(
+    s: &[u8],
+    at: usize,
+    key: &[u8],
+    form: Fault,
+    content: Fault,
+) -> Result<(usize, usize), Refusal>
     requires { at ≤ length s.now }
-    ensures { says result ≡ name_line s.now at key.now form content }
+    ensures { says result ≡ name_line s.now at key.now (fault_number form) (fault_number content) }
 {
     if !keyed(s, at, key) {
-        return Step::Refused(form, at);
+        return Err(Refusal {
+            fault: form,
+            place: at,
+        });
     }
     let v = at + key.len();
-    let w = name_at(s, v);
-    let NameRead::Name(q, _) = w else {
+    let Some((q, _)) = name_at(s, v) else {
         return no_name(s, at, key, form, content);
     };
     if lf_at(s, q) {
         let next = q + 1;
-        Step::Got(v, next)
+        Ok((v, next))
     } else {
         no_name(s, at, key, form, content)
     }

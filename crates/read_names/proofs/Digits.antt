@@ -7,7 +7,6 @@ use Prim.Native.Nat.{ℕ, zero, suc, ◌+◌, ◌-◌, ◌*◌, ◌<◌, ◌≤�
 use native.Mathlib.Omega.{arith}
 use native.Mathlib.Decide.{dec_lt}
 use lib.ListN.{length}
-use Rattle.read_bytes.specs.declared.numbers.Number.TheVariants.{Value}
 use Rattle.read_bytes.specs.Bytes.{byte, peek, digit, every}
 use Rattle.read_bytes.specs.Numbers.{decimal, digits}
 use Rattle.read_bytes.proofs.Tests.{between_is}
@@ -66,7 +65,7 @@ digits_one b c d f h k lead lead' e = go (dec_lt (length d) (length f)) (dec_lt 
     go (no l) (no m) = (decimal_same 0 0 (b ∷ d) (c ∷ f) h k (omega arith) e).1
 
 -- All digits are read where there are at most k, and k of them where there are as many.
-pub digits_all : (k v : ℕ) (d t : List ℕ) → every digit d ≡ true → digit (peek t 0) ≡ false → length d ≤ k → digits (d ++ t) k 0 v ≡ Value (decimal v d) (length d)
+pub digits_all : (k v : ℕ) (d t : List ℕ) → every digit d ≡ true → digit (peek t 0) ≡ false → length d ≤ k → digits (d ++ t) k 0 v ≡ (decimal v d, length d)
 unfolding digits decimal peek
 digits_all zero v [] t h z n = refl
 digits_all (suc k) v [] t h z n = rw z
@@ -74,9 +73,9 @@ digits_all zero v (b ∷ d) t h z n = absurd (omega arith)
 digits_all (suc k) v (b ∷ d) t h z n =
     let p = digits_parts b d h in
     let e : 1 + length d ≡ suc (length d) = omega arith in
-    rw (p.0, digits_later (b ∷ []) (d ++ t) 0 k (10 * v + (b - byte "0")), digits_all k (10 * v + (b - byte "0")) d t p.1 z (omega arith)) (ap (Value (decimal (10 * v + (b - byte "0")) d)) e)
+    rw (p.0, digits_later (b ∷ []) (d ++ t) 0 k (10 * v + (b - byte "0")), digits_all k (10 * v + (b - byte "0")) d t p.1 z (omega arith)) (ap (λ (n : ℕ). (decimal (10 * v + (b - byte "0")) d, n)) e)
 
-pub digits_first : (k v : ℕ) (d t : List ℕ) → every digit d ≡ true → k ≤ length d → (y : ℕ) × (digits (d ++ t) k 0 v ≡ Value y k)
+pub digits_first : (k v : ℕ) (d t : List ℕ) → every digit d ≡ true → k ≤ length d → (y : ℕ) × (digits (d ++ t) k 0 v ≡ (y, k))
 unfolding digits peek
 digits_first zero v d t h n = (v, refl)
 digits_first (suc k) v [] t h n = absurd (omega arith)
@@ -84,4 +83,4 @@ digits_first (suc k) v (b ∷ d) t h n =
     let p = digits_parts b d h in
     let r = digits_first k (10 * v + (b - byte "0")) d t p.1 (omega arith) in
     let e : 1 + k ≡ suc k = omega arith in
-    (r.0, rw (p.0, digits_later (b ∷ []) (d ++ t) 0 k (10 * v + (b - byte "0")), r.1) (ap (Value r.0) e))
+    (r.0, rw (p.0, digits_later (b ∷ []) (d ++ t) 0 k (10 * v + (b - byte "0")), r.1) (ap (λ (n : ℕ). (r.0, n)) e))

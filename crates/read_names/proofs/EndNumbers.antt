@@ -10,17 +10,15 @@ use borrow.Author.Tests.{eq-eqb, ne_eqb, eqb-false, le-leb, lt-leb, not-true}
 use lib.Dec.{leb, eqb}
 use lib.ListN.{length, get_or, take, drop, take-append-drop}
 use lib.Seq.{length-take-le}
+use Rattle.std.specs.Prelude.{Option, Some, None}
 use Rattle.spec_limits.specs.Limits.{most_end_number}
-use Rattle.read_names.specs.declared.EndNumber.TheVariants.{Number, Absent}
-use Rattle.read_bytes.specs.declared.numbers.Number as read
-use Rattle.read_bytes.specs.declared.numbers.Number.TheVariants.{Value, Missing}
 use Rattle.read_bytes.specs.Bytes.{bytes, byte, peek, pick, between, digit, every}
 use Rattle.read_bytes.specs.Numbers.{decimal, digits, number}
 use Rattle.read_names.specs.EndNumbers.{end_digits, stem, none, is_end_number, number_of, end_number, well_ended}
 use Rattle.read_bytes.proofs.Places.{drop_in}
 use Rattle.read_bytes.proofs.Tests.{between_is, between_in}
 use Rattle.read_bytes.proofs.Values.{number_zero, number_some, number_none}
-use Rattle.read_bytes.proofs.Later.{later_number, number_later}
+use Rattle.read_bytes.proofs.Later.{later_some, number_later}
 use Rattle.read_names.proofs.Digits.{digits_parts, digit_low, decimal_more, digits_one, digits_all, digits_first}
 
 -- ---- the two parts of a name
@@ -68,10 +66,10 @@ digit_before w k l e h = rw (drop_in w k 0 l, e, h)
 -- ---- how the digits are read
 
 -- What the reader of numbers makes of the digits d at i: there are none; it takes them whole; or it takes fewer, and they are no end number.
-pub data EndRead (i : ℕ) : List ℕ → read.Number → Type 0 where
-  missing : EndRead i [] Missing
-  whole : {b : ℕ} {d : List ℕ} → none d || not (eqb b (byte "0")) ≡ true → EndRead i (b ∷ d) (Value (decimal 0 (b ∷ d)) (i + length (b ∷ d)))
-  part : {d : List ℕ} {x q : ℕ} → is_end_number d ≡ false → q < i + length d → EndRead i d (Value x q)
+pub data EndRead (i : ℕ) : List ℕ → Option (ℕ × ℕ) → Type 0 where
+  missing : EndRead i [] None
+  whole : {b : ℕ} {d : List ℕ} → none d || not (eqb b (byte "0")) ≡ true → EndRead i (b ∷ d) (Some (decimal 0 (b ∷ d), i + length (b ∷ d)))
+  part : {d : List ℕ} {x q : ℕ} → is_end_number d ≡ false → q < i + length d → EndRead i d (Some (x, q))
 
 -- More than four digits are over 9,999.
 large : (b : ℕ) (d : List ℕ) → byte "1" ≤ b → 4 ≤ length d → is_end_number (b ∷ d) ≡ false
@@ -80,13 +78,13 @@ large b d l n =
     let m = decimal_more 0 (10 * 0 + (b - byte "0")) (bytes "9999") d (omega arith) refl (omega arith) in
     rw (lt-leb (decimal 0 (b ∷ d)) most_end_number m) (and-false (none d || not (eqb b (byte "0"))))
 
-zero_first : (d : List ℕ) → EndRead 0 (byte "0" ∷ d) (Value 0 1)
+zero_first : (d : List ℕ) → EndRead 0 (byte "0" ∷ d) (Some (0, 1))
 unfolding decimal is_end_number
 zero_first [] = whole {d = []} refl
 zero_first (c ∷ d) = part {d = byte "0" ∷ c ∷ d} {q = 1} refl (omega arith)
 
 module _ (t : List ℕ) (stops : digit (peek t 0) ≡ false) where
-  no_number : number t 0 ≡ Missing
+  no_number : number t 0 ≡ None
   no_number = sym (number_none t 0 (peek t 0) refl (λ e. true≢false (sym (ap digit e) ∙ stops)) (low (between (byte "1") (byte "9") (peek t 0)) refl))
     where
       low : (c : Bool) → between (byte "1") (byte "9") (peek t 0) ≡ c → c ≡ false
@@ -95,10 +93,10 @@ module _ (t : List ℕ) (stops : digit (peek t 0) ≡ false) where
           let w = between_is (byte "1") (byte "9") (peek t 0) e in
           absurd (true≢false (sym (between_in (byte "0") (byte "9") (peek t 0) (omega (arith, w.0)) w.1) ∙ stops))
 
-  some_first : (b : ℕ) (d : List ℕ) → byte "1" ≤ b → every digit (b ∷ d) ≡ true → EndRead 0 (b ∷ d) (digits ((b ∷ d) ++ t) 5 0 0)
+  some_first : (b : ℕ) (d : List ℕ) → byte "1" ≤ b → every digit (b ∷ d) ≡ true → EndRead 0 (b ∷ d) (Some (digits ((b ∷ d) ++ t) 5 0 0))
   some_first b d l h = go (dec_lt (length d) 5)
     where
-      go : Dec (length d < 5) → EndRead 0 (b ∷ d) (digits ((b ∷ d) ++ t) 5 0 0)
+      go : Dec (length d < 5) → EndRead 0 (b ∷ d) (Some (digits ((b ∷ d) ++ t) 5 0 0))
       go (yes n) =
           let z : length (b ∷ d) ≡ 0 + length (b ∷ d) = omega arith in
           rw (digits_all 5 0 (b ∷ d) t h stops (omega arith), z) (whole {b = b} {d = d} (rw (ne_eqb b (byte "0") (omega arith)) (or-true (none d))))
@@ -122,7 +120,7 @@ module _ (t : List ℕ) (stops : digit (peek t 0) ≡ false) where
           let n : byte "1" ≤ b = omega arith in
           rw (← number_some ((b ∷ d) ++ t) 0 b refl n low.1) (some_first b d n h)
 
-read_later : (i : ℕ) {d : List ℕ} {n : read.Number} → EndRead 0 d n → EndRead i d (later_number i n)
+read_later : (i : ℕ) {d : List ℕ} {n : Option (ℕ × ℕ)} → EndRead 0 d n → EndRead i d (later_some i n)
 read_later i missing = missing
 read_later i (whole {b} {d} h) =
     let z : i + (0 + length (b ∷ d)) ≡ i + length (b ∷ d) = omega arith in
@@ -134,36 +132,36 @@ pub end_read : (s : List ℕ) (i : ℕ) (d t : List ℕ) → i ≤ length s → 
 end_read s i d t l e h z =
     let n = length-take-le i s l in
     let m : i + 0 ≡ i = omega arith in
-    let o : number s i ≡ later_number i (number (d ++ t) 0) = rw (take-append-drop i s, n, e, m) at (number_later (take i s) (drop i s) 0) in
+    let o : number s i ≡ later_some i (number (d ++ t) 0) = rw (take-append-drop i s, n, e, m) at (number_later (take i s) (drop i s) 0) in
     rw o (read_later i (first_read t z d h))
 
 -- So each answer says what the digits say.
 module _ {i : ℕ} where
-  pub read_missing : {d : List ℕ} → EndRead i d Missing → Absent ≡ number_of d
+  pub read_missing : {d : List ℕ} → EndRead i d None → None ≡ number_of d
   unfolding number_of is_end_number
   read_missing missing = refl
 
-  pub read_part : {d : List ℕ} {x q : ℕ} → EndRead i d (Value x q) → (q ≡ i + length d → ⊥) → Absent ≡ number_of d
+  pub read_part : {d : List ℕ} {x q : ℕ} → EndRead i d (Some (x, q)) → (q ≡ i + length d → ⊥) → None ≡ number_of d
   unfolding number_of
   read_part (whole h) n = absurd (n refl)
   read_part (part e l) n = rw e
 
-  pub read_number : {d : List ℕ} {x q : ℕ} → EndRead i d (Value x q) → q ≡ i + length d → x ≤ most_end_number → Number x ≡ number_of d
+  pub read_number : {d : List ℕ} {x q : ℕ} → EndRead i d (Some (x, q)) → q ≡ i + length d → x ≤ most_end_number → Some x ≡ number_of d
   unfolding number_of is_end_number
   read_number (whole {b} {d} h) e l = rw (h, le-leb (decimal 0 (b ∷ d)) most_end_number l)
   read_number (part f n) e l = absurd (omega arith)
 
-  pub read_large : {d : List ℕ} {x q : ℕ} → EndRead i d (Value x q) → q ≡ i + length d → most_end_number < x → Absent ≡ number_of d
+  pub read_large : {d : List ℕ} {x q : ℕ} → EndRead i d (Some (x, q)) → q ≡ i + length d → most_end_number < x → None ≡ number_of d
   unfolding number_of is_end_number
   read_large (whole {b} {d} h) e l = rw (h, lt-leb (decimal 0 (b ∷ d)) most_end_number l)
   read_large (part f n) e l = absurd (omega arith)
 
 -- Where the digits say that there is no number, they are no end number.
-number_not : (d : List ℕ) → number_of d ≡ Absent → is_end_number d ≡ false
+number_not : (d : List ℕ) → number_of d ≡ None → is_end_number d ≡ false
 unfolding number_of
 number_not d e = go (is_end_number d) refl e
   where
-    go : (b : Bool) → is_end_number d ≡ b → pick b (λ _. Number (decimal 0 d)) Absent ≡ Absent → b ≡ false
+    go : (b : Bool) → is_end_number d ≡ b → pick b (λ _. Some (decimal 0 d)) None ≡ None → b ≡ false
     go true i f = let z : ◌≡◌ {A = ℕ} 0 1 = cc in absurd (omega arith)
     go false i f = refl
 
@@ -221,7 +219,7 @@ no_zero b (c ∷ d) h e l =
     omega (arith, m.0)
 
 -- The number of an end number.
-number_value_lem : (d : List ℕ) → is_end_number d ≡ true → number_of d ≡ Number (decimal 0 d)
+number_value_lem : (d : List ℕ) → is_end_number d ≡ true → number_of d ≡ Some (decimal 0 d)
 unfolding number_of
 number_value_lem d e = rw e
 

@@ -9,12 +9,8 @@ use native.Mathlib.Decide.{dec_lt}
 use lib.Dec.{eqb}
 use lib.ListN.{length, get_or, take, drop, drop_of_length-le, length-append, length-drop, take-append-drop}
 use lib.Seq.{length-take-le, take-append_seam, drop-append_seam, drop-drop, get_or-drop, get_or-take}
+use Rattle.std.specs.Prelude.{Option, Some, None}
 use Rattle.spec_limits.specs.Limits.{most_end_number}
-use Rattle.read_names.specs.declared.EndNumber.{EndNumber}
-use Rattle.read_names.specs.declared.EndNumber.TheVariants.{Number, Absent}
-use Rattle.read_names.specs.declared.NameRead.{NameRead}
-use Rattle.read_names.specs.declared.NameRead.TheVariants.{Name, Other}
-use Rattle.read_bytes.specs.declared.numbers.Number.TheVariants.{Value, Missing}
 use Rattle.read_bytes.specs.Bytes.{byte, peek, pick, digit, name_byte, every, run_end}
 use Rattle.read_bytes.specs.Numbers.{number}
 use Rattle.read_names.specs.EndNumbers.{end_digits, stem, number_of, end_number, well_ended}
@@ -145,17 +141,17 @@ module _ {s : List ℕ} {p e : ℕ} (h : Spelled s p e) where
   }
 
   -- A name up to e, if it ends well.
-  abbrev Ended : NameRead → Type 0
-  Ended r = r ≡ pick (well_ended (spelling_at s p)) (λ _. Name e (end_number (spelling_at s p))) Other
+  abbrev Ended : Option (ℕ × Option ℕ) → Type 0
+  Ended r = r ≡ pick (well_ended (spelling_at s p)) (λ _. Some (e, end_number (spelling_at s p))) None
 
   module _ {i : ℕ} (z : i ≡ stem_end s p) where
     ends_here : well_ended (take (e - i) (drop i s)) ≡ well_ended (spelling_at s p)
     ends_here = ap well_ended (digits_slice z) ∙ ends_alike (spelling_at s p)
 
-    pub name_well : {n : EndNumber} → n ≡ number_of (take (e - i) (drop i s)) → well_ended (take (e - i) (drop i s)) ≡ true → Ended (Name e n)
-    name_well read_is a = rw (sym ends_here ∙ a) (ap (Name e) (read_is ∙ ap number_of (digits_slice z)))
+    pub name_well : {n : Option ℕ} → n ≡ number_of (take (e - i) (drop i s)) → well_ended (take (e - i) (drop i s)) ≡ true → Ended (Some (e, n))
+    name_well read_is a = rw (sym ends_here ∙ a) (ap (λ (n : Option ℕ). Some (e, n)) (read_is ∙ ap number_of (digits_slice z)))
 
-    pub name_wrong : well_ended (take (e - i) (drop i s)) ≡ false → Ended Other
+    pub name_wrong : well_ended (take (e - i) (drop i s)) ≡ false → Ended None
     name_wrong a = rw (sym ends_here ∙ a)
 
 -- ---- what they say
@@ -175,20 +171,20 @@ module _ {s : List ℕ} {i e : ℕ} (h : DigitsTo s i e) where
       let parts_are : drop i s ≡ take (e - i) (drop i s) ++ drop e s = sym (take-append-drop (e - i) (drop i s)) ∙ ap (λ (l : List ℕ). take (e - i) (drop i s) ++ l) (drop-drop (e - i) i s ∙ ap (λ (k : ℕ). drop k s) n) in
       end_read s i (take (e - i) (drop i s)) (drop e s) digits_inside parts_are h.digits (rw (get_or-drop e s 0 (byte "\n"), o) h.stops)
 
-  pub end_missing : number s i ≡ Missing → Absent ≡ number_of (take (e - i) (drop i s))
+  pub end_missing : number s i ≡ None → None ≡ number_of (take (e - i) (drop i s))
   end_missing a = read_missing (subst (EndRead i (take (e - i) (drop i s))) a read_here)
 
-  module _ {x q : ℕ} (a : number s i ≡ Value x q) where
-    read_value : EndRead i (take (e - i) (drop i s)) (Value x q)
+  module _ {x q : ℕ} (a : number s i ≡ Some (x, q)) where
+    read_value : EndRead i (take (e - i) (drop i s)) (Some (x, q))
     read_value = subst (EndRead i (take (e - i) (drop i s))) a read_here
 
-    pub end_part : (q ≡ e → ⊥) → Absent ≡ number_of (take (e - i) (drop i s))
+    pub end_part : (q ≡ e → ⊥) → None ≡ number_of (take (e - i) (drop i s))
     end_part n = read_part read_value (λ z. n (z ∙ many))
 
-    pub end_is : q ≡ e → x ≤ most_end_number → Number x ≡ number_of (take (e - i) (drop i s))
+    pub end_is : q ≡ e → x ≤ most_end_number → Some x ≡ number_of (take (e - i) (drop i s))
     end_is z = read_number read_value (z ∙ sym many)
 
-    pub end_large : q ≡ e → most_end_number < x → Absent ≡ number_of (take (e - i) (drop i s))
+    pub end_large : q ≡ e → most_end_number < x → None ≡ number_of (take (e - i) (drop i s))
     end_large z = read_large read_value (z ∙ sym many)
 
   -- ---- whether they end a name well

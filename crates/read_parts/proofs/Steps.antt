@@ -3,7 +3,6 @@
 use mathlib.Core.Path.{◌≡◌, refl, sym, ap, ◌∙◌}
 use mathlib.Core.Bool.{Bool, true, false, and-eq-true_iff}
 use mathlib.Core.List.{List, [], ◌∷◌}
-use mathlib.Core.Logic.{◌⊎◌, inl, inr, ⊎_elim}
 use mathlib.Core.Option.{Option, some}
 use Prim.Native.Nat.{ℕ, zero, suc, ◌+◌, ◌-◌, ◌*◌, ◌<◌, ◌≤◌}
 use native.Mathlib.Omega.{arith}
@@ -28,12 +27,10 @@ use Rattle.read_names.proofs.Names.{named}
 use Rattle.read_index.proofs.NameTexts.{text_name}
 use Rattle.read_index.proofs.Places.{names_in_many}
 use Rattle.read_index.proofs.Looking.{found_text}
-use Rattle.spec_ticks.proofs.Bits.{lt_or_ge}
 use Rattle.spec_tilco.specs.Formula.{Op, And, Or, Implies, Iff, Written}
-use Rattle.read_interval.specs.declared.Offsets.{Offsets}
-use Rattle.read_interval.specs.declared.Offsets.TheVariants.{Over}
+use Rattle.std.specs.Prelude.{Ok}
 use Rattle.read_interval.specs.Interval.{interval}
-use Rattle.read_interval.proofs.Intervals.{one_of_lem_lem, none_of, interval_reach}
+use Rattle.read_interval.proofs.Intervals.{interval_reach}
 use Rattle.read_parts.specs.FormulaText.{Reader, declared, offsets_then, times, sign_text, repeats, more, formula, negated, then_paren, in_parens, second, since_until, name_or_keep, plain_part_in, inside, plain_part}
 
 -- ---- signs
@@ -81,21 +78,11 @@ more_one o P s (suc n) f p e h l = let back : suc n - 1 ≡ n = omega arith in r
 
 -- ---- intervals
 
--- `?` and `@` are neighbours, and stand inside the text.
-pub timed_sign : (s : List ℕ) (p b : ℕ) → b ≡ peek s p → byte "?" ≤ b → b ≤ byte "@" → (one_of (peek s p) (bytes "@?") ≡ true) × (p < length s)
-timed_sign s p b e low high =
-    let k : (b ≡ byte "?") ⊎ (b ≡ byte "@") = ⊎_elim (λ l. inl (omega arith)) (λ l. inr (omega arith)) (lt_or_ge b (byte "@")) in
-    (rw e at (one_of_lem_lem b (byte "@") (byte "?") k), inside-at s p (λ z. omega arith))
-
-pub timed_unsigned : (s : List ℕ) (p b : ℕ) → b ≡ peek s p → (b < byte "?") ⊎ (byte "@" < b) → one_of (peek s p) (bytes "@?") ≡ false
-timed_unsigned s p b e out = rw e at (none_of b (byte "@") (byte "?") (λ k. ⊎_elim (λ i. ⊎_elim (λ l. omega arith) (λ l. omega arith) out) (λ i. ⊎_elim (λ l. omega arith) (λ l. omega arith) out) k))
-
 -- The offsets of the interval after it.
-pub timed_offsets : (s : List ℕ) (p : ℕ) {i : Offsets} {first more q : ℕ} → i ≡ interval s (p + 1) → i ≡ Over first more q → (interval s (p + 1) ≡ Over first more q) × (p + 1 < q) × (q ≤ length s) × (1 ≤ first) × (first + more ≤ most_offset)
-timed_offsets s p {first = first} {more} {q} e g =
-    let z : interval s (p + 1) ≡ Over first more q = sym e ∙ g in
-    let w = interval_reach s (p + 1) z in
-    (z, omega (arith, w.0.ahead), w.0.inside, w.1, w.2)
+pub timed_offsets : (s : List ℕ) (p : ℕ) {first more q : ℕ} → Ok (first, more, q) ≡ interval s (p + 1) → (interval s (p + 1) ≡ Ok (first, more, q)) × (p + 1 < q) × (q ≤ length s) × (1 ≤ first) × (first + more ≤ most_offset)
+timed_offsets s p e =
+    let w = interval_reach s (p + 1) (sym e) in
+    (sym e, omega (arith, w.0.ahead), w.0.inside, w.1, w.2)
 
 pub times_none : (s : List ℕ) (n : ℕ) (f : Written) (p : ℕ) → one_of (peek s p) (bytes "@?") ≡ false → times s n f p ≡ got f p
 unfolding times

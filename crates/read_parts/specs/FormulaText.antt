@@ -1,6 +1,6 @@
 -- The grammar of a rule (01, "The sheet"), as the reading of a formula from a place of the text on.
 -- Assumes nothing. `s` is the sheet up to the rule's LF, so places are the sheet's; `names` are the declared names' texts.
-use Rattle.std.specs.Prelude.{Bool, true, false, List, ℕ, zero, suc, ◌+◌, ltb, eqb, length}
+use Rattle.std.specs.Prelude.{Bool, true, false, List, ℕ, zero, suc, ◌+◌, ltb, eqb, length, Ok, Err}
 use Rattle.std.proofs.Math.Option.{Option, none, some}
 use Rattle.spec_limits.specs.Limits.{most_open}
 use Rattle.read_bytes.specs.declared.bytes.Class.{Class}
@@ -10,9 +10,8 @@ use Rattle.read_bytes.specs.Read.Read.{got, refused}
 use Rattle.read_bytes.specs.Bytes.{byte, bytes, peek, pick, one_of, class_of, starts}
 use Rattle.read_names.specs.Spellings.{spelling_at, spelling_end, find_name, is_spelled}
 use Rattle.spec_tilco.specs.Formula.{Op, And, Or, Implies, Iff, Written}
-use Rattle.read_interval.specs.declared.Offsets.{Offsets}
-use Rattle.read_interval.specs.declared.Offsets.TheVariants.{Over, Refused}
-use Rattle.read_interval.specs.Interval.{interval}
+use Rattle.spec_refusals.specs.Numbers.{fault_number}
+use Rattle.read_interval.specs.Interval.{Offsets, interval}
 
 -- Reads a formula, or a part of one, from a place on.
 abbrev pub Reader : Type 0
@@ -27,8 +26,8 @@ declared names s p =
 
 -- Go on with an interval's offsets, or hand its refusal on.
 abbrev pub offsets_then : Offsets → (ℕ → ℕ → ℕ → Read Written) → Read Written
-offsets_then (Over first more q) k = k first more q
-offsets_then (Refused n p) k = refused n p
+offsets_then (Ok (first, more, q)) k = k first more q
+offsets_then (Err r) k = refused (fault_number r.fault) r.place
 
 -- What follows a plain part f, with at most n intervals.
 unfoldable pub times : List ℕ → ℕ → Written → Reader

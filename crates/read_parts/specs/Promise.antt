@@ -1,11 +1,11 @@
 -- What a reader of a part asks, and what it promises of the text, the declared names in it and the arena that are lent to it.
 -- Assumes nothing. `s` is the text, `names` the index of the declared names in it and N what is known of it, `arena` has m nodes, h is the next hidden
 -- signal's row, and at most d of `(` and `!` may still be opened.
-use Rattle.std.specs.Prelude.{◌≡◌, Bool, List, ℕ, suc, ◌+◌, ◌-◌, ◌≤◌, ◌<◌, length}
+use Rattle.std.specs.Prelude.{◌≡◌, ◌||◌, ◌&&◌, Bool, List, ℕ, suc, ◌+◌, ◌-◌, ◌≤◌, ◌<◌, length}
 use Rattle.std.proofs.Math.Option.{Option}
 use Rattle.read_bytes.specs.declared.bytes.Class.TheVariants.{Letter}
 use Rattle.read_bytes.specs.Read.{Read}
-use Rattle.read_bytes.specs.Bytes.{peek, pick, class_of}
+use Rattle.read_bytes.specs.Bytes.{peek, pick, class_of, starts}
 use Rattle.read_names.specs.Slices.{Slice, MutSlice, before, old, new}
 use Rattle.read_index.specs.Index.{names_in}
 use Rattle.spec_tilco.specs.Formula.{Op, Written, hiddens}
@@ -13,9 +13,8 @@ use Rattle.read_arena.specs.declared.Sign.{Sign}
 use Rattle.read_arena.specs.declared.Node.TheVariants.{Pair}
 use Rattle.read_arena.specs.Nodes.{put_node}
 use Rattle.read_arena.specs.NodeRules.{NodeRoom, Held}
-use Rattle.read_parts.specs.declared.parts.Parsed.{Parsed}
-use Rattle.read_parts.specs.FormulaText.{Reader, declared, timed_part, times, level, below, formula, negated, in_parens, second, since_until, name_or_keep, inside, plain_part, rule}
-use Rattle.read_parts.specs.Parsed.{PartReady, Parses}
+use Rattle.read_parts.specs.FormulaText.{Reader, sign_text, repeats, declared, timed_part, times, level, below, formula, negated, in_parens, second, since_until, name_or_keep, inside, plain_part, rule}
+use Rattle.read_parts.specs.Parsed.{Answer, PartReady, Parses}
 
 -- ---- what is asked
 
@@ -86,6 +85,9 @@ module _ (s names : Slice) (d : ℕ) where
   abbrev pub level_at : Op → ℕ → Read Written
   level_at o p = level o (below o outer text) text p
 
+  abbrev pub below_at : Op → ℕ → Read Written
+  below_at o p = below o outer text p
+
   abbrev pub negated_at : ℕ → Read Written
   negated_at p = negated inner p
 
@@ -104,21 +106,26 @@ module _ (s names : Slice) (d : ℕ) where
 -- ---- what is promised, of a part R whose bytes and nodes are counted from p on
 
 -- The answer is what R says, and on a formula the arena holds it at its last node, its hidden signals numbered from h.
-abbrev pub Reads : Read Written → Slice → MutSlice → ℕ → ℕ → ℕ → Parsed → Type 0
+abbrev pub Reads : Read Written → Slice → MutSlice → ℕ → ℕ → ℕ → Answer → Type 0
 Reads R s arena p m h r = Parses (old arena) (new arena) (length (before s)) 1 p m h h R r
 
 -- The same of what follows a part: whatever formula f stands at the last node, its hidden signals numbered from x, the answer is what R says
 -- of f, with enough turns n.
-abbrev pub ReadsOn : (ℕ → Written → Read Written) → Slice → MutSlice → ℕ → ℕ → ℕ → Parsed → Type 0
+abbrev pub ReadsOn : (ℕ → Written → Read Written) → Slice → MutSlice → ℕ → ℕ → ℕ → Answer → Type 0
 ReadsOn R s arena p m h r =
     (n x : ℕ) (f : Written) → length (before s) ≤ p + n → Held (old arena) x (m - 1) f → h ≡ x + hiddens f
     → Parses (old arena) (new arena) (length (before s)) 0 p m h x (R n f) r
 
 -- The same of what follows the first formula f of since or until, whose own hidden signal has the row before those of f.
-abbrev pub ReadsSecond : (Written → Read Written) → Slice → MutSlice → ℕ → ℕ → ℕ → ℕ → Parsed → Type 0
+abbrev pub ReadsSecond : (Written → Read Written) → Slice → MutSlice → ℕ → ℕ → ℕ → ℕ → Answer → Type 0
 ReadsSecond R s arena p m h row r =
     (f : Written) → Held (old arena) (suc row) (m - 1) f → h ≡ suc row + hiddens f
     → Parses (old arena) (new arena) (length (before s)) 0 p m h row (R f) r
+
+-- Does another part follow at q, after the level's first part or a later one? Only if the sign stands there, and if it repeats or only the
+-- first part was read.
+abbrev pub goes_on : Op → Bool → List ℕ → ℕ → Bool
+goes_on o first s q = (repeats o || first) && starts s q (sign_text o)
 
 -- A level's part with the last one of u nodes: the first stands for itself, any other is joined by the sign to what stands before it, with the
 -- last one of m nodes. The arena goes from a to a', and r nodes are then used.

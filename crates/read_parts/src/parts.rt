@@ -1,29 +1,52 @@
 // The parts of a rule that hold no formula of their own: its signs, its names, and the intervals after a part; and what a reader of a
 // formula answers. `s` is the sheet up to the rule's LF, `names` the index of the declared names in it, `at` the place to read from,
 // `used` the nodes in the arena and `hidden` the next hidden signal's row.
-ghost use Rattle.std.specs.Prelude.{◌≡◌, false, ◌&&◌, ◌≤◌, length};
-ghost use Rattle.read_bytes.specs.Bytes.{bytes, peek, letter, one_of, starts};
+ghost use Rattle.std.specs.Prelude.{◌≡◌, false, ◌≤◌, length};
+ghost use Rattle.read_bytes.specs.Bytes.{bytes, peek, letter, one_of};
+ghost use Rattle.read_arena.specs.Nodes.{op_of};
+ghost use Rattle.read_parts.specs.FormulaText.{sign_text, repeats};
 ghost use Rattle.read_index.specs.Index.{IndexOf};
-ghost use Rattle.read_parts.specs.Promise.{AtLetter, AfterPart, Joinable, Joins, declared_at, times_at, Reads, ReadsOn};
+ghost use Rattle.read_parts.specs.Promise.{AtLetter, AfterPart, Joinable, Joins, goes_on, declared_at, times_at, Reads, ReadsOn};
 
 use read_arena::{Node, Sign, put_node};
 use read_bytes::bytes::{byte_at, starts_at};
 use read_index::{LINKS, find};
-use read_interval::{Offsets, interval_at};
+use read_interval::interval_at;
+use spec_refusals::{Fault, Refusal};
 
-// The place after what was read, the nodes then used and the next hidden signal's row; or a refusal's number and place.
-#[derive(Drop)]
-pub enum Parsed {
-    Got(usize, usize, usize),
-    Refused(usize, usize),
+// The place after what was read, the nodes then used and the next hidden signal's row.
+#[derive(Clone, Copy)]
+pub struct Parsed {
+    pub place: usize,
+    pub nodes: usize,
+    pub rows: usize,
 }
 
-// Does the sign `w`, which joins two parts at most, stand at `at` after the first of them?
-pub fn sign_after_first(s: &[u8], at: usize, first: bool, w: &[u8]) -> bool
-    requires { at ≤ length s.now }
-    ensures { result ≡ (first && starts s.now at w.now) }
+// The text of a sign.
+pub fn text_of(sign: Sign) -> &'static [u8]
+    ensures { result.now ≡ sign_text (op_of sign) }
 {
-    first && starts_at(s, at, w)
+    match sign {
+        Sign::And => b"&",
+        Sign::Or => b"|",
+        Sign::Implies => b"=>",
+        Sign::Iff => b"<=>",
+    }
+}
+
+// Does the sign join any number of parts? If not, it joins two at most.
+fn repeats(sign: Sign) -> bool
+    ensures { result ≡ repeats (op_of sign) }
+{
+    matches!(sign, Sign::And | Sign::Or)
+}
+
+// Does the sign stand at `at` after a level's part, which was its first one or not, and join another part?
+pub fn goes_on(s: &[u8], at: usize, first: bool, sign: Sign) -> bool
+    requires { at ≤ length s.now }
+    ensures { result ≡ goes_on (op_of sign) first s.now at }
+{
+    (repeats(sign) || first) && starts_at(s, at, text_of(sign))
 }
 
 // A level's part was read, whose node is the last one of `last`. The first part stands for itself; any other is joined by the sign to what
@@ -45,11 +68,7 @@ pub fn join(arena: &mut [u16], sign: Sign, first: bool, used: usize, last: usize
 pub fn letter_at(s: &[u8], at: usize) -> bool
     ensures { result ≡ letter (peek s.now at) }
 {
-    let b = byte_at(s, at);
-    match b {
-        b'a'..=b'z' => true,
-        _ => false,
-    }
+    matches!(byte_at(s, at), b'a'..=b'z')
 }
 
 // A declared name.
@@ -60,7 +79,7 @@ pub fn name(
     at: usize,
     used: usize,
     hidden: usize,
-) -> Parsed
+) -> Result<Parsed, Refusal>
     requires { AtLetter s.now arena.old (IndexOf s.now names.now) at used hidden }
     ensures { Reads (declared_at s names at) s arena at used hidden result }
 {
@@ -69,10 +88,16 @@ pub fn name(
     let next = f.end;
     if i < names.len() - LINKS {
         put_node(arena, used, Node::Name(i as u16));
-        let count = used + 1;
-        Parsed::Got(next, count, hidden)
+        Ok(Parsed {
+            place: next,
+            nodes: used + 1,
+            rows: hidden,
+        })
     } else {
-        Parsed::Refused(6, at)
+        Err(Refusal {
+            fault: Fault::Undeclared,
+            place: at,
+        })
     }
 }
 
@@ -80,40 +105,38 @@ pub fn name(
 pub fn time_at(s: &[u8], at: usize) -> bool
     ensures { result ≡ one_of (peek s.now at) (bytes "@?") }
 {
-    let b = byte_at(s, at);
-    match b {
-        b'@' | b'?' => true,
-        _ => false,
-    }
+    matches!(byte_at(s, at), b'@' | b'?')
 }
 
 // The `@` and `?` with their intervals after a plain part, whose node is the last one.
-pub fn times_at(s: &[u8], arena: &mut [u16], at: usize, used: usize, hidden: usize) -> Parsed
+pub fn times_at(
+    s: &[u8],
+    arena: &mut [u16],
+    at: usize,
+    used: usize,
+    hidden: usize,
+) -> Result<Parsed, Refusal>
     requires { AfterPart s.now arena.old (Unit {0}) at used hidden }
     ensures { ReadsOn (times_at s at) s arena at used hidden result }
 {
-    let b = byte_at(s, at);
-    match b {
-        b'@' | b'?' => {
-            let next = at + 1;
-            let i = interval_at(s, next);
-            match i {
-                Offsets::Over(first, more, q) => {
-                    let child = used - 1;
-                    put_node(
-                        arena,
-                        used,
-                        Node::Time(b == b'@', child, first as u16, more as u16),
-                    );
-                    let count = used + 1;
-                    if time_at(s, q) {
-                        return times_at(s, arena, q, count, hidden);
-                    }
-                    Parsed::Got(q, count, hidden)
-                }
-                Offsets::Refused(n, p) => Parsed::Refused(n, p),
-            }
-        }
-        _ => Parsed::Got(at, used, hidden),
+    let mut place = at;
+    let mut nodes = used;
+    while time_at(s, place) {
+        let b = byte_at(s, place);
+        let inner = place + 1;
+        let (first, more, next) = interval_at(s, inner)?;
+        let child = nodes - 1;
+        put_node(
+            arena,
+            nodes,
+            Node::Time(b == b'@', child, first as u16, more as u16),
+        );
+        place = next;
+        nodes += 1;
     }
+    Ok(Parsed {
+        place,
+        nodes,
+        rows: hidden,
+    })
 }

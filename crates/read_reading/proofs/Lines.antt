@@ -8,10 +8,9 @@ use native.Mathlib.Omega.{arith}
 use borrow.Author.Tests.{lt-ltb, le-ltb, ltb-true, le-leb, lt-leb, leb-true}
 use lib.Dec.{leb, ltb, eqb}
 use lib.ListN.{length}
+use Rattle.std.specs.Prelude.{Option, Some, None}
 use Rattle.read_bytes.specs.Read.Read.{got, refused}
 use Rattle.read_bytes.specs.Bytes.{bytes, between, starts}
-use Rattle.read_names.specs.declared.NameRead.{NameRead}
-use Rattle.read_names.specs.declared.NameRead.TheVariants.{Name, Other}
 use Rattle.read_names.specs.EndNumbers.{end_number}
 use Rattle.read_names.specs.Spellings.{spelling_at, find_name, name_at}
 use Rattle.read_index.specs.declared.Found.{Found}
@@ -31,9 +30,9 @@ use Rattle.read_reading.specs.Spans.{Span, span}
 use Rattle.read_reading.specs.OneEntry.{known_line, tick_line, first_key, to_line, last_tick, entry}
 
 -- The place of a name that is read is its value.
-name_value : (v content e : ℕ) (w : NameRead) {x q : ℕ} → whole_name v content e w ≡ got x q → v ≡ x
-name_value v content e (Name z n) f = (through (eqb z e) v (e + 1) content v f).1
-name_value v content e Other f = absurd (not_both (sym f))
+name_value : (v content e : ℕ) (w : Option (ℕ × Option ℕ)) {x q : ℕ} → whole_name v content e w ≡ got x q → v ≡ x
+name_value v content e (Some (z, n)) f = (through (eqb z e) v (e + 1) content v f).1
+name_value v content e None f = absurd (not_both (sym f))
 
 -- A name that is read stands inside the text.
 pub name_place : (s : List ℕ) (p : ℕ) (key : List ℕ) (form content : ℕ) {v q : ℕ} → name_line s p key form content ≡ got v q → v ≤ length s
@@ -62,7 +61,7 @@ pub known_found : (s T r : List ℕ) (p : ℕ) {f : Found} → IndexOf s T → k
     → got f.signal (f.end + 1) ≡ known_line (names_in s T) r p
 known_found s T r p {f} x k d h l =
     let t = found_text x d (omega (arith, names_in_many s T)) in
-    let n = text_name r (p + 7) t ∙ ap (λ (q : ℕ). Name q (end_number (spelling_at r (p + 7)))) (sym d.ends) in
+    let n = text_name r (p + 7) t ∙ ap (λ (q : ℕ). Some (q, end_number (spelling_at r (p + 7)))) (sym d.ends) in
     known_is s T r p (sym (name_first r p (bytes "signal=") 11 k l 12 n)) f.signal d.found h
 
 -- What follows a line with a declared name stands after it.

@@ -1,13 +1,13 @@
 -- An entry of a readings text, line by line: a reading of three lines, or a span of four (01, "Readings" and "Numbers of refusal" 11 to 14; E5, 21).
 -- Assumes nothing. `names` are the declared names in sheet order, W the window, r the readings text, p a place in it; `spans` tells the text's form.
-use Rattle.std.specs.Prelude.{ℕ, ◌+◌, ◌-◌, Bool, true, false, List, length, leb, ltb, eqb}
-use Rattle.read_bytes.specs.Read.{Read, and_then}
+use Rattle.std.specs.Prelude.{ℕ, ◌+◌, ◌-◌, Bool, true, false, List, length, leb, ltb, eqb, Result}
+use Rattle.spec_refusals.specs.declared.Refusal.{Refusal}
+use Rattle.read_bytes.specs.Read.{Read, and_then, said}
 use Rattle.read_bytes.specs.Read.Read.{got, refused}
 use Rattle.read_bytes.specs.Bytes.{bytes, pick}
 use Rattle.read_names.specs.Spellings.{spelling_at, find_name}
 use Rattle.read_lines.specs.Lines.{ranged_line, name_line}
 use Rattle.read_reading.specs.declared.Entry.{Entry}
-use Rattle.read_reading.specs.declared.Entry.TheVariants.{Taken, Refused}
 use Rattle.read_reading.specs.Spans.{Span, span}
 
 -- The line `signal=` with a declared name: the signal's number, and the place after the line. An unknown name is refused at the value.
@@ -41,7 +41,6 @@ entry spans names W r p =
     and_then (known_line names r j) (λ x k.
     and_then (ranged_line r k (bytes "value=") 11 14 0 1) (λ v q. got (span x (eqb v 1) f l) q))))
 
--- What each case of the reader's answer says.
-abbrev pub entry_says : Entry → Read Span
-entry_says (Taken x v f l q) = got (span x v f l) q
-entry_says (Refused n p) = refused n p
+-- What the reader's answer says: the span with the place after it, or a refusal.
+abbrev pub entry_says : Result Entry Refusal → Read Span
+entry_says = said (λ e. got (span e.signal e.value e.first e.last) e.next)

@@ -1,7 +1,7 @@
 -- Spans noted as numbers: the number of a span, one more in an array, what holds of each, and their marks put one span after the other.
 -- Assumes nothing.
 use mathlib.Core.Path.{◌≡◌, refl}
-use mathlib.Core.Bool.{Bool}
+use mathlib.Core.Bool.{Bool, true, false}
 use mathlib.Core.List.Memᴰ
 use mathlib.Core.List.{List, [], ◌∷◌, ◌++◌, map-append}
 use mathlib.Core.Logic.{◌⊎◌, inl, inr, ⊎_elim}
@@ -11,6 +11,7 @@ use native.Mathlib.Omega.{arith}
 use lib.Dec.{eqb}
 use lib.ListN.{length, get_or, set}
 use lib.Seq.{take-suc, take-suc-set}
+use Rattle.std.specs.Int.{from_bool}
 use Rattle.spec_limits.specs.Limits.{most_ticks}
 use Rattle.spec_tilco.specs.Inference.{Mark, mark}
 use Rattle.spec_tilco.specs.Lists.{All}
@@ -21,6 +22,11 @@ use Rattle.table_spans.specs.SpanMarks.{Between}
 use Rattle.read_reading.specs.Spans.{Span, span, marks_of_all}
 use Rattle.read_reading.proofs.SpanMarks.{of_span, in_span, in_none, one_in, in_cons, in_append}
 use Rattle.read_readings.specs.SpanNumbers.{row_spans, span_of, spans_in}
+
+-- The row of value 0 is a signal's first.
+pub side_is : (v : Bool) → (from_bool v < 2) × (eqb (from_bool v) 1 ≡ v)
+side_is true = (omega arith, refl)
+side_is false = (omega arith, refl)
 
 -- The number of a span is that span; b is 1 for true and 0 for false.
 pub number_is : (w x b f l : ℕ) {v : Bool} → f < most_ticks → l < most_ticks → b < 2 → w ≡ l + most_ticks * (f + most_ticks * (b + 2 * x)) → eqb b 1 ≡ v → span_of w ≡ span x v f l

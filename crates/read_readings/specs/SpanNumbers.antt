@@ -1,11 +1,11 @@
 -- Entries noted as numbers in an array: which span a number is, and which spans an array holds.
 -- Assumes nothing. The number of a span is last + 4096 * (first + 4096 * (value + 2 * signal)), so numbers in ascending order are spans by signal, value
 -- and first tick.
-use Rattle.std.specs.Prelude.{◌≡◌, List, map, ℕ, ◌+◌, ◌*◌, ◌/◌, ◌%◌, ◌<◌, ◌≤◌, eqb, length, take}
+use Rattle.std.specs.Prelude.{◌≡◌, List, map, ℕ, ◌+◌, ◌*◌, ◌/◌, ◌%◌, ◌<◌, ◌≤◌, eqb, length, take, Result, Ok, Err}
 use Rattle.spec_limits.specs.Limits.{most_ticks, most_readings}
+use Rattle.spec_refusals.specs.declared.Refusal.{Refusal}
+use Rattle.spec_refusals.specs.Numbers.{fault_number}
 use Rattle.read_index.specs.Index.{IndexOf}
-use Rattle.read_lines.specs.declared.Step.{Step}
-use Rattle.read_lines.specs.declared.Step.TheVariants.{Got, Refused}
 use Rattle.read_bytes.specs.Read.{Read}
 use Rattle.read_bytes.specs.Read.Read.{got, refused}
 use Rattle.read_reading.specs.Spans.{Span, span}
@@ -31,9 +31,9 @@ pub record CanNote (s names : List ℕ) (window : ℕ) (a : List ℕ) : Type 0 w
   pub room : most_readings ≤ length a
 
 -- What each answer says of the text, R, and the array: its first k numbers are the text's entries, or the text is refused.
-pub data EntriesNoted (R : Read (List Span)) (a : List ℕ) : Step → Type 0 where
-  all_noted : (k q : ℕ) → k ≤ length a → R ≡ got (spans_in a k) q → EntriesNoted R a (Got k q)
-  refused_at : (n p : ℕ) → R ≡ refused n p → EntriesNoted R a (Refused n p)
+pub data EntriesNoted (R : Read (List Span)) (a : List ℕ) : Result ℕ Refusal → Type 0 where
+  all_noted : (k q : ℕ) → k ≤ length a → R ≡ got (spans_in a k) q → EntriesNoted R a (Ok k)
+  refused_at : (r : Refusal) → R ≡ refused (fault_number r.fault) r.place → EntriesNoted R a (Err r)
 
 -- A table of m words, n for each row and value, has room for the span, which has a tick at least.
 pub record SpanRoom (n m : ℕ) (e : Span) : Type 0 where

@@ -20,8 +20,8 @@ use Rattle.read_bytes.proofs.Places.{inside_test}
 use Rattle.read_bytes.proofs.Runs.{end_reach}
 use Rattle.read_lines.proofs.Stays.{Stays, then_stays, pick_stays}
 use Rattle.spec_tilco.specs.Formula.{Op, And, Or, Implies, Iff, Written, Named}
-use Rattle.read_interval.specs.declared.Offsets.{Offsets}
-use Rattle.read_interval.specs.declared.Offsets.TheVariants as offsets
+use Rattle.std.specs.Prelude.{Ok, Err}
+use Rattle.read_interval.specs.Interval.{Offsets}
 use Rattle.read_interval.specs.Interval.{interval}
 use Rattle.read_parts.specs.FormulaText.{Reader, declared, offsets_then, times, timed_part, sign_text, repeats, more, level, formula, negated, then_paren, in_parens, second, arguments, since_until, name_or_keep, plain_part_by, plain_part_in, inside, plain_part, rule}
 use Rattle.read_interval.proofs.Intervals.{Sound, interval_sound}
@@ -55,8 +55,8 @@ module _ (n : ℕ) (s : List ℕ) where
   -- intervals
   offsets_stay : (p : ℕ) (x : Offsets) (K : ℕ → ℕ → ℕ → Read Written) → p ≤ length s → Sound s p x
       → ((first more q : ℕ) → 1 ≤ first → first + more ≤ most_offset → q ≤ length s → Good n s (K first more q)) → Good n s (offsets_then x K)
-  offsets_stay p (offsets.Over first more q) K h y f = f first more q y.1 y.2 y.0.inside
-  offsets_stay p (offsets.Refused k q) K h y f = y.1 h
+  offsets_stay p (Ok (first, more, q)) K h y f = f first more q y.1 y.2 y.0.inside
+  offsets_stay p (Err r) K h y f = y.1 h
 
   times_stay : (k : ℕ) (f : Written) (p : ℕ) → Fits n f → p ≤ length s → Good n s (times s k f p)
   unfolding times

@@ -1,7 +1,6 @@
 -- The laws, one idea a file.
 pub mod Cut
 pub mod Ruled
-pub mod Answers
 pub mod Wholes
 pub mod Stays
 pub mod Formulas

@@ -21,15 +21,14 @@ use Rattle.read_lines.proofs.Loops.{turn_start, turn_next, turn_off, turn_end, t
 use Rattle.spec_tilco.specs.Formula.{Written, hiddens}
 use Rattle.spec_tilco.specs.Lists.{total}
 use Rattle.spec_tilco.proofs.Lists.{total_append}
-use Rattle.read_parts.specs.declared.parts.Parsed.{Parsed}
-use Rattle.read_parts.specs.declared.parts.Parsed.TheVariants.{Got, Refused}
+use Rattle.std.specs.Prelude.{Err}
+use Rattle.spec_refusals.specs.declared.Refusal.{Refusal}
 use Rattle.read_parts.specs.FormulaText.{rule}
 use Rattle.read_parts.specs.Parsed as formula
-use Rattle.read_parts.specs.Parsed.{Parses}
+use Rattle.read_parts.specs.Parsed.{Answer, reached, Parses}
 use Rattle.read_parts.specs.Parsed.Parses.{parsed, refuses}
 use Rattle.read_sheet.specs.Sheet.{rule_to, rule_line, rules}
 use Rattle.read_sheet.specs.RuleAnswers.{LineReady, ValueEnds, RuleRead}
-use Rattle.read_sheet.specs.RuleAnswers.RuleRead.{read, refused_at}
 use Rattle.read_sheet.proofs.Cut.{names_kept}
 use Rattle.read_head.proofs.Signals.{up_to_lem}
 
@@ -74,12 +73,12 @@ module _ (s T : List ℕ) (v e h : ℕ) (a : List ℕ) (z : LineReady s a T v h)
     in_part = ap (λ (names : List (List ℕ)). rule names (take e s) v) same_names
 
     -- a formula is read: so is the rule
-    pub rule_read : {q u h' : ℕ} → Parses a a' (length (take e s)) 1 v 0 h h (rule (names_in (take e s) T) (take e s) v) (Got q u h') → RuleRead a' h (rule_to (names_in s T) s v e) (Got (e + 1) u h')
+    pub rule_read : {q u h' : ℕ} → Parses a a' (length (take e s)) 1 v 0 h h (rule (names_in (take e s) T) (take e s) v) (reached q u h') → RuleRead a' h (rule_to (names_in s T) s v e) (reached (e + 1) u h')
     unfolding rule_to
-    rule_read {q} {u} {h'} (parsed w x far arena same held next) =
+    rule_read (parsed w x far arena same held next) =
         let l = cut_length in
         let y = sym in_part ∙ x in
-        read {q = e + 1} {u = u} {h' = h'} (record {
+        record {
           rule = w;
           reads = rw (between_in 1 most_rule_bytes (e - v) some few, y);
           some = omega (arith, far.fresh);
@@ -87,27 +86,15 @@ module _ (s T : List ℕ) (v e h : ℕ) (a : List ℕ) (z : LineReady s a T v h)
           held = held;
           next = next;
           few = omega (arith, far.hidden, far.inside, d.order);
-        })
+        }
 
     -- the formula is refused: so is the rule
-    pub rule_refused : {n k : ℕ} → Parses a a' (length (take e s)) 1 v 0 h h (rule (names_in (take e s) T) (take e s) v) (Refused n k) → RuleRead a' h (rule_to (names_in s T) s v e) (Refused n k)
+    pub rule_refused : {r : Refusal} {z : Answer} → Parses a a' (length (take e s)) 1 v 0 h h (rule (names_in (take e s) T) (take e s) v) (Err r) → z ≡ Err r → RuleRead a' h (rule_to (names_in s T) s v e) z
     unfolding rule_to
-    rule_refused {n} {k} (refuses x) = let y = sym in_part ∙ x in refused_at {k = n} {p = k} (rw (between_in 1 most_rule_bytes (e - v) some few, y))
+    rule_refused (refuses x) k = let y = sym in_part ∙ x in rw k (rw (between_in 1 most_rule_bytes (e - v) some few, y))
 
--- ---- the line at p with a rule
+-- ---- the line at p with a rule: where its value stands
 
-module _ {a : List ℕ} {h : ℕ} (names : List (List ℕ)) (s : List ℕ) (p : ℕ) where
-  -- the rule's answer is the line's
-  pub line_read : {v e : ℕ} {r : Parsed} → line s p (bytes "rule=") 2 ≡ got v e → RuleRead a h (rule_to names s v e) r → RuleRead a h (rule_line names s p) r
-  unfolding rule_line
-  line_read x y = rw x y
-
-  -- the line's form is refused
-  pub line_refused : {n k : ℕ} → line s p (bytes "rule=") 2 ≡ refused n k → RuleRead a h (rule_line names s p) (Refused n k)
-  unfolding rule_line
-  line_refused {n} {k} x = refused_at {k = n} {p = k} (rw x)
-
--- Where its value stands.
 module _ (s : List ℕ) (p : ℕ) {v e : ℕ} (x : line s p (bytes "rule=") 2 ≡ got v e) where
   -- from v to its LF at e
   pub line_ended : ValueEnds s v e

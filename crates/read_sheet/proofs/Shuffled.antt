@@ -15,7 +15,7 @@ use Rattle.spec_tilco.specs.Formula.{Written, with_rules}
 use Rattle.spec_tilco.specs.Lists.{All}
 use Rattle.spec_tilco.proofs.Lists.{total_stays, all_stays}
 use Rattle.read_head.specs.SheetHead.{Head, head}
-use Rattle.read_sheet.specs.Sheet.{rules, Contents, contents, sheet_of, meant, rule_lines, sheet_text}
+use Rattle.read_sheet.specs.Sheet.{Contents, contents, sheet_of, meant, rule_lines, sheet_text}
 use Rattle.read_sheet.proofs.Bodies.{rule_text, Each}
 use Rattle.read_sheet.proofs.Bodies.Each.{none, one}
 use Rattle.read_sheet.proofs.SheetTexts.{lines_long, sheet_read, read_sheet}

@@ -1,7 +1,8 @@
 -- What each answer of the reader of a rule's line says of the text, and what it leaves in the arena (01, "Numbers of refusal").
 -- Assumes nothing. `s` is the sheet's text, R what the text holds there.
-use Rattle.std.specs.Prelude.{◌≡◌, List, ℕ, ◌+◌, ◌-◌, ◌≤◌, ◌<◌, length}
+use Rattle.std.specs.Prelude.{◌≡◌, List, ℕ, ◌+◌, ◌-◌, ◌≤◌, ◌<◌, length, Ok, Err}
 use Rattle.spec_limits.specs.Limits.{arena_numbers, most_rule_bytes}
+use Rattle.spec_refusals.specs.Numbers.{fault_number}
 use Rattle.read_bytes.specs.Read.{Read}
 use Rattle.read_bytes.specs.Read.Read.{got, refused}
 use Rattle.read_bytes.specs.Bytes.{byte, peek}
@@ -9,8 +10,7 @@ use Rattle.spec_tilco.specs.Formula.{Written, hiddens}
 use Rattle.spec_tilco.specs.Lists.{All, total}
 use Rattle.read_index.specs.Index.{places_in, IndexOf}
 use Rattle.read_arena.specs.NodeRules.{Arena, Held}
-use Rattle.read_parts.specs.declared.parts.Parsed.{Parsed}
-use Rattle.read_parts.specs.declared.parts.Parsed.TheVariants as parsed
+use Rattle.read_parts.specs.Parsed.{Answer}
 
 -- A rule's line can be read at p: the names stand before it, the arena a has a node for each byte of a rule, and the rows of its hidden
 -- signals, from h on, stay in 16 bits.
@@ -42,10 +42,10 @@ pub record RuleHeld (a : List ℕ) (h : ℕ) (R : Read Written) (q u h' : ℕ) :
   pub next : h' ≡ h + hiddens rule
   pub few : h' ≤ h + most_rule_bytes
 
--- What each case of a rule line's reader says.
-pub data RuleRead (a : List ℕ) (h : ℕ) (R : Read Written) : Parsed → Type 0 where
-  read : {q u h' : ℕ} → RuleHeld a h R q u h' → RuleRead a h R (parsed.Got q u h')
-  refused_at : {k p : ℕ} → R ≡ refused k p → RuleRead a h R (parsed.Refused k p)
+-- What an answer of a rule line's reader says.
+abbrev pub RuleRead : List ℕ → ℕ → Read Written → Answer → Type 0
+RuleRead a h R (Ok v) = RuleHeld a h R v.place v.nodes v.rows
+RuleRead a h R (Err r) = R ≡ refused (fault_number r.fault) r.place
 
 -- Rules were read up to q, and they have h hidden signals.
 pub record AllRules (R : Read (List Written)) (h q : ℕ) : Type 0 where

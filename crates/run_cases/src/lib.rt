@@ -4,12 +4,14 @@
 
 ghost use Rattle.std.specs.Prelude.{◌<◌, ◌≤◌, ◌++◌, length, OnOk, codes, decimal};
 ghost use Rattle.std.specs.Io.KnownBytes.{Appends};
+ghost use Rattle.spec_refusals.specs.Numbers.{fault_number};
 ghost use Rattle.run_parts.specs.Prefixes.{IsPrefixLen};
 
 use read_bytes::bytes::{byte_at, starts_at};
-use read_bytes::numbers::{Number, number_at};
+use read_bytes::numbers::number_at;
 use read_lines::line_end;
 use read_names::spelling_end;
+use spec_refusals::Refusal;
 use std::io;
 use std::io::Write;
 
@@ -44,11 +46,9 @@ pub fn heading(cases: &[u8], at: usize) -> usize
 fn times_at(cases: &[u8], at: usize) -> usize {
     if at < cases.len() {
         if cases[at] == b'*' {
-            let d = number_at(cases, at + 1);
-            return match d {
-                Number::Value(x, _) => x,
-                Number::Missing => 1,
-            };
+            if let Some((times, _)) = number_at(cases, at + 1) {
+                return times;
+            }
         }
     }
     1
@@ -60,14 +60,12 @@ fn append(cases: &[u8], from: usize, to: usize, out: &mut [u8], used: usize) -> 
     ensures { IsPrefixLen result out.new }
 {
     let mut n = used;
-    let mut p = from;
-    while p < to {
+    for p in from..to {
         if out.len() <= n {
             return n;
         }
         out[n] = byte_at(cases, p);
         n += 1;
-        p += 1;
     }
     n
 }
@@ -77,10 +75,8 @@ fn repeat(cases: &[u8], from: usize, to: usize, times: usize, out: &mut [u8]) ->
     ensures { IsPrefixLen result out.new }
 {
     let mut n = 0;
-    let mut i = 0;
-    while i < times {
+    for _ in 0..times {
         n = append(cases, from, to, out, n);
-        i += 1;
     }
     n
 }
@@ -123,9 +119,11 @@ pub fn print_number<W: Write>(
 }
 
 // Prints a refusal's number and place.
-pub fn print_refusal<W: Write>(output: &mut W, number: usize, place: usize) -> io::Result<()>
+pub fn print_refusal<W: Write>(output: &mut W, refusal: Refusal) -> io::Result<()>
     ensures { OnOk result (Appends (W.contents output.old) (W.contents output.new)
-        (codes "--- refused " ++ (decimal number ++ (codes " at " ++ (decimal place ++ codes "\n"))))) }
+        (codes "--- refused " ++ (decimal (fault_number refusal.fault) ++ (codes " at " ++ (decimal refusal.place ++ codes "\n"))))) }
 {
+    let number = refusal.number();
+    let place = refusal.place;
     writeln!(output, "--- refused {number} at {place}")
 }

@@ -2,7 +2,7 @@
 ghost use Rattle.std.specs.Prelude.{◌<◌, length};
 
 use crate::numbers::{decimal_at, word_after};
-use op_caption::{Captioning, caption, caption_part};
+use op_caption::{caption, caption_part};
 use read_captions::Part;
 use run_cases::{TEXT_ROOM, print, print_number, print_refusal, text_under};
 use std::io;
@@ -29,10 +29,9 @@ fn print_caption<'a, W: Write>(
     c: &'a [u8],
     signal: usize,
 ) -> io::Result<()> {
-    let answer = caption_part(s, c, signal);
-    match answer {
-        Captioning::Shown(part) => print_part(output, part)?,
-        Captioning::Refused(number, place) => print_refusal(output, number, place)?,
+    match caption_part(s, c, signal) {
+        Ok(part) => print_part(output, part)?,
+        Err(r) => print_refusal(output, r)?,
     }
     let shown = caption(s, c, signal);
     print(output, b"--- shown: ")?;

@@ -8,7 +8,6 @@ use crate::words::print_words;
 use figure_run::records::{RECORD_WORDS, record_in};
 use figure_runs::whole::figures_in_words;
 use read_bytes::bytes::byte_at;
-use read_readings::whole::Outcome;
 use run_cases::{TEXT_ROOM, print, print_number, print_refusal, text_under};
 use spec_figures::{NO_TICK, Record};
 use spec_limits::SIGNALS;
@@ -20,11 +19,7 @@ const LENGTHS: usize = 72;
 
 // Does a number start at `at`?
 fn digit_at(cases: &[u8], at: usize) -> bool {
-    let b = byte_at(cases, at);
-    match b {
-        b'0'..=b'9' => true,
-        _ => false,
-    }
+    byte_at(cases, at).is_ascii_digit()
 }
 
 // The numbers of the heading from `at` on, as far as there is room: how many.
@@ -32,17 +27,14 @@ fn numbers_from(cases: &[u8], at: usize, out: &mut [u64]) -> usize
     ensures { IsPrefixLen result out.new }
 {
     let mut p = at;
-    let mut n = 0;
-    while n < out.len() {
-        let more = digit_at(cases, p);
-        if !more {
+    for n in 0..out.len() {
+        if !digit_at(cases, p) {
             return n;
         }
         out[n] = decimal_at(cases, p);
         p = next_word(cases, p);
-        n += 1;
     }
-    n
+    out.len()
 }
 
 // Prints a record's first settled tick.
@@ -68,13 +60,10 @@ fn print_record<W: Write>(output: &mut W, r: Record) -> io::Result<()> {
 fn print_records<W: Write>(output: &mut W, records: &[u64], m: usize) -> io::Result<()>
     requires { RecordRoom records.now }
 {
-    let mut i = 0;
-    while i < SIGNALS {
+    for i in 0..SIGNALS {
         if i < m {
-            let r = record_in(records, i);
-            print_record(output, r)?;
+            print_record(output, record_in(records, i))?;
         }
-        i += 1;
     }
     Ok(())
 }
@@ -89,10 +78,9 @@ fn run_texts<W: Write>(
     words: &mut [u64],
 ) -> io::Result<()> {
     let mut records = [0u64; RECORD_WORDS * SIGNALS];
-    let answer = figures_in_words(s, texts, lengths, m, words, &mut records);
-    match answer {
-        Outcome::Accepted => print_records(output, &records, m)?,
-        Outcome::Refused(number, place) => print_refusal(output, number, place)?,
+    match figures_in_words(s, texts, lengths, m, words, &mut records) {
+        Ok(()) => print_records(output, &records, m)?,
+        Err(r) => print_refusal(output, r)?,
     }
     print_words(output, words)
 }

@@ -20,9 +20,9 @@ ghost use Rattle.spec_limits.specs.Limits.{most_listed_words};
 use captions::run_caption;
 use figures::run_figures;
 use numbers::{decimal_at, next_word};
-use op_add::{Adding, add};
-use op_ask::{Asking, ask};
-use op_check::{Checking, check};
+use op_add::add;
+use op_ask::ask;
+use op_check::check;
 use read_bytes::bytes::starts_at;
 use run_cases::{TEXT_ROOM, heading, next_line, print, print_number, print_refusal, text_under};
 use run_parts::read_full;
@@ -71,10 +71,9 @@ fn length_at(cases: &[u8], at: usize) -> usize
 
 // Checks the sheet.
 fn run_check<W: Write>(output: &mut W, s: &[u8]) -> io::Result<()> {
-    let answer = check(s);
-    match answer {
-        Checking::Rows(n) => print_number(output, b"--- rows ", n as u64, b"\n"),
-        Checking::Refused(number, place) => print_refusal(output, number, place),
+    match check(s) {
+        Ok(n) => print_number(output, b"--- rows ", n as u64, b"\n"),
+        Err(r) => print_refusal(output, r),
     }
 }
 
@@ -90,13 +89,12 @@ fn run_add<W: Write>(
 {
     let mut buffer = [0u8; TEXT_ROOM];
     let n = text_under(cases, at, &mut buffer);
-    let answer = add(s, &buffer[..n], words);
-    match answer {
-        Adding::Added { new, clash } => {
-            print_number(output, b"--- new facts ", new as u64, b", clash ")?;
-            print_number(output, b"", clash as u64, b"\n")?;
+    match add(s, &buffer[..n], words) {
+        Ok(added) => {
+            print_number(output, b"--- new facts ", added.new as u64, b", clash ")?;
+            print_number(output, b"", added.clash as u64, b"\n")?;
         }
-        Adding::Refused(number, place) => print_refusal(output, number, place)?,
+        Err(r) => print_refusal(output, r)?,
     }
     print_words(output, words)
 }
@@ -122,10 +120,9 @@ fn run_ask<W: Write>(
     let signal = decimal_at(cases, at) as usize;
     let second = next_word(cases, at);
     let tick = decimal_at(cases, second) as usize;
-    let answer = ask(s, words, signal, tick);
-    match answer {
-        Asking::Given(v) => print_value(output, v),
-        Asking::Refused(number, place) => print_refusal(output, number, place),
+    match ask(s, words, signal, tick) {
+        Ok(v) => print_value(output, v),
+        Err(r) => print_refusal(output, r),
     }
 }
 

@@ -20,11 +20,8 @@ fn with_digit(v: u64, b: u8) -> u64 {
 pub fn decimal_at(cases: &[u8], at: usize) -> u64 {
     let end = spelling_end(cases, at);
     let mut v = 0;
-    let mut p = at;
-    while p < end {
-        let b = byte_at(cases, p);
-        v = with_digit(v, b);
-        p += 1;
+    for p in at..end {
+        v = with_digit(v, byte_at(cases, p));
     }
     v
 }

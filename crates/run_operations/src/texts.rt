@@ -8,7 +8,7 @@ use op_moves::moves::{to_readings, to_spans};
 use op_print::print_rule;
 use read_bytes::bytes::starts_at;
 use run_cases::{TEXT_ROOM, print, print_number, print_refusal, text_under};
-use spec_operations::Writing;
+use spec_refusals::Refusal;
 use std::io;
 use std::io::Write;
 
@@ -64,18 +64,18 @@ fn print_then<W: Write>(output: &mut W, out: &[u8], n: usize) -> io::Result<()> 
 // Prints what an operation that writes a text answers, and what is in the buffer after it. `after` ends the text's last line, if the text does not.
 fn print_written<W: Write>(
     output: &mut W,
-    answer: Writing,
+    answer: Result<usize, Refusal>,
     out: &[u8],
     after: &[u8],
 ) -> io::Result<()> {
     match answer {
-        Writing::Written(n) => {
+        Ok(n) => {
             print_number(output, b"--- length ", n as u64, b"\n")?;
             print_text(output, out, n, after)?;
             print_then(output, out, n)
         }
-        Writing::Refused(number, place) => {
-            print_refusal(output, number, place)?;
+        Err(r) => {
+            print_refusal(output, r)?;
             print_then(output, out, 0)
         }
     }

@@ -1,9 +1,9 @@
-// What programs share that read their texts from files or from standard input: the bytes, what the arguments ask for, and a table emptied. Assumes nothing.
+// What programs share that read their texts from files or from standard input: the bytes, and what the arguments ask for. Assumes nothing.
 #![tactic(auto)]
 
 ghost use Rattle.run_parts.specs.Prefixes.{IsPrefixLen};
 
-use read_bytes::numbers::{Number, number_at};
+use read_bytes::numbers::number_at;
 use read_names::is_spelled;
 use spec_limits::BYTES;
 use std::io::Read;
@@ -43,10 +43,9 @@ pub fn read_text<R: Files>(rt: &R, path: &[u8], buffer: &mut [u8]) -> usize
 
 // The number that a text starts with, or 0.
 fn number_of(text: &[u8]) -> usize {
-    let d = number_at(text, 0);
-    match d {
-        Number::Value(x, _) => x,
-        Number::Missing => 0,
+    match number_at(text, 0) {
+        Some((x, _)) => x,
+        None => 0,
     }
 }
 
@@ -62,13 +61,4 @@ pub fn is_asked(rt: &impl Env, name: &[u8]) -> bool {
     let mut word = [0u8; 8];
     let n = rt.arg(2, &mut word).unwrap_or(0);
     is_spelled(&word[..n], 0, name)
-}
-
-// Empties the table.
-pub fn clear(table: &mut [u64]) {
-    let mut i = 0;
-    while i < table.len() {
-        table[i] = 0;
-        i += 1;
-    }
 }

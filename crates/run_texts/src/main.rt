@@ -7,11 +7,11 @@ ghost use Rattle.std.specs.Prelude.{◌<◌, length};
 
 use list_captioned::settle_captioned;
 use list_settled::settle;
-use op_check::{Checking, check};
+use op_check::check;
 use read_bytes::bytes::starts_at;
-use read_head::{Heading, head};
+use read_head::head;
 use read_index::{INDEX, LINKS};
-use read_readings::whole::{Outcome, take_readings};
+use read_readings::whole::take_readings;
 use run_cases::{TEXT_ROOM, heading, next_line, print, print_number, print_refusal, text_under};
 use run_parts::read_full;
 use spec_limits::{BYTES, CAPTIONED, LISTED, LISTED_WORDS, SIGNALS};
@@ -28,10 +28,9 @@ fn run_sheet<W: Write>(output: &mut W, cases: &[u8], at: usize) -> io::Result<()
 {
     let mut buffer = [0u8; TEXT_ROOM];
     let n = text_under(cases, at, &mut buffer);
-    let answer = check(&buffer[..n]);
-    match answer {
-        Checking::Rows(rows) => print_number(output, b"--- accepted, rows: ", rows as u64, b"\n"),
-        Checking::Refused(number, place) => print_refusal(output, number, place),
+    match check(&buffer[..n]) {
+        Ok(rows) => print_number(output, b"--- accepted, rows: ", rows as u64, b"\n"),
+        Err(r) => print_refusal(output, r),
     }
 }
 
@@ -49,27 +48,21 @@ fn run_readings<W: Write>(output: &mut W, cases: &[u8], above: usize, at: usize)
     }
     let mut names = [0u16; INDEX];
     let s = &lines[..n];
-    let Heading::Lines {
-        window,
-        signals,
-        rules: _,
-        first: _,
-    } = head(s, &mut names)
-    else {
+    let Ok(head) = head(s, &mut names) else {
         return print(output, b"--- no sheet\n");
     };
     let mut table = [0u64; SIGNAL_WORDS];
     let answer = take_readings(
         s,
-        &names[..LINKS + signals],
-        window,
+        &names[..LINKS + head.signals],
+        head.window,
         WORDS,
         &buffer[..m],
         &mut table,
     );
     match answer {
-        Outcome::Accepted => print(output, b"--- accepted\n"),
-        Outcome::Refused(number, place) => print_refusal(output, number, place),
+        Ok(()) => print(output, b"--- accepted\n"),
+        Err(r) => print_refusal(output, r),
     }
 }
 

@@ -8,6 +8,7 @@ use native.Mathlib.Omega.{arith}
 use borrow.Author.Tests.{ltb-true}
 use lib.Dec.{ltb}
 use lib.ListN.{length, get_or}
+use Rattle.std.specs.Prelude.{Option, None}
 use Rattle.read_bytes.specs.Read.{Read}
 use Rattle.read_bytes.specs.Read.Read.{got, refused as unread}
 use Rattle.read_bytes.specs.Bytes.{pick}
@@ -26,11 +27,11 @@ use Rattle.spec_caption.specs.Captioning.{part_by, part_of, caption_part}
 -- What is known of the part a that is shown: the sheet holds k, and `at` has the captions.
 pub record PartRead (s c : List ℕ) (x : ℕ) (k : Contents) (a : Part) : Type 0 where
   pub sheet : sheet_in s ≡ accepted k
-  pub at : List ℕ
+  pub at : List (Option ℕ)
   pub end : ℕ
   pub captions : captions_in (names_in s k) c ≡ got at end
   pub number : x < length k.places
-  pub part : a ≡ shown_part s c (get_or k.places x 0) (get_or at x 0)
+  pub part : a ≡ shown_part s c (get_or k.places x 0) (get_or at x None)
 
 none_accepted : {A : Type 0} {a : A} {n p : ℕ} → refused n p ≡ accepted a → ⊥
 none_accepted e = let z : ◌≡◌ {A = ℕ} 0 1 = cc in omega arith
@@ -39,12 +40,12 @@ pub part_read : (s c : List ℕ) (x : ℕ) {a : Part} → caption_part s c x ≡
 unfolding caption_part
 part_read s c x {a} e = by_sheet (sheet_in s) refl e
   where
-    by_test : (k : Contents) (at : List ℕ) (q : ℕ) (b : Bool) → sheet_in s ≡ accepted k → captions_in (names_in s k) c ≡ got at q → ltb x (length k.places) ≡ b
-        → pick b (λ _. accepted (shown_part s c (get_or k.places x 0) (get_or at x 0))) (refused 17 0) ≡ accepted a → (k : Contents) × PartRead s c x k a
+    by_test : (k : Contents) (at : List (Option ℕ)) (q : ℕ) (b : Bool) → sheet_in s ≡ accepted k → captions_in (names_in s k) c ≡ got at q → ltb x (length k.places) ≡ b
+        → pick b (λ _. accepted (shown_part s c (get_or k.places x 0) (get_or at x None))) (refused 17 0) ≡ accepted a → (k : Contents) × PartRead s c x k a
     by_test k at q true i j h z = (k, record { sheet = i; at = at; end = q; captions = j; number = ltb-true x (length k.places) h; part = sym (accepted_one z) })
     by_test k at q false i j h z = absurd (none_accepted z)
 
-    by_captions : (k : Contents) (R : Read (List ℕ)) → sheet_in s ≡ accepted k → captions_in (names_in s k) c ≡ R → part_by s c k.places x R ≡ accepted a → (k : Contents) × PartRead s c x k a
+    by_captions : (k : Contents) (R : Read (List (Option ℕ))) → sheet_in s ≡ accepted k → captions_in (names_in s k) c ≡ R → part_by s c k.places x R ≡ accepted a → (k : Contents) × PartRead s c x k a
     by_captions k (got at q) i j z = by_test k at q (ltb x (length k.places)) i j refl z
     by_captions k (unread n p) i j z = absurd (none_accepted z)
 
@@ -59,5 +60,5 @@ part_inside s c x {a} e =
     let k = r.0 in
     let h = r.1 in
     subst (Inside s c) (sym h.part)
-    (shown_inside s c (get_or k.places x 0) (get_or h.at x 0) (all_nth (λ p. p ≤ length s) 0 k.places x (names_stand s h.sheet) h.number)
+    (shown_inside s c (get_or k.places x 0) (get_or h.at x None) (all_nth (λ p. p ≤ length s) 0 k.places x (names_stand s h.sheet) h.number)
     (caption_inside (names_in s k) c h.captions x))

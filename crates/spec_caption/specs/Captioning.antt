@@ -1,6 +1,6 @@
 -- What caption answers (E7): the part that is shown of a signal, or a refusal; and the slice that is this part.
 -- Assumes nothing. `s` is the sheet's text, c the captions' text, x the signal's number.
-use Rattle.std.specs.Prelude.{List, ℕ, ltb, length, get_or}
+use Rattle.std.specs.Prelude.{List, ℕ, ltb, length, get_or, Option, None}
 use Rattle.std.specs.Borrow.{Bor}
 use Rattle.read_bytes.specs.Read.{Read}
 use Rattle.read_bytes.specs.Read.Read.{got, refused as unread}
@@ -13,8 +13,8 @@ use Rattle.open_sheet.specs.Results.{Result, accepted, refused}
 use Rattle.open_sheet.specs.SheetIn.{sheet_in, names_in}
 
 -- What is shown of signal x, by the places of the names and the captions as they were read. "Then 17."
-abbrev pub part_by : List ℕ → List ℕ → List ℕ → ℕ → Read (List ℕ) → Result Part
-part_by s c places x (got at q) = pick (ltb x (length places)) (λ _. accepted (shown_part s c (get_or places x 0) (get_or at x 0))) (refused 17 0)
+abbrev pub part_by : List ℕ → List ℕ → List ℕ → ℕ → Read (List (Option ℕ)) → Result Part
+part_by s c places x (got at q) = pick (ltb x (length places)) (λ _. accepted (shown_part s c (get_or places x 0) (get_or at x None))) (refused 17 0)
 part_by s c places x (unread n p) = refused n p
 
 -- "After 9, line by line."

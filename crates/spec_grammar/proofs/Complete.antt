@@ -17,7 +17,7 @@ use Rattle.read_bytes.proofs.Places.{peek_out, inside_test}
 use Rattle.read_bytes.proofs.Classes.{class_letter}
 use Rattle.read_names.proofs.Names.{same_text}
 use Rattle.spec_tilco.specs.Formula.{Op, And, Or, Implies, Iff, Written}
-use Rattle.read_interval.specs.declared.Offsets.TheVariants.{Over}
+use Rattle.std.specs.Prelude.{Ok}
 use Rattle.read_interval.specs.Interval.{interval}
 use Rattle.read_parts.specs.FormulaText as reading
 use Rattle.read_parts.specs.FormulaText.{Reader, times, timed_part, sign_text, repeats, more, then_paren, second, since_until, name_or_keep, declared, inside, rule}
@@ -146,7 +146,7 @@ module _ (P : Reader) (s : List ℕ) where
   unfolding timed_part
   untimed {p} {q} {f} e = record { fuel = length s; enough = omega arith; comes = rw e }
 
-  time_on : {p q r first more : ℕ} {f : Written} (b : Bool) → Timed P s p q f → TokenAt s q (time_sign b) → interval s (q + 1) ≡ Over first more r → Timed P s p r (Written.time b first more f)
+  time_on : {p q r first more : ℕ} {f : Written} (b : Bool) → Timed P s p q f → TokenAt s q (time_sign b) → interval s (q + 1) ≡ Ok (first, more, r) → Timed P s p r (Written.time b first more f)
   time_on {p} {q} {r} {first} {more} {f} b t a e =
       let k = sign b a in
       let l = inside_test s q (λ x. one_of x (bytes "@?")) refl k.0 in

@@ -8,8 +8,7 @@ use native.Mathlib.Omega.{arith}
 use borrow.Author.Tests.{eqb-true, ne_eqb, eq-eqb}
 use lib.Dec.{eqb}
 use lib.ListN.{length}
-use Rattle.read_bytes.specs.declared.numbers.Number.{Number}
-use Rattle.read_bytes.specs.declared.numbers.Number.TheVariants.{Value, Missing}
+use Rattle.std.specs.Prelude.{Option, Some, None}
 use Rattle.read_bytes.specs.Bytes.{byte, peek, pick, digit, starts}
 use Rattle.read_bytes.specs.Numbers.{decimal, digits}
 use Rattle.read_bytes.proofs.Tests.{between_is}
@@ -29,9 +28,9 @@ pub record DigitsAt (s : List ℕ) (k p : ℕ) (w : List ℕ) : Type 0 where
 pub record Reads (s : List ℕ) (k p v : ℕ) : Type 0 where
   pub text : List ℕ
   pub at : DigitsAt s k p text
-  pub read : digits s k p v ≡ Value (decimal v text) (p + length text)
+  pub read : digits s k p v ≡ (decimal v text, p + length text)
 
-none_reads : (s : List ℕ) (k p v : ℕ) → ((u : List ℕ) → Each digit u → length u ≤ k → starts s p u ≡ true → length u ≤ 0) → digits s k p v ≡ Value v p → Reads s k p v
+none_reads : (s : List ℕ) (k p v : ℕ) → ((u : List ℕ) → Each digit u → length u ≤ k → starts s p u ≡ true → length u ≤ 0) → digits s k p v ≡ (v, p) → Reads s k p v
 unfolding decimal
 none_reads s k p v h e =
     record {
@@ -74,7 +73,7 @@ digits_reads s (suc k) p v = go (digit (peek s p)) refl (digits_reads s k (p + 1
 record NumeralAt (s : List ℕ) (p : ℕ) (w : List ℕ) (v : ℕ) : Type 0 where
   numeral : Numeral w v
   stands : starts s p w ≡ true
-  read : digits s 4 p 0 ≡ Value v (p + length w)
+  read : digits s 4 p 0 ≡ (v, p + length w)
   longest : (u : List ℕ) (x : ℕ) → Numeral u x → starts s p u ≡ true → length u ≤ length w
 
 numeral_at : (s : List ℕ) (p : ℕ) → leading (peek s p) ≡ true → (w : List ℕ) × (v : ℕ) × NumeralAt s p w v
@@ -99,9 +98,9 @@ numeral_at s p h =
 -- ---- ends
 
 -- The end at p is the token there, or none stands there.
-pub data EndAt (s : List ℕ) (p : ℕ) : Number → Type 0 where
-  some : {w : List ℕ} {v : ℕ} → TokenAt s p w → End w v → EndAt s p (Value v (p + length w))
-  missing : ((w : List ℕ) (v : ℕ) → End w v → starts s p w ≡ true → ⊥) → EndAt s p Missing
+pub data EndAt (s : List ℕ) (p : ℕ) : Option (ℕ × ℕ) → Type 0 where
+  some : {w : List ℕ} {v : ℕ} → TokenAt s p w → End w v → EndAt s p (Some (v, p + length w))
+  missing : ((w : List ℕ) (v : ℕ) → End w v → starts s p w ≡ true → ⊥) → EndAt s p None
 
 zero_not : leading (byte "0") ≡ true → ⊥
 zero_not e = true≢false (sym e)

@@ -11,10 +11,8 @@ use native.Mathlib.Decide.{dec_lt}
 use borrow.Author.Tests.{eq-eqb, eqb-true, eqb-false, ltb-true, lt-ltb, le-leb, not-false}
 use lib.Dec.{eqb, ltb}
 use lib.ListN.{length, length-append}
+use Rattle.std.specs.Prelude.{Option, Some, None}
 use Rattle.spec_limits.specs.Limits.{most_name_bytes}
-use Rattle.read_names.specs.declared.EndNumber.{EndNumber}
-use Rattle.read_names.specs.declared.NameRead as words
-use Rattle.read_names.specs.declared.NameRead.TheVariants.{Name, Other}
 use Rattle.read_bytes.specs.Read.{Read}
 use Rattle.read_bytes.specs.Read.Read.{got, refused}
 use Rattle.read_bytes.specs.Bytes.{byte, bytes, peek, one_of, digit, name_byte, starts, run_at, run_end, InLine}
@@ -23,6 +21,7 @@ use Rattle.read_names.specs.EndNumbers.{end_number}
 use Rattle.read_names.specs.Spellings.{spelling_at, name_at}
 use Rattle.read_lines.specs.Lines.{in_line, line_end, line, whole, whole_number, whole_name}
 use Rattle.read_bytes.proofs.Places.{peek_in}
+use Rattle.read_bytes.proofs.Values.{none_not}
 use Rattle.read_bytes.proofs.Runs.{run_more, run_none, run_past, end_more, end_here, end_stops}
 use Rattle.read_lines.proofs.KeyedLines.{lf_ends, lf_not}
 use Rattle.read_names.proofs.Names.{Named, named}
@@ -268,9 +267,6 @@ pub data NameIs (v : List ℕ) (u e content : ℕ) : Read ℕ → Type 0 where
   name : SignalName v → NameIs v u e content (got u (e + 1))
   none : (SignalName v → ⊥) → NameIs v u e content (refused content u)
 
-name_not : {q : ℕ} {n : EndNumber} → Name q n ≡ Other → ⊥
-name_not e = let z : ◌≡◌ {A = ℕ} 0 1 = cc in omega arith
-
 module _ (s : List ℕ) (u content : ℕ) (v : List ℕ) (a : LineAt s u v) where
   -- A name that takes the value whole is the word there.
   pub same_word : SignalName v → spelling_at s u ≡ v
@@ -280,7 +276,7 @@ module _ (s : List ℕ) (u content : ℕ) (v : List ℕ) (a : LineAt s u v) wher
       let j = stops s u (spelling_at s u) (length v) (word_stands s u) (each_in_line name_byte refl (spelling_at s u) (word_run s u)) a.ends in
       stand_same s u (spelling_at s u) v (word_stands s u) a.stands (omega arith)
 
-  name_reads : SignalName v → name_at s u ≡ Name (u + length v) (end_number v)
+  name_reads : SignalName v → name_at s u ≡ Some (u + length v, end_number v)
   unfolding name_at run_end
   name_reads n =
       let z = same_word n in
@@ -292,7 +288,7 @@ module _ (s : List ℕ) (u content : ℕ) (v : List ℕ) (a : LineAt s u v) wher
   unfolding run_end
   name_is = go (name_at s u) refl
     where
-      is_name : {q : ℕ} {n : EndNumber} → Named s u q n → length (spelling_at s u) ≡ length v → SignalName v
+      is_name : {q : ℕ} {n : Option ℕ} → Named s u q n → length (spelling_at s u) ≡ length v → SignalName v
       is_name n e =
           let j = stand_same s u (spelling_at s u) v (word_stands s u) a.stands e in
           subst SignalName j
@@ -302,8 +298,8 @@ module _ (s : List ℕ) (u content : ℕ) (v : List ℕ) (a : LineAt s u v) wher
             ended = n.ended;
           })
 
-      go : (w : words.NameRead) → name_at s u ≡ w → NameIs v u (u + length v) content (whole_name u content (u + length v) w)
-      go (Name q x) e = on (named s u e) (eqb q (u + length v)) refl
+      go : (w : Option (ℕ × Option ℕ)) → name_at s u ≡ w → NameIs v u (u + length v) content (whole_name u content (u + length v) w)
+      go (Some (q, x)) e = on (named s u e) (eqb q (u + length v)) refl
         where
           on : Named s u q x → (b : Bool) → eqb q (u + length v) ≡ b → NameIs v u (u + length v) content (whole u q (u + length v) content u)
           on n true f =
@@ -317,4 +313,4 @@ module _ (s : List ℕ) (u content : ℕ) (v : List ℕ) (a : LineAt s u v) wher
               let k = n.ends in
               let l = ap length (same_word m) in
               eqb-false q (u + length v) f (omega arith)))
-      go Other e = none (λ m. name_not (sym (name_reads m) ∙ e))
+      go None e = none (λ m. none_not (sym e ∙ name_reads m))

@@ -1,6 +1,6 @@
 -- An interval is read exactly where its tokens stand.
 -- Assumes nothing.
-use mathlib.Core.Path.{◌≡◌, refl, sym, subst}
+use mathlib.Core.Path.{◌≡◌, refl, sym, ap, subst}
 use mathlib.Core.Bool.{Bool, true, false, true≢false, ◌&&◌, and-eq-true_iff}
 use mathlib.Core.List.{List, [], ◌∷◌}
 use Prim.Native.Nat.{ℕ, ◌+◌, ◌-◌, ◌≤◌}
@@ -8,13 +8,12 @@ use native.Mathlib.Omega.{arith}
 use borrow.Author.Tests.{eqb-true, leb-true, le-leb}
 use lib.Dec.{eqb, leb}
 use lib.ListN.{length}
-use Rattle.read_bytes.specs.declared.numbers.Number.{Number}
-use Rattle.read_bytes.specs.declared.numbers.Number.TheVariants.{Value}
+use Rattle.std.specs.Prelude.{Option, Some, Ok, Err}
+use Rattle.spec_refusals.specs.declared.Refusal.{Refusal}
+use Rattle.spec_refusals.specs.declared.Fault.TheVariants as fault
 use Rattle.read_bytes.specs.Bytes.{byte, bytes, peek, pick, one_of}
 use Rattle.read_bytes.proofs.Tests.{between_is}
-use Rattle.read_interval.specs.declared.Offsets.{Offsets}
-use Rattle.read_interval.specs.declared.Offsets.TheVariants.{Over, Refused}
-use Rattle.read_interval.specs.Interval.{left_out, near, end_at, offsets_of, end_then, end_after_lem, close_at, comma_at, interval, least_end, greatest_end, over_offset}
+use Rattle.read_interval.specs.Interval.{Offsets, refusing, left_out, near, end_at, offsets_of, end_then, end_after_lem, close_at, comma_at, interval, least_end, greatest_end, over_offset}
 use Rattle.spec_grammar.specs.Tokens.{End, TokenAt, Tokens}
 use Rattle.spec_grammar.specs.Grammar.{Interval, Legal}
 use Rattle.spec_grammar.proofs.Standing.{starts_head, token_one, next_is, none_is, one_at}
@@ -23,11 +22,14 @@ use Rattle.spec_grammar.proofs.Ends.{EndAt, end_at_lem, end_one}
 
 -- ---- the offsets of an interval
 
-over_not : {n p first more q : ℕ} → Refused n p ≡ Over first more q → ⊥
+over_not : {r : Refusal} {x : ℕ × ℕ × ℕ} → ◌≡◌ {A = Offsets} (Err r) (Ok x) → ⊥
 over_not e = let z : ◌≡◌ {A = ℕ} 0 1 = cc in omega arith
 
+same_offsets : {x y : ℕ × ℕ × ℕ} → ◌≡◌ {A = Offsets} (Ok x) (Ok y) → x ≡ y
+same_offsets e = cc
+
 module _ (p o v w c q : ℕ) where
-  pub legal_offsets : {first more : ℕ} → Legal o v w c first more → offsets_of p o v w c q ≡ Over first more q
+  pub legal_offsets : {first more : ℕ} → Legal o v w c first more → offsets_of p o v w c q ≡ Ok (first, more, q)
   unfolding offsets_of
   legal_offsets {first} {more} l =
       let i = between_is least_end greatest_end w l.near_last in
@@ -40,8 +42,8 @@ module _ (p o v w c q : ℕ) where
 
   -- The offsets are legal, or none are.
   pub data OffsetsAre : Offsets → Type 0 where
-    legal : {first more : ℕ} → Legal o v w c first more → OffsetsAre (Over first more q)
-    illegal : ((first more : ℕ) → Legal o v w c first more → ⊥) → OffsetsAre (Refused 7 p)
+    legal : {first more : ℕ} → Legal o v w c first more → OffsetsAre (Ok (first, more, q))
+    illegal : ((first more : ℕ) → Legal o v w c first more → ⊥) → OffsetsAre (refusing fault.Interval p)
 
   pub offsets_are : OffsetsAre (offsets_of p o v w c q)
   unfolding offsets_of
@@ -75,15 +77,11 @@ two_lone b x y h k e = go (eqb b x) refl (eqb b y) refl e
     go false i true j f = rw (eqb-true b y j) k
     go false i false j f = absurd (true≢false (sym (rw (i, j) at f)))
 
--- Two equal answers to an end.
-value_one : {v w q r : ℕ} → Value v q ≡ Value w r → (v ≡ w) × (q ≡ r)
-value_one e = (cc, cc)
-
 -- Where the token is an end, its number is read.
-end_reads : {s : List ℕ} {p : ℕ} {w : List ℕ} {v : ℕ} → TokenAt s p w → End w v → end_at s p ≡ Value v (p + length w)
+end_reads : {s : List ℕ} {p : ℕ} {w : List ℕ} {v : ℕ} → TokenAt s p w → End w v → end_at s p ≡ Some (v, p + length w)
 end_reads {s} {p} {w} {v} t k = go (end_at_lem s p) refl
   where
-    go : {d : Number} → EndAt s p d → end_at s p ≡ d → end_at s p ≡ Value v (p + length w)
+    go : {d : Option (ℕ × ℕ)} → EndAt s p d → end_at s p ≡ d → end_at s p ≡ Some (v, p + length w)
     go (EndAt.some {w = x} {v = y} a m) e =
         let i = token_one t a in
         let j = end_one k (subst (λ u. End u y) (sym i) m) in
@@ -132,17 +130,18 @@ pub record OffsetsAt (s : List ℕ) (p first more q : ℕ) : Type 0 where
   pub interval : Interval tokens opens low high closes
   pub legal : Legal opens low high closes first more
 
-offsets_of_lem : {p o v w c x : ℕ} {S : Offsets} {first more q : ℕ} → OffsetsAre p o v w c x S → S ≡ Over first more q → Legal o v w c first more × (x ≡ q)
+offsets_of_lem : {p o v w c x : ℕ} {S : Offsets} {first more q : ℕ} → OffsetsAre p o v w c x S → S ≡ Ok (first, more, q) → Legal o v w c first more × (x ≡ q)
 offsets_of_lem {o = o} {v} {w} {c} {first = first} {more} (OffsetsAre.legal {first = a} {more = b} l) e =
-    let i : a ≡ first = cc in
-    let j : b ≡ more = cc in
-    (subst (λ z. Legal o v w c z more) i (subst (Legal o v w c a) j l), cc)
+    let t = same_offsets e in
+    let i : a ≡ first = ap (λ (z : ℕ × ℕ × ℕ). z.0) t in
+    let j : b ≡ more = ap (λ (z : ℕ × ℕ × ℕ). z.1) t in
+    (subst (λ z. Legal o v w c z more) i (subst (Legal o v w c a) j l), ap (λ (z : ℕ × ℕ × ℕ). z.2) t)
 offsets_of_lem (OffsetsAre.illegal n) e = absurd (over_not e)
 
 -- A test let the interval through.
-let_through : (b : Bool) (S : Offsets) (n p : ℕ) {first more q : ℕ} → pick b (λ _. S) (Refused n p) ≡ Over first more q → (b ≡ true) × (S ≡ Over first more q)
-let_through true S n p e = (refl, e)
-let_through false S n p e = absurd (over_not e)
+let_through : (b : Bool) (S : Offsets) (r : Refusal) {first more q : ℕ} → pick b (λ _. S) (Err r) ≡ Ok (first, more, q) → (b ≡ true) × (S ≡ Ok (first, more, q))
+let_through true S r e = (refl, e)
+let_through false S r e = absurd (over_not e)
 
 -- An end, and what went on.
 record Ended (s : List ℕ) (p : ℕ) (K : ℕ → ℕ → Offsets) (S : Offsets) : Type 0 where
@@ -152,24 +151,24 @@ record Ended (s : List ℕ) (p : ℕ) (K : ℕ → ℕ → Offsets) (S : Offsets
   end : End text value
   on : K value (p + length text) ≡ S
 
-ended : (s : List ℕ) (p k : ℕ) (K : ℕ → ℕ → Offsets) {first more q : ℕ} → end_then (end_at s p) k K ≡ Over first more q → Ended s p K (Over first more q)
+ended : (s : List ℕ) (p k : ℕ) (K : ℕ → ℕ → Offsets) {first more q : ℕ} → end_then (end_at s p) k K ≡ Ok (first, more, q) → Ended s p K (Ok (first, more, q))
 ended s p k K {first} {more} {q} = go (end_at_lem s p)
   where
-    go : {d : Number} → EndAt s p d → end_then d k K ≡ Over first more q → Ended s p K (Over first more q)
+    go : {d : Option (ℕ × ℕ)} → EndAt s p d → end_then d k K ≡ Ok (first, more, q) → Ended s p K (Ok (first, more, q))
     go (EndAt.some {w = w} {v = v} a m) e = record { text = w; value = v; token = a; end = m; on = e }
     go (EndAt.missing n) e = absurd (over_not e)
 
 module _ (s : List ℕ) (p : ℕ) where
-  pub interval_stands : {first more q : ℕ} → interval s p ≡ Over first more q → OffsetsAt s p first more q
+  pub interval_stands : {first more q : ℕ} → interval s p ≡ Ok (first, more, q) → OffsetsAt s p first more q
   unfolding interval end_after_lem comma_at close_at
   interval_stands e =
-      let a = let_through (one_of (peek s p) (bytes "[(")) _ 5 p e in
+      let a = let_through (one_of (peek s p) (bytes "[(")) _ _ e in
       let x = ended s (p + 1) (p + 1) (comma_at s p (peek s p)) a.1 in
       let u = p + 1 + length x.text in
-      let b = let_through (eqb (peek s u) (byte ",")) _ 5 u x.on in
+      let b = let_through (eqb (peek s u) (byte ",")) _ _ x.on in
       let y = ended s (u + 1) (u + 1) (close_at s p (peek s p) x.value) b.1 in
       let t = u + 1 + length y.text in
-      let d = let_through (one_of (peek s t) (bytes "])")) _ 5 t y.on in
+      let d = let_through (one_of (peek s t) (bytes "])")) _ _ y.on in
       let l = offsets_of_lem (offsets_are p (peek s p) x.value y.value (peek s t) (t + 1)) d.1 in
       record {
         tokens = (peek s p ∷ []) ∷ x.text ∷ bytes "," ∷ y.text ∷ (peek s t ∷ []) ∷ [];

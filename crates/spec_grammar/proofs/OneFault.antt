@@ -15,8 +15,8 @@ use Rattle.spec_limits.specs.Limits.{most_open}
 use Rattle.read_bytes.specs.Bytes.{bytes, one_of, letter}
 use Rattle.read_names.specs.Spellings.{find_name}
 use Rattle.spec_tilco.specs.Lists.{All}
-use Rattle.read_interval.specs.declared.Offsets.{Offsets}
-use Rattle.read_interval.specs.declared.Offsets.TheVariants.{Over, Refused}
+use Rattle.std.specs.Prelude.{Ok, Err}
+use Rattle.read_interval.specs.Interval.{Offsets}
 use Rattle.read_interval.specs.Interval.{offsets_of}
 use Rattle.spec_grammar.specs.Tokens.{End, TokenAt, Tokens}
 use Rattle.spec_grammar.specs.Grammar.{formula, keep_word_lem, Name, Interval, Is, Declared, Legal}
@@ -32,8 +32,8 @@ use Rattle.spec_grammar.proofs.Known.{none_of, name_letter, end_no_letter, name_
 -- ---- the tests for declared names and legal intervals
 
 is_over : Offsets → Bool
-is_over (Over first more q) = true
-is_over (Refused n p) = false
+is_over (Ok x) = true
+is_over (Err r) = false
 
 pub strict : List (List ℕ) → Tests
 strict names = record { named = λ w. ltb (find_name w names) (length names); offsets = λ o v w c. is_over (offsets_of 0 o v w c 0) }

@@ -21,9 +21,8 @@ use Rattle.read_bytes.proofs.Classes.{class_letter}
 use Rattle.read_names.proofs.Names.{same_text}
 use Rattle.read_names.proofs.Spelling.{is_word}
 use Rattle.spec_tilco.specs.Formula.{Op, And, Or, Implies, Iff, Written}
-use Rattle.read_interval.specs.declared.Offsets.{Offsets}
-use Rattle.read_interval.specs.declared.Offsets.TheVariants.{Over, Refused}
-use Rattle.read_interval.specs.Interval.{interval}
+use Rattle.std.specs.Prelude.{Ok, Err}
+use Rattle.read_interval.specs.Interval.{Offsets, interval}
 use Rattle.read_parts.specs.FormulaText as reading
 use Rattle.read_parts.specs.FormulaText.{Reader, times, timed_part, sign_text, repeats, more, in_parens, negated, then_paren, second, arguments, since_until, name_or_keep, declared, plain_part_by, plain_part_in, inside, rule}
 use Rattle.spec_grammar.specs.Tokens.{TokenAt, Tokens}
@@ -85,7 +84,7 @@ module _ (names : List (List ℕ)) (s : List ℕ) where
 
   -- ---- timed parts
 
-  timed_on : {d p q r first more : ℕ} {f : Written} → Stands names s Part.timed d p q f → one_of (peek s q) (bytes "@?") ≡ true → interval s (q + 1) ≡ Over first more r
+  timed_on : {d p q r first more : ℕ} {f : Written} → Stands names s Part.timed d p q f → one_of (peek s q) (bytes "@?") ≡ true → interval s (q + 1) ≡ Ok (first, more, r)
       → Stands names s Part.timed d p r (Written.time (eqb (peek s q) (byte "@")) first more f)
   timed_on {q = q} h t e =
       let a = time_token s q t in
@@ -105,8 +104,8 @@ module _ (names : List (List ℕ)) (s : List ℕ) where
       go : (b : Bool) → one_of (peek s q) (bytes "@?") ≡ b → (S : Offsets) → interval s (q + 1) ≡ S
           → ((first more u : ℕ) → Stands names s Part.timed d p u (Written.time (eqb (peek s q) (byte "@")) first more f) → times s n (Written.time (eqb (peek s q) (byte "@")) first more f) u ≡ got g r → Stands names s Part.timed d p r g)
           → Stands names s Part.timed d p r g
-      go true t (Over first more u) i k = k first more u (timed_on h t i) (rw (t, i) at e)
-      go true t (Refused m u) i k = absurd (not_both (sym (rw (t, i) at e)))
+      go true t (Ok (first, more, u)) i k = k first more u (timed_on h t i) (rw (t, i) at e)
+      go true t (Err r) i k = absurd (not_both (sym (rw (t, i) at e)))
       go false t S i k = moved h (rw t at e)
 
   timed_sound : (d : ℕ) (P : Reader) → Sound Part.plain d P → Sound Part.timed d (timed_part P s)

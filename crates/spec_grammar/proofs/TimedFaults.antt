@@ -10,14 +10,17 @@ use native.Mathlib.Omega.{arith}
 use borrow.Author.Tests.{eqb-true}
 use lib.Dec.{eqb}
 use lib.ListN.{length}
-use Rattle.read_bytes.specs.declared.numbers.Number.{Number}
+use Rattle.std.specs.Prelude.{Option}
 use Rattle.read_bytes.specs.Read.{Read, and_then}
 use Rattle.read_bytes.specs.Read.Read.{got}
 use Rattle.read_bytes.specs.Bytes.{byte, bytes, peek, pick, one_of, digit, starts}
 use Rattle.read_bytes.proofs.Places.{peek_out}
 use Rattle.spec_tilco.specs.Formula.{Written}
-use Rattle.read_interval.specs.declared.Offsets.{Offsets}
-use Rattle.read_interval.specs.declared.Offsets.TheVariants.{Over, Refused}
+use Rattle.std.specs.Prelude.{Ok, Err}
+use Rattle.spec_refusals.specs.declared.Refusal.{Refusal}
+use Rattle.spec_refusals.specs.declared.Fault.TheVariants as fault
+use Rattle.spec_refusals.specs.Numbers.{fault_number}
+use Rattle.read_interval.specs.Interval.{Offsets, refusing}
 use Rattle.read_interval.specs.Interval as reading
 use Rattle.read_interval.specs.Interval.{end_at, end_then, end_after_lem, close_at, comma_at, offsets_of, end_zero}
 use Rattle.read_parts.specs.FormulaText.{Reader, offsets_then, times, timed_part}
@@ -69,8 +72,8 @@ record OffsetsBad (names : List (List ℕ)) (s : List ℕ) (τ : Tests) (e : ℕ
   hopes : Hopes names s τ e at d (λ c ts. OffsetsBegin (tokens ++ ts)) n κ
 
 data OffsetsOut (names : List (List ℕ)) (s : List ℕ) (τ : Tests) (e : ℕ) (x : Place) (d p : ℕ) : Offsets → Type 0 where
-  over : {first more q : ℕ} → OffsetsAt s p first more q → OffsetsOut names s τ e x d p (Over first more q)
-  bad : {n κ : ℕ} → OffsetsBad names s τ e x d p n κ → OffsetsOut names s τ e x d p (Refused n κ)
+  over : {first more q : ℕ} → OffsetsAt s p first more q → OffsetsOut names s τ e x d p (Ok (first, more, q))
+  bad : {r : Refusal} → OffsetsBad names s τ e x d p (fault_number r.fault) r.place → OffsetsOut names s τ e x d p (Err r)
 
 -- Inside an interval no rule ends.
 within : {i : Upto} {b c : ℕ} {j k : Joins} {st : List Frame} → Place.offsets i b j st ≡ Place.after c k [] → ⊥
@@ -112,7 +115,7 @@ module _ (names : List (List ℕ)) (s : List ℕ) (τ : Tests) (e d p b : ℕ) (
 
   -- The token at κ does not fit.
   cut : (i : Upto) (κ : ℕ) (us : List (List ℕ)) → Tokens s κ p us → Walks τ (Place.offsets Upto.start b j st) us (Place.offsets i b j st) → OffsetsBegin us → ((w : List ℕ) (z : Place) → TokenAt s κ w → step τ (Place.offsets i b j st) w ≡ option.some z → ⊥)
-      → Here (Refused 5 κ)
+      → Here (refusing fault.Formula κ)
   cut i κ us t w h k = bad (record { tokens = us; stand = t; at = Place.offsets i b j st; walks = w; begins = h; hopes = Hopes.token (subst OffsetsBegin (sym (append-nil us)) h) k (λ l c m x. within x) })
 
   module _ (ho : one_of (peek s p) (bytes "[(") ≡ true) where
@@ -165,7 +168,7 @@ module _ (names : List (List ℕ)) (s : List ℕ) (τ : Tests) (e d p b : ℕ) (
                       (record { rest = []; opens = peek s p; low = v; high = w; closes = peek s t; is = Interval.interval ho kx ky hc });
                 })
 
-            go : (c : Bool) → one_of (peek s t) (bytes "])") ≡ c → Here (pick (one_of (peek s t) (bytes "])")) (λ _. offsets_of p (peek s p) v w (peek s t) (t + 1)) (Refused 5 t))
+            go : (c : Bool) → one_of (peek s t) (bytes "])") ≡ c → Here (pick (one_of (peek s t) (bytes "])")) (λ _. offsets_of p (peek s p) v w (peek s t) (t + 1)) (refusing fault.Formula t))
             go true hc = rw hc (whole hc (offsets_are p (peek s p) v w (peek s t) (t + 1)))
             go false hc =
                 rw hc
@@ -189,14 +192,14 @@ module _ (names : List (List ℕ)) (s : List ℕ) (τ : Tests) (e d p b : ℕ) (
           walks : Walks τ (Place.offsets Upto.start b j st) two (Place.offsets (Upto.low (peek s p) v) b j st)
           walks = Walks.next (step_opens τ b j st (peek s p) ho) (walks_one (step_first τ b j st (peek s p) kx))
 
-          next : peek s u ≡ byte "," → {D : Number} → EndAt s (u + 1) D → Here (end_then D (u + 1) (close_at s p (peek s p) v))
+          next : peek s u ≡ byte "," → {D : Option (ℕ × ℕ)} → EndAt s (u + 1) D → Here (end_then D (u + 1) (close_at s p (peek s p) v))
           next hm (EndAt.some ay ky) = close_out hm ay ky
           next hm (EndAt.missing n) =
               cut (Upto.comma (peek s p) v) (u + 1) (two ++ (bytes "," ∷ [])) (tokens_then two stand (one_at (lone_token s u refl hm) refl)) (walks_then walks (walks_one (step_comma τ b j st (peek s p) v)))
               (record { rest = bytes "0" ∷ bytes "]" ∷ []; opens = peek s p; low = v; high = end_zero; closes = byte "]"; is = Interval.interval ho kx End.nought refl })
               (λ w z a k. stuck_last τ b j st w z (peek s p) v (no_end n a) k)
 
-          go : (c : Bool) → eqb (peek s u) (byte ",") ≡ c → Here (pick (eqb (peek s u) (byte ",")) (λ _. end_then (end_at s (u + 1)) (u + 1) (close_at s p (peek s p) v)) (Refused 5 u))
+          go : (c : Bool) → eqb (peek s u) (byte ",") ≡ c → Here (pick (eqb (peek s u) (byte ",")) (λ _. end_then (end_at s (u + 1)) (u + 1) (close_at s p (peek s p) v)) (refusing fault.Formula u))
           go true hm = rw hm (next (eqb-true (peek s u) (byte ",") hm) (end_at_lem s (u + 1)))
           go false hm =
               rw hm
@@ -208,14 +211,14 @@ module _ (names : List (List ℕ)) (s : List ℕ) (τ : Tests) (e d p b : ℕ) (
   unfolding reading.interval end_after_lem
   interval_out = go (one_of (peek s p) (bytes "[(")) refl
     where
-      next : (ho : one_of (peek s p) (bytes "[(") ≡ true) → {D : Number} → EndAt s (p + 1) D → Here (end_then D (p + 1) (comma_at s p (peek s p)))
+      next : (ho : one_of (peek s p) (bytes "[(") ≡ true) → {D : Option (ℕ × ℕ)} → EndAt s (p + 1) D → Here (end_then D (p + 1) (comma_at s p (peek s p)))
       next ho (EndAt.some ax kx) = comma_out ho ax kx
       next ho (EndAt.missing n) =
           cut (Upto.bracket (peek s p)) (p + 1) ((peek s p ∷ []) ∷ []) (one_at (open_token ho) refl) (walks_one (step_opens τ b j st (peek s p) ho))
           (record { rest = bytes "0" ∷ bytes "," ∷ bytes "0" ∷ bytes "]" ∷ []; opens = peek s p; low = end_zero; high = end_zero; closes = byte "]"; is = Interval.interval ho End.nought End.nought refl })
           (λ w z a k. stuck_first τ b j st w z (peek s p) (no_end n a) k)
 
-      go : (c : Bool) → one_of (peek s p) (bytes "[(") ≡ c → Here (pick (one_of (peek s p) (bytes "[(")) (λ _. end_then (end_at s (p + 1)) (p + 1) (comma_at s p (peek s p))) (Refused 5 p))
+      go : (c : Bool) → one_of (peek s p) (bytes "[(") ≡ c → Here (pick (one_of (peek s p) (bytes "[(")) (λ _. end_then (end_at s (p + 1)) (p + 1) (comma_at s p (peek s p))) (refusing fault.Formula p))
       go true ho = rw ho (next ho (end_at_lem s (p + 1)))
       go false ho =
           rw ho

@@ -16,12 +16,9 @@ use Rattle.spec_ticks.proofs.Bits.{lt_or_ge, has_below, no_ticks}
 use Rattle.spec_ticks.proofs.Counts.{first_has}
 use Rattle.spec_tilco.specs.Inference.{Clash}
 use Rattle.spec_tilco.specs.Table.{Stands}
-use Rattle.table_words.specs.WordTicks.{HasRow, Ticks, Both}
+use Rattle.table_words.specs.WordTicks.{Ticks, Both}
 use Rattle.table_facts.specs.Clashes.{ClashIn}
 use Rattle.table_words.proofs.OneWord.{flow_ticks}
-
-pub never : true ≡ false → ⊥
-never e = let z : ◌≡◌ {A = ℕ} 0 1 = cc in omega arith
 
 pub tally_none : (T : List ℕ) → 0 ≡ tally T 0
 unfolding tally
@@ -47,10 +44,6 @@ module _ (n : ℕ) (T : List ℕ) where
       let b : t < 64 = has_below (meeting q r) 64 t s h in
       let m : Both n T r true r false (q * 64 + t) = (met q r l t b).0 h in
       (record { row = r; tick = q * 64 + t; holds = m.0; fails = m.1 }, omega arith)
-
-  -- A row of the table.
-  pub row_of : (count r : ℕ) → length T ≡ 2 * count * n → r < count → HasRow n T r
-  row_of count r e l = let b : 2 * (r + 1) * n ≤ 2 * count * n = mul-le-mul_right n (omega arith) in omega arith
 
   -- A clash is in a row of the table, since past it there is no mark.
   pub no_clash : (count q : ℕ) → length T ≡ 2 * count * n → ((r : ℕ) → r < count → meeting q r ≡ 0) → ClashIn n T q → ⊥

@@ -5,7 +5,7 @@ use mathlib.Core.Bool.{Bool, true, false}
 use mathlib.Core.List.{List}
 use mathlib.Core.Logic.{⊎_elim}
 use Prim.Native.Nat.{ℕ, zero, suc, ◌+◌, ◌-◌, ◌*◌, ◌/◌, ◌%◌, ◌^◌, ◌≤◌, ◌<◌}
-use native.Mathlib.Nat.{mul-le-mul_right, lt_of_le_of_lt, suc-mul, div-le_self, div-lt_iff_lt-mul}
+use native.Mathlib.Nat.{mul-le-mul_right, lt_of_le_of_lt, div-le_self, div-lt_iff_lt-mul}
 use native.Mathlib.Omega.{arith}
 use lib.Count.{count_trailing_zeros}
 use lib.Pow.{pow_pos}
@@ -22,10 +22,6 @@ pub last_ticks : (n W : ℕ) → n ≡ words W → 1 ≤ W → (1 ≤ n) × (W �
 unfolding words
 last_ticks n W e some = (omega arith, omega arith, omega arith, omega arith)
 
--- The last word of a block stands in the table.
-pub last_in_lem : (n last k count L : ℕ) → n ≡ last + 1 → L ≡ 2 * count * n → k < 2 * count → k * n + last < L
-last_in_lem n last k count L e f l = let b : (k + 1) * n ≤ 2 * count * n = mul-le-mul_right n (omega arith) in omega (arith, suc-mul k n)
-
 -- Every block is some row's, of some value.
 row_of_block : (k : ℕ) → (r : ℕ) × (v : Bool) × (block r v ≡ k)
 row_of_block zero = (0, true, refl)
@@ -39,9 +35,6 @@ module _ (n W : ℕ) (T : List ℕ) (last ticks : ℕ) (some : n ≡ last + 1) (
   -- the last word of a block
   abbrev pub last_word : ℕ → ℕ
   last_word k = get_or T (k * n + last) 0
-
-  pub full_inside : ticks ≡ 64 → Inside W (Stands n T)
-  full_inside e r t v i = omega (arith, i.within)
 
   module _ (count : ℕ) (long : length T ≡ 2 * count * n) where
     pub below_inside : ((k : ℕ) → k < 2 * count → last_word k / 2 ^ ticks ≡ 0) → Inside W (Stands n T)

@@ -16,10 +16,8 @@ pub fn count_facts(marks: &[u64], n: usize, k: usize) -> usize
 {
     let m = 2 * k * n;
     let mut sum: usize = 0;
-    let mut i: usize = 0;
-    while i < m {
-        sum += u64::count_ones(marks[i]) as usize;
-        i += 1;
+    for w in &marks[..m] {
+        sum += w.count_ones() as usize;
     }
     sum
 }
@@ -29,14 +27,12 @@ fn column_clashes(marks: &[u64], count: usize, n: usize, q: usize) -> bool
     requires { (q < n) × (length marks.now ≡ 2 * count * n) }
     ensures { (result ≡ true) ↔ ClashIn n marks.now q }
 {
-    let mut row: usize = 0;
-    while row < count {
+    for row in 0..count {
         let yes = word_at(marks, n, q, row, true);
         let no = word_at(marks, n, q, row, false);
         if yes & no != 0 {
             return true;
         }
-        row += 1;
     }
     false
 }
@@ -46,13 +42,10 @@ pub fn clash_in(marks: &[u64], count: usize, n: usize) -> bool
     requires { length marks.now ≡ 2 * count * n }
     ensures { (result ≡ true) ↔ Clash (Stands n marks.now) }
 {
-    let mut q: usize = 0;
-    while q < n {
-        let hit = column_clashes(marks, count, n, q);
-        if hit {
+    for q in 0..n {
+        if column_clashes(marks, count, n, q) {
             return true;
         }
-        q += 1;
     }
     false
 }
@@ -68,12 +61,10 @@ pub fn inside_window(marks: &[u64], count: usize, n: usize, window: usize) -> bo
         return true;
     }
     let blocks = 2 * count;
-    let mut k: usize = 0;
-    while k < blocks {
+    for k in 0..blocks {
         if marks[k * n + last] >> ticks != 0 {
             return false;
         }
-        k += 1;
     }
     true
 }

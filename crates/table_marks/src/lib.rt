@@ -60,7 +60,7 @@ pub fn has_mark(table: &[u64], n: usize, row: usize, tick: usize, value: bool) -
 }
 
 // What a cell says.
-#[derive(Drop)]
+#[derive(Clone, Copy, PartialEq, Eq)]
 pub enum Value {
     Unsettled,
     True,

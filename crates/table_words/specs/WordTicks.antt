@@ -1,6 +1,6 @@
 -- Ticks of one word joined to a table, told by marks. Assumes nothing.
 -- n is how many words a row has for each value, q a word of a row, T the table before and T' after.
-use Rattle.std.specs.Prelude.{◌≡◌, Bool, not, List, [], ◌∷◌, ◌↔◌, ℕ, ◌+◌, ◌-◌, ◌*◌, ◌/◌, ◌%◌, ◌^◌, ◌≤◌, ◌<◌, length}
+use Rattle.std.specs.Prelude.{◌≡◌, Bool, true, false, not, List, [], ◌∷◌, ◌↔◌, ℕ, ◌+◌, ◌-◌, ◌*◌, ◌/◌, ◌%◌, ◌^◌, ◌≤◌, ◌<◌, length}
 use Rattle.spec_ticks.specs.Ticks.{Has}
 use Rattle.spec_tilco.specs.Inference.{mark, Marks, ◌or◌}
 use Rattle.spec_tilco.specs.Table.{Stands}
@@ -44,6 +44,11 @@ room (x ∷ xs) = (2 ^ 64 - x) + room xs
 pub record Tells (T T' : List ℕ) (changed : ℕ) : Type 0 where
   pub still : changed ≡ 0 → T' ≡ T
   pub less_room : 0 < changed → room T' < room T
+
+-- A flag as such a number.
+abbrev pub one_if : Bool → ℕ
+one_if true = 1
+one_if false = 0
 
 -- The marks R are gained, by a function that says whether the table changed.
 pub record Joins (n : ℕ) (R : Marks) (T T' : List ℕ) (changed : ℕ) : Type 0 where

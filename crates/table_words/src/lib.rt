@@ -4,7 +4,7 @@
 
 ghost use Rattle.std.specs.Prelude.{◌≡◌, ◌+◌, ◌*◌, ◌^◌, ◌<◌, get_or};
 ghost use Rattle.spec_ticks.specs.Ticks.{block};
-ghost use Rattle.table_words.specs.WordTicks.{HasRow, Ticks, Here, Sides, Reads, Bits, Joins};
+ghost use Rattle.table_words.specs.WordTicks.{HasRow, Ticks, Here, Sides, Reads, Bits, one_if, Joins};
 
 use table_marks::place_of;
 
@@ -34,32 +34,32 @@ pub fn words_at(marks: &[u64], n: usize, q: usize, row: usize, u: bool) -> Words
     Words { this, other }
 }
 
-// Joins ticks to word q of a row's marks of one value; 0 if they were there.
-pub fn add_word(marks: &mut [u64], n: usize, q: usize, row: usize, value: bool, ticks: u64) -> u64
+// Joins ticks to word q of a row's marks of one value: was one of them not there?
+pub fn add_word(marks: &mut [u64], n: usize, q: usize, row: usize, value: bool, ticks: u64) -> bool
     requires { (q < n) × HasRow n marks.old row }
-    ensures { Joins n (Here row value q (Bits ticks)) marks.old marks.new result }
+    ensures { Joins n (Here row value q (Bits ticks)) marks.old marks.new (one_if result) }
 {
     let i = place_of(n, q, row, value);
     let old = marks[i];
     let new = old | ticks;
     if new == old {
-        return 0;
+        return false;
     }
     marks[i] = new;
-    1
+    true
 }
 
-// A row's words after ticks were joined to them; `changed` is 0 if all were there.
-#[derive(Drop)]
+// A row's words after ticks were joined to them: was one of the ticks not there?
+#[derive(Clone, Copy)]
 pub struct Joined {
-    pub changed: u64,
+    pub changed: bool,
     pub words: Words,
 }
 
 // Joins ticks to word q of a row's marks of value u and of the other value.
 pub fn add_words(marks: &mut [u64], n: usize, q: usize, row: usize, u: bool, ticks: Words) -> Joined
     requires { (q < n) × HasRow n marks.old row }
-    ensures joins { Joins n (Sides row u q (Bits ticks.this) (Bits ticks.other)) marks.old marks.new result.changed }
+    ensures joins { Joins n (Sides row u q (Bits ticks.this) (Bits ticks.other)) marks.old marks.new (one_if result.changed) }
     ensures reads { Reads n marks.new q row u result.words.this result.words.other }
 {
     let i = place_of(n, q, row, u);
@@ -70,11 +70,17 @@ pub fn add_words(marks: &mut [u64], n: usize, q: usize, row: usize, u: bool, tic
     let other = b | ticks.other;
     let words = Words { this, other };
     if (this ^ a) | (other ^ b) == 0 {
-        return Joined { changed: 0, words };
+        return Joined {
+            changed: false,
+            words,
+        };
     }
     marks[i] = this;
     marks[j] = other;
-    Joined { changed: 1, words }
+    Joined {
+        changed: true,
+        words,
+    }
 }
 
 // The window's ticks in word q.

@@ -8,9 +8,9 @@ use native.Mathlib.Decide.{dec_lt, ℕ_discrete}
 use native.Mathlib.Nat.{add-zero}
 use native.Mathlib.Omega.{arith}
 use lib.ListN.{length, length-append}
+use Rattle.std.specs.Prelude.{Some}
 use Rattle.read_bytes.specs.Bytes.{byte, peek, between, digit, starts}
 use Rattle.read_bytes.specs.Numbers.{digits, number}
-use Rattle.read_bytes.specs.declared.numbers.Number.TheVariants.{Value}
 use Rattle.read_bytes.proofs.Tests.{between_in, between_is}
 use Rattle.read_bytes.proofs.Values.{digits_on, digits_off, number_zero, number_some}
 use Rattle.write_bytes.specs.Writes.{last_digits, decimal_text}
@@ -64,19 +64,19 @@ module _ (s : List ℕ) where
           i (omega arith) (tenth k n h) b.0
 
   -- A number that stands at p, with no digit after it, is read there.
-  pub number_back : (p n : ℕ) → n < 100000 → starts s p (decimal_text n) ≡ true → digit (peek s (p + length (decimal_text n))) ≡ false → number s p ≡ Value n (p + length (decimal_text n))
+  pub number_back : (p n : ℕ) → n < 100000 → starts s p (decimal_text n) ≡ true → digit (peek s (p + length (decimal_text n))) ≡ false → number s p ≡ Some (n, p + length (decimal_text n))
   unfolding decimal_text
   number_back p n h a stop = go (ℕ_discrete n 0)
     where
-      go : Dec (n ≡ 0) → number s p ≡ Value n (p + length (last_digits 20 n))
+      go : Dec (n ≡ 0) → number s p ≡ Some (n, p + length (last_digits 20 n))
       go (yes e) =
           let o = digits_one 19 n (omega arith) in
           let f = starts_one s p (byte "0" + n) (rw o at a) in
           let l : p + 1 ≡ p + length (last_digits 20 n) = omega (arith, ap length o) in
-          sym (number_zero s p (byte "0" + n) f (omega arith)) ∙ ap (Value 0) l ∙ ap (λ (x : ℕ). Value x (p + length (last_digits 20 n))) (sym e)
+          sym (number_zero s p (byte "0" + n) f (omega arith)) ∙ ap (λ (q : ℕ). Some (0, q)) l ∙ ap (λ (x : ℕ). Some (x, p + length (last_digits 20 n))) (sym e)
       go (no e) =
           let b = between_is (byte "1") (byte "9") (peek s p) (first_read 20 n p (omega arith) (omega arith) a) in
           let m = decimal_most 4 n h in
           let w = last_digits 20 n in
           let k : length w + (5 - length w) ≡ 5 = omega arith in
-          sym (number_some s p (peek s p) refl b.0 b.1) ∙ ap (λ (q : ℕ). digits s q p 0) (sym k) ∙ digits_read 20 n (5 - length w) p (omega arith) a ∙ digits_off s (5 - length w) (p + length w) n (peek s (p + length w)) refl stop
+          sym (number_some s p (peek s p) refl b.0 b.1) ∙ ap Some (ap (λ (q : ℕ). digits s q p 0) (sym k) ∙ digits_read 20 n (5 - length w) p (omega arith) a ∙ digits_off s (5 - length w) (p + length w) n (peek s (p + length w)) refl stop)

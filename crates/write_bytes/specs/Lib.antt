@@ -1,2 +1,3 @@
 -- The definitions that the contracts cite.
 pub mod Writes
+pub mod Writers

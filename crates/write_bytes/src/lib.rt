@@ -1,46 +1,97 @@
-// Writers of bytes into a lent buffer, from a place on: one byte, a text, a number. Each stores what there is room for and answers the place
-// after its whole text, so that lent a buffer of no room it measures. And how many digits a number has. Assumes that the places can be counted.
+// A writer of bytes into a lent buffer: one byte, a text, a number. It stores what there is room for and counts all, so that lent a buffer of no room it
+// measures. And how many digits a number has. Assumes that the places can be counted.
 #![tactic(auto)]
 
 ghost use Rattle.std.specs.Prelude.{◌≡◌, [], ◌∷◌, ◌<◌, length};
-ghost use Rattle.write_bytes.specs.Writes.{Counted, Wrote, decimal_text};
+ghost use Rattle.write_bytes.specs.Writes.{Counted, decimal_text};
+ghost use Rattle.write_bytes.specs.Writers.{Writes};
 
-// One byte more.
-pub fn push(b: u8, out: &mut [u8], used: usize) -> usize
-    requires { Counted used (b ∷ []) }
-    ensures { Wrote (b ∷ []) used out.old out.new result }
-{
-    if used < out.len() {
-        out[used] = b;
-    }
-    used + 1
+// A lent buffer, and how many bytes were written: the place of the next one.
+#[derive(Drop)]
+pub struct Writer<'a> {
+    out: &'a mut [u8],
+    used: usize,
 }
 
-// The bytes of a text.
-pub fn push_text(text: &[u8], out: &mut [u8], used: usize) -> usize
-    requires { Counted used text.now }
-    ensures { Wrote text.now used out.old out.new result }
-{
-    let mut at = used;
-    let mut i = 0;
-    while i < text.len() {
-        at = push(text[i], out, at);
-        i += 1;
+impl<'a> Writer<'a> {
+    // Writes from the buffer's first place on.
+    pub fn new(out: &'a mut [u8]) -> Writer<'a>
+        ensures same { result.out.ghost_name ≡ out.entry.ghost_name }
+        ensures lent { result.out.now ≡ out.old }
+        ensures start { result.used ≡ 0 }
+    {
+        Writer::at(out, 0)
     }
-    at
-}
 
-// A number in decimal digits, the first not 0 but for 0 itself.
-pub fn decimal(n: usize, out: &mut [u8], used: usize) -> usize
-    requires { Counted used (decimal_text n) }
-    ensures { Wrote (decimal_text n) used out.old out.new result }
-{
-    let last = (48 + n % 10) as u8;
-    if n < 10 {
-        return push(last, out, used);
+    // Writes from a place on: what stands before it counts as written.
+    pub fn at(out: &'a mut [u8], used: usize) -> Writer<'a>
+        ensures same { result.out.ghost_name ≡ out.entry.ghost_name }
+        ensures lent { result.out.now ≡ out.old }
+        ensures start { result.used ≡ used }
+    {
+        Writer { out, used }
     }
-    let next = decimal(n / 10, out, used);
-    push(last, out, next)
+
+    // How many bytes were written.
+    pub fn length(&self) -> usize
+        ensures { result ≡ self.now.used }
+    {
+        self.used
+    }
+
+    // One byte more.
+    pub fn push(&mut self, b: u8)
+        requires { Counted self.old.used (b ∷ []) }
+        ensures { Writes (b ∷ []) self.old self.new }
+    {
+        if self.used < self.out.len() {
+            self.out[self.used] = b;
+        }
+        self.used += 1;
+    }
+
+    // The bytes of a text.
+    pub fn push_text(&mut self, text: &[u8])
+        requires { Counted self.old.used text.now }
+        ensures { Writes text.now self.old self.new }
+    {
+        let end = self.used + text.len();
+        if self.out.len() < end {
+            self.push_part(text);
+            return;
+        }
+        self.out[self.used..end].copy_from_slice(text);
+        self.used = end;
+    }
+
+    // The bytes of a text for which there may be no room.
+    fn push_part(&mut self, text: &[u8])
+        requires { Counted self.old.used text.now }
+        ensures { Writes text.now self.old self.new }
+    {
+        let mut at = self.used;
+        for b in text {
+            if at < self.out.len() {
+                self.out[at] = *b;
+            }
+            at += 1;
+        }
+        self.used = at;
+    }
+
+    // A number in decimal digits, the first not 0 but for 0 itself.
+    pub fn decimal(&mut self, n: usize)
+        requires { Counted self.old.used (decimal_text n) }
+        ensures { Writes (decimal_text n) self.old self.new }
+    {
+        let last = (48 + n % 10) as u8;
+        if n < 10 {
+            self.push(last);
+            return;
+        }
+        self.decimal(n / 10);
+        self.push(last);
+    }
 }
 
 // How many bytes `decimal` writes of a number below 10,000.

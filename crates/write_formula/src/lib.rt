@@ -1,6 +1,6 @@
-// A rule's text as it is printed back, written from the arena into a lent buffer: parentheses only where the grammar needs them, intervals in square brackets.
+// A rule's text as it is printed back, written from the arena: parentheses only where the grammar needs them, intervals in square brackets.
 // Assumes that the rule's names are declared and that the places of its text can be counted. `s` is the sheet's text, `names` the index of the declared names
-// in it, `used` the place to write from. The writers of parts call one another in a cycle, and the formula's size falls.
+// in it. The writers of parts call one another in a cycle, and the formula's size falls.
 #![tactic(auto)]
 
 ghost use Rattle.std.specs.Prelude.{◌≡◌, ℕ, ◌<◌, get_or};
@@ -14,14 +14,15 @@ ghost use Rattle.spec_tilco.specs.Formula.{Written};
 ghost use Rattle.spec_tilco.specs.Formula.Written.{pair, time, keep};
 ghost use Rattle.spec_grammar.specs.Grammar.{before as partBefore, below, keep_word_lem, time_sign};
 ghost use Rattle.spec_grammar.specs.Grammar.Part.{level};
-ghost use Rattle.write_bytes.specs.Writes.{Counted, Wrote};
+ghost use Rattle.write_bytes.specs.Writes.{Counted};
+ghost use Rattle.write_bytes.specs.Writers.{Writes};
 ghost use Rattle.spec_print.specs.RuleTexts.{rank, part_of, end_text, interval_tokens, printed};
 ghost use Rattle.write_formula.specs.PartTexts.{bare_text, part_text, paren_text, NamedNode, NamedParts};
 
 use read_arena::{Node, Sign, node_at};
 use read_index::LINKS;
 use spec_limits::OFFSET_ZERO;
-use write_bytes::{decimal, push, push_text};
+use write_bytes::Writer;
 use write_lines::write_word;
 
 // The ranks of a plain part, of a timed part and of a formula.
@@ -81,38 +82,39 @@ fn rank_of(node: Node) -> usize
 }
 
 // The name of a signal.
-fn write_name(s: &[u8], names: &[u16], signal: u16, out: &mut [u8], used: usize) -> usize
-    requires { (signal < name_count names.now) × Counted used (get_or (names_in s.now names.now) signal []) }
-    ensures { Wrote (get_or (names_in s.now names.now) signal []) used out.old out.new result }
+fn write_name(w: &mut Writer, s: &[u8], names: &[u16], signal: u16)
+    requires { (signal < name_count names.now) × Counted w.old.used (get_or (names_in s.now names.now) signal []) }
+    ensures { Writes (get_or (names_in s.now names.now) signal []) w.old w.new }
 {
     let at = names[LINKS + signal as usize] as usize;
-    write_word(s, at, out, used)
+    write_word(w, s, at);
 }
 
 // An end of an interval, whose offset has 64 added.
-fn write_end(offset: usize, out: &mut [u8], used: usize) -> usize
-    requires { Counted used (end_text offset) }
-    ensures { Wrote (end_text offset) used out.old out.new result }
+fn write_end(w: &mut Writer, offset: usize)
+    requires { Counted w.old.used (end_text offset) }
+    ensures { Writes (end_text offset) w.old w.new }
 {
     if offset < OFFSET_ZERO {
-        let digits = push(b'-', out, used);
-        return decimal(OFFSET_ZERO - offset, out, digits);
+        w.push(b'-');
+        w.decimal(OFFSET_ZERO - offset);
+    } else {
+        w.decimal(offset - OFFSET_ZERO);
     }
-    decimal(offset - OFFSET_ZERO, out, used)
 }
 
 // An interval in square brackets.
-fn write_interval(first: u16, more: u16, out: &mut [u8], used: usize) -> usize
-    requires { Counted used (flatten (interval_tokens first more)) }
-    ensures { Wrote (flatten (interval_tokens first more)) used out.old out.new result }
+fn write_interval(w: &mut Writer, first: u16, more: u16)
+    requires { Counted w.old.used (flatten (interval_tokens first more)) }
+    ensures { Writes (flatten (interval_tokens first more)) w.old w.new }
 {
     let low = first as usize;
     let high = low + more as usize;
-    let end = push(b'[', out, used);
-    let comma = write_end(low, out, end);
-    let last = push(b',', out, comma);
-    let close = write_end(high, out, last);
-    push(b']', out, close)
+    w.push(b'[');
+    write_end(w, low);
+    w.push(b',');
+    write_end(w, high);
+    w.push(b']');
 }
 
 // `@` or `?`.
@@ -123,112 +125,99 @@ fn time_sign(always: bool) -> u8
 }
 
 // The sign between two formulas.
-fn write_sign(sign: Sign, out: &mut [u8], used: usize) -> usize
-    requires { Counted used (sign_text (op_of sign)) }
-    ensures { Wrote (sign_text (op_of sign)) used out.old out.new result }
+fn write_sign(w: &mut Writer, sign: Sign)
+    requires { Counted w.old.used (sign_text (op_of sign)) }
+    ensures { Writes (sign_text (op_of sign)) w.old w.new }
 {
     match sign {
-        Sign::And => push(b'&', out, used),
-        Sign::Or => push(b'|', out, used),
-        Sign::Implies => push_text(b"=>", out, used),
-        Sign::Iff => push_text(b"<=>", out, used),
+        Sign::And => w.push(b'&'),
+        Sign::Or => w.push(b'|'),
+        Sign::Implies => w.push_text(b"=>"),
+        Sign::Iff => w.push_text(b"<=>"),
     }
 }
 
 // The word since or until, and the `(` after it.
-fn write_keep_word(since: bool, out: &mut [u8], used: usize) -> usize
-    requires { Counted used (keep_word_lem since ++ bytes "(") }
-    ensures { Wrote (keep_word_lem since ++ bytes "(") used out.old out.new result }
+fn write_keep_word(w: &mut Writer, since: bool)
+    requires { Counted w.old.used (keep_word_lem since ++ bytes "(") }
+    ensures { Writes (keep_word_lem since ++ bytes "(") w.old w.new }
 {
     if since {
-        push_text(b"since(", out, used)
+        w.push_text(b"since(");
     } else {
-        push_text(b"until(", out, used)
+        w.push_text(b"until(");
     }
 }
 
 // A parenthesis, where one is needed.
-fn write_paren(needed: bool, paren: u8, out: &mut [u8], used: usize) -> usize
-    requires { Counted used (paren_text needed paren) }
-    ensures { Wrote (paren_text needed paren) used out.old out.new result }
+fn write_paren(w: &mut Writer, needed: bool, paren: u8)
+    requires { Counted w.old.used (paren_text needed paren) }
+    ensures { Writes (paren_text needed paren) w.old w.new }
 {
-    if needed { push(paren, out, used) } else { used }
+    if needed {
+        w.push(paren);
+    }
 }
 
 // The formula at a node, where a part of a rank up to `most` may stand: in parentheses if it is of a higher one.
-#[cycle(write_bare_write_keep_write_pair_write_part_write_timed)]
-fn write_part(
-    s: &[u8],
-    names: &[u16],
-    arena: &[u16],
-    node: usize,
-    most: usize,
-    out: &mut [u8],
-    used: usize,
-) -> usize
+#[cycle(write)]
+fn write_part(w: &mut Writer, s: &[u8], names: &[u16], arena: &[u16], node: usize, most: usize)
     requires named_node { NamedNode names.now arena.now node }
-    requires counted { Counted used (part_text (names_in s.now names.now) most (written_at arena.now node)) }
-    ensures { Wrote (part_text (names_in s.now names.now) most (written_at arena.now node)) used out.old out.new result }
+    requires counted { Counted w.old.used (part_text (names_in s.now names.now) most (written_at arena.now node)) }
+    ensures { Writes (part_text (names_in s.now names.now) most (written_at arena.now node)) w.old w.new }
 {
     let k = node_at(arena, node);
     let needed = most < rank_of(k);
-    let inner = write_paren(needed, b'(', out, used);
-    let close = write_bare(s, names, arena, k, out, inner);
-    write_paren(needed, b')', out, close)
+    write_paren(w, needed, b'(');
+    write_bare(w, s, names, arena, k);
+    write_paren(w, needed, b')');
 }
 
 // The formula of a node, without parentheses around it.
-#[cycle(write_bare_write_keep_write_pair_write_part_write_timed)]
-fn write_bare(
-    s: &[u8],
-    names: &[u16],
-    arena: &[u16],
-    node: Node,
-    out: &mut [u8],
-    used: usize,
-) -> usize
+#[cycle(write)]
+fn write_bare(w: &mut Writer, s: &[u8], names: &[u16], arena: &[u16], node: Node)
     requires named_parts { NamedParts names.now arena.now node }
-    requires counted { Counted used (bare_text (names_in s.now names.now) (text_of node (written_at arena.now))) }
-    ensures { Wrote (bare_text (names_in s.now names.now) (text_of node (written_at arena.now))) used out.old out.new result }
+    requires counted { Counted w.old.used (bare_text (names_in s.now names.now) (text_of node (written_at arena.now))) }
+    ensures { Writes (bare_text (names_in s.now names.now) (text_of node (written_at arena.now))) w.old w.new }
 {
     match node {
-        Node::Name(signal) => write_name(s, names, signal, out, used),
+        Node::Name(signal) => write_name(w, s, names, signal),
         Node::Deny(x) => {
-            let next = push(b'!', out, used);
-            write_part(s, names, arena, x, PLAIN, out, next)
+            w.push(b'!');
+            write_part(w, s, names, arena, x, PLAIN);
         }
-        Node::Pair(sign, x, y) => write_pair(s, names, arena, sign, x, y, out, used),
+        Node::Pair(sign, x, y) => write_pair(w, s, names, arena, sign, x, y),
         Node::Time(always, x, first, more) => write_timed(
-            s, names, arena, always, x, first, more, out, used,
+            w, s, names, arena, always, x, first, more,
         ),
-        Node::Keep(since, x, y, _) => write_keep(s, names, arena, since, x, y, out, used),
+        Node::Keep(since, x, y, _) => write_keep(w, s, names, arena, since, x, y),
     }
 }
 
 // Two formulas with a sign between them.
-#[cycle(write_bare_write_keep_write_pair_write_part_write_timed)]
+#[cycle(write)]
 fn write_pair(
+    w: &mut Writer,
     s: &[u8],
     names: &[u16],
     arena: &[u16],
     sign: Sign,
     left: usize,
     right: usize,
-    out: &mut [u8],
-    used: usize,
-) -> usize
+)
     requires named_node { NamedNode names.now arena.now left × NamedNode names.now arena.now right }
-    requires counted { Counted used (bare_text (names_in s.now names.now) (pair (op_of sign) (written_at arena.now left) (written_at arena.now right))) }
-    ensures { Wrote (bare_text (names_in s.now names.now) (pair (op_of sign) (written_at arena.now left) (written_at arena.now right))) used out.old out.new result }
+    requires counted { Counted w.old.used (bare_text (names_in s.now names.now) (pair (op_of sign) (written_at arena.now left) (written_at arena.now right))) }
+    ensures { Writes (bare_text (names_in s.now names.now) (pair (op_of sign) (written_at arena.now left) (written_at arena.now right))) w.old w.new }
 {
-    let middle = write_part(s, names, arena, left, rank_before(sign), out, used);
-    let next = write_sign(sign, out, middle);
-    write_part(s, names, arena, right, rank_below(sign), out, next)
+    write_part(w, s, names, arena, left, rank_before(sign));
+    write_sign(w, sign);
+    write_part(w, s, names, arena, right, rank_below(sign));
 }
 
 // A formula with an interval after it.
-#[cycle(write_bare_write_keep_write_pair_write_part_write_timed)]
+#[cycle(write)]
 fn write_timed(
+    w: &mut Writer,
     s: &[u8],
     names: &[u16],
     arena: &[u16],
@@ -236,53 +225,43 @@ fn write_timed(
     child: usize,
     first: u16,
     more: u16,
-    out: &mut [u8],
-    used: usize,
-) -> usize
+)
     requires named_node { NamedNode names.now arena.now child }
-    requires counted { Counted used (bare_text (names_in s.now names.now) (time always first more (written_at arena.now child))) }
-    ensures { Wrote (bare_text (names_in s.now names.now) (time always first more (written_at arena.now child))) used out.old out.new result }
+    requires counted { Counted w.old.used (bare_text (names_in s.now names.now) (time always first more (written_at arena.now child))) }
+    ensures { Writes (bare_text (names_in s.now names.now) (time always first more (written_at arena.now child))) w.old w.new }
 {
-    let sign = write_part(s, names, arena, child, TIMED, out, used);
-    let next = push(time_sign(always), out, sign);
-    write_interval(first, more, out, next)
+    write_part(w, s, names, arena, child, TIMED);
+    w.push(time_sign(always));
+    write_interval(w, first, more);
 }
 
 // since or until with its two formulas.
-#[cycle(write_bare_write_keep_write_pair_write_part_write_timed)]
+#[cycle(write)]
 fn write_keep(
+    w: &mut Writer,
     s: &[u8],
     names: &[u16],
     arena: &[u16],
     since: bool,
     left: usize,
     right: usize,
-    out: &mut [u8],
-    used: usize,
-) -> usize
+)
     requires named_node { NamedNode names.now arena.now left × NamedNode names.now arena.now right }
-    requires counted { Counted used (bare_text (names_in s.now names.now) (keep since (written_at arena.now left) (written_at arena.now right))) }
-    ensures { Wrote (bare_text (names_in s.now names.now) (keep since (written_at arena.now left) (written_at arena.now right))) used out.old out.new result }
+    requires counted { Counted w.old.used (bare_text (names_in s.now names.now) (keep since (written_at arena.now left) (written_at arena.now right))) }
+    ensures { Writes (bare_text (names_in s.now names.now) (keep since (written_at arena.now left) (written_at arena.now right))) w.old w.new }
 {
-    let inner = write_keep_word(since, out, used);
-    let comma = write_part(s, names, arena, left, FORMULA, out, inner);
-    let next = push(b',', out, comma);
-    let close = write_part(s, names, arena, right, FORMULA, out, next);
-    push(b')', out, close)
+    write_keep_word(w, since);
+    write_part(w, s, names, arena, left, FORMULA);
+    w.push(b',');
+    write_part(w, s, names, arena, right, FORMULA);
+    w.push(b')');
 }
 
 // The rule at a node.
-pub fn write_formula(
-    s: &[u8],
-    names: &[u16],
-    arena: &[u16],
-    node: usize,
-    out: &mut [u8],
-    used: usize,
-) -> usize
+pub fn write_formula(w: &mut Writer, s: &[u8], names: &[u16], arena: &[u16], node: usize)
     requires named_node { NamedNode names.now arena.now node }
-    requires counted { Counted used (printed (names_in s.now names.now) (written_at arena.now node)) }
-    ensures { Wrote (printed (names_in s.now names.now) (written_at arena.now node)) used out.old out.new result }
+    requires counted { Counted w.old.used (printed (names_in s.now names.now) (written_at arena.now node)) }
+    ensures { Writes (printed (names_in s.now names.now) (written_at arena.now node)) w.old w.new }
 {
-    write_part(s, names, arena, node, FORMULA, out, used)
+    write_part(w, s, names, arena, node, FORMULA);
 }

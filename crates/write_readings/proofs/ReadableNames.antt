@@ -8,11 +8,10 @@ use native.Mathlib.Omega.{arith}
 use borrow.Author.Tests.{le-leb}
 use lib.ListN.{length, get_or}
 use lib.Seq.{take_all}
+use Rattle.std.specs.Prelude.{Option, Some}
 use Rattle.spec_limits.specs.Limits.{most_name_bytes}
 use Rattle.spec_tilco.specs.Lists.{All}
 use Rattle.read_bytes.specs.Bytes.{bytes, byte, peek, name_byte, starts, run_end, every}
-use Rattle.read_names.specs.declared.EndNumber.{EndNumber}
-use Rattle.read_names.specs.declared.NameRead.TheVariants.{Name}
 use Rattle.read_names.specs.EndNumbers.{end_number}
 use Rattle.read_names.specs.Spellings.{spelling_at, spelling_end, same_text_lem, find_name, is_spelled, name_at}
 use Rattle.read_bytes.proofs.Places.{peek_out}
@@ -23,7 +22,7 @@ use Rattle.write_bytes.proofs.Standing.{starts_self}
 
 -- The whole of w is a name: read by itself, it is one up to its end.
 abbrev pub WholeName : List ℕ → Type 0
-WholeName w = name_at w 0 ≡ Name (length w) (end_number w)
+WholeName w = name_at w 0 ≡ Some (length w, end_number w)
 
 -- Each is a name, and no two are the same.
 pub record Readable (names : List (List ℕ)) : Type 0 where
@@ -57,7 +56,7 @@ alone w all =
 -- ---- where a name stands
 
 -- Two places with the same spelling, of which the first has a name.
-module _ (s : List ℕ) (p : ℕ) {q : ℕ} {n : EndNumber} (h : name_at s p ≡ Name q n) (t : List ℕ) (o : ℕ) (same : spelling_at t o ≡ spelling_at s p) where
+module _ (s : List ℕ) (p : ℕ) {q : ℕ} {n : Option ℕ} (h : name_at s p ≡ Some (q, n)) (t : List ℕ) (o : ℕ) (same : spelling_at t o ≡ spelling_at s p) where
   first_same : peek t o ≡ peek s p
   first_same = go (name_byte (peek t o)) refl
     where
@@ -75,14 +74,14 @@ module _ (s : List ℕ) (p : ℕ) {q : ℕ} {n : EndNumber} (h : name_at s p ≡
   spelled_same w all = is_word t o w all ∙ ap (same_text_lem w) same ∙ sym (is_word s p w all)
 
   -- The second has the name too.
-  pub name_same : name_at t o ≡ Name (spelling_end t o) n
+  pub name_same : name_at t o ≡ Some (spelling_end t o, n)
   unfolding name_at every name_byte
   name_same =
       let m = named s p h in
       rw (first_same, spelled_same (bytes "since") refl, spelled_same (bytes "until") refl, same, m.first, le-leb (length (spelling_at s p)) most_name_bytes m.short, m.not_since, m.not_until, m.ended, ← m.number)
 
 -- The name at a place of a text is a name by itself.
-pub name_whole : (s : List ℕ) (p : ℕ) {q : ℕ} {n : EndNumber} → name_at s p ≡ Name q n → WholeName (spelling_at s p)
+pub name_whole : (s : List ℕ) (p : ℕ) {q : ℕ} {n : Option ℕ} → name_at s p ≡ Some (q, n) → WholeName (spelling_at s p)
 unfolding run_end
 name_whole s p h =
     let w = spelling_at s p in
@@ -98,7 +97,7 @@ whole_bytes w h = rw (← whole_spelling) (run_every name_byte w 0)
     whole_spelling = sym (run_slice name_byte w 0 (length w) (named w 0 h).ends) ∙ take_all (length w - 0) w (omega arith)
 
 -- A name that stands before an LF is read there.
-pub name_back : (s : List ℕ) (p : ℕ) (w : List ℕ) → WholeName w → starts s p w ≡ true → peek s (p + length w) ≡ byte "\n" → (name_at s p ≡ Name (p + length w) (end_number w)) × (spelling_at s p ≡ w)
+pub name_back : (s : List ℕ) (p : ℕ) (w : List ℕ) → WholeName w → starts s p w ≡ true → peek s (p + length w) ≡ byte "\n" → (name_at s p ≡ Some (p + length w, end_number w)) × (spelling_at s p ≡ w)
 unfolding run_end
 name_back s p w h a lf =
     let all = whole_bytes w h in

@@ -1,4 +1,4 @@
-// The lines of readings and of spans, written into a lent buffer, and how long they are. Assumes that the places of an entry can be counted. The names
+// The lines of readings and of spans, written through a writer, and how long they are. Assumes that the places of an entry can be counted. The names
 // stand at `places` of the sheet text `s`.
 #![tactic(auto)]
 
@@ -6,33 +6,28 @@ ghost use Rattle.std.specs.Prelude.{◌≡◌, [], ◌<◌, ◌≤◌, length, g
 ghost use Rattle.spec_limits.specs.Limits.{most_name_bytes};
 ghost use Rattle.read_names.specs.Spellings.{names_at};
 ghost use Rattle.read_reading.specs.Spans.{span};
-ghost use Rattle.write_bytes.specs.Writes.{Counted, Wrote};
+ghost use Rattle.write_bytes.specs.Writes.{Counted};
+ghost use Rattle.write_bytes.specs.Writers.{Writes};
 ghost use Rattle.write_readings.specs.EntryTexts.{value_text, entry_text, EntryLong};
 
 use read_names::spelling_end;
-use write_bytes::digits_of;
+use write_bytes::{Writer, digits_of};
 use write_lines::{one_if, write_name_line, write_number_line};
 
 // An entry's last two lines, whatever its ticks are: its signal's name, and its value.
-fn write_value(
-    s: &[u8],
-    places: &[u16],
-    signal: usize,
-    value: bool,
-    out: &mut [u8],
-    used: usize,
-) -> usize
-    requires { (signal < length places.now) × Counted used (value_text (names_at s.now places.now) (span signal value 0 0)) }
-    ensures { Wrote (value_text (names_at s.now places.now) (span signal value 0 0)) used out.old out.new result }
+fn write_value(w: &mut Writer, s: &[u8], places: &[u16], signal: usize, value: bool)
+    requires { (signal < length places.now) × Counted w.old.used (value_text (names_at s.now places.now) (span signal value 0 0)) }
+    ensures { Writes (value_text (names_at s.now places.now) (span signal value 0 0)) w.old w.new }
 {
     let name = places[signal] as usize;
-    let line = write_name_line(s, name, out, used);
+    write_name_line(w, s, name);
     let bit = one_if(value);
-    write_number_line(b"value=", bit, out, line)
+    write_number_line(w, b"value=", bit);
 }
 
 // The lines of an entry: those of a span, or of a reading, whose tick is `first`.
 pub fn write_entry(
+    w: &mut Writer,
     spans: bool,
     s: &[u8],
     places: &[u16],
@@ -40,20 +35,17 @@ pub fn write_entry(
     value: bool,
     first: usize,
     last: usize,
-    out: &mut [u8],
-    used: usize,
-) -> usize
-    requires { (signal < length places.now) × Counted used (entry_text spans (names_at s.now places.now) (span signal value first last)) }
-    ensures { Wrote (entry_text spans (names_at s.now places.now) (span signal value first last)) used out.old out.new result }
+)
+    requires { (signal < length places.now) × Counted w.old.used (entry_text spans (names_at s.now places.now) (span signal value first last)) }
+    ensures { Writes (entry_text spans (names_at s.now places.now) (span signal value first last)) w.old w.new }
 {
     if spans {
-        let to = write_number_line(b"from=", first, out, used);
-        let rest = write_number_line(b"to=", last, out, to);
-        write_value(s, places, signal, value, out, rest)
+        write_number_line(w, b"from=", first);
+        write_number_line(w, b"to=", last);
     } else {
-        let rest = write_number_line(b"at=", first, out, used);
-        write_value(s, places, signal, value, out, rest)
+        write_number_line(w, b"at=", first);
     }
+    write_value(w, s, places, signal, value);
 }
 
 // How many bytes a signal's name has.

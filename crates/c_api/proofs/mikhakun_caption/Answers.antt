@@ -1,11 +1,10 @@
 -- `mikhakun_caption` meets its contract. Assumes nothing.
-use mathlib.Core.Path.{sym, ap, ◌∙◌}
-use Rattle.op_caption.specs.CaptioningSays.{captioning_says}
+use mathlib.Core.Path.{ap, ◌∙◌}
 use Rattle.c_api.specs.Leaves.{left, leaves, part_values}
 use Rattle.c_api.proofs.mikhakun_caption.Goals as goal
 
-pub returns-in-Shown : goal.returns-in-Shown
-returns-in-Shown c = ap (left 0 c.args.place.now) c.tell_part.ensures ∙ ap (leaves part_values _ _) (sym (ap captioning_says c.in-Shown.is) ∙ c.caption_part-a.ensures)
+pub returns-in-Ok : goal.returns-in-Ok
+returns-in-Ok c = ap (left 0 c.args.place.now) c.tell_part.ensures ∙ ap (leaves part_values _ _) c.in-Ok.ensures
 
-pub returns-in-Refused : goal.returns-in-Refused
-returns-in-Refused c = ap (leaves part_values _ _) (sym (ap captioning_says c.in-Refused.is) ∙ c.caption_part-a.ensures)
+pub returns-in-Err : goal.returns-in-Err
+returns-in-Err c = rw (c.tell_refusal.ensures.0, c.tell_refusal.ensures.1) (ap (leaves part_values _ _) c.in-Err.ensures)

@@ -13,19 +13,19 @@ pub words_at-r-requires : goal.words_at-r-requires
 words_at-r-requires c =
     let a = c.args in
     let o = c.requires.has_rows in
-    (o.2, has_row a.n a.count a.marks.now a.row o.0 o.1)
+    (o.2, has_row a.n a.on.now.count a.marks.now a.row o.0 o.1)
 
 pub words_at-x-requires : goal.words_at-x-requires
 words_at-x-requires c =
     let a = c.args in
     let o = c.requires.has_rows in
-    (o.2, has_row a.n a.count a.marks.now a.a o.0 (omega (arith, o.1, o.3)))
+    (o.2, has_row a.n a.on.now.count a.marks.now a.a o.0 (omega (arith, o.1, o.3)))
 
 pub words_at-y-requires : goal.words_at-y-requires
 words_at-y-requires c =
     let a = c.args in
     let o = c.requires.has_rows in
-    (o.2, has_row a.n a.count a.marks.now a.b o.0 (omega (arith, o.1, o.4)))
+    (o.2, has_row a.n a.on.now.count a.marks.now a.b o.0 (omega (arith, o.1, o.4)))
 
 pub store_own-requires : goal.store_own-requires
 store_own-requires c =
@@ -33,7 +33,7 @@ store_own-requires c =
     let a = c.args in
     let given = asked.queueable in
     let o = asked.has_rows in
-    record { row_lt_count = (o.1, o.2, has_row a.n a.count a.marks.now a.row o.0 o.1); ended = ended given.linked; list_fits = given.roomy }
+    record { row_lt_count = (o.1, o.2, has_row a.n a.on.now.count a.marks.now a.row o.0 o.1); ended = ended given.linked; list_fits = given.roomy }
 
 pub store_child-requires : goal.store_child-requires
 store_child-requires c =
@@ -41,8 +41,8 @@ store_child-requires c =
     let a = c.args in
     let o = asked.has_rows in
     let own = c.store_own.ensures in
-    let l : a.a < a.count = omega (arith, o.1, o.3) in
-    record { queueable = queueable_as own.queues_if.enters.keeps.size asked.queueable; x_lt_count = (l, o.2, omega (arith, has_row a.n a.count a.marks.now a.a o.0 l, own.joins.gains.size)) }
+    let l : a.a < a.on.now.count = omega (arith, o.1, o.3) in
+    record { queueable = queueable_as own.queues_if.enters.keeps.size asked.queueable; x_lt_count = (l, o.2, omega (arith, has_row a.n a.on.now.count a.marks.now a.a o.0 l, own.joins.gains.size)) }
 
 pub store_child-requires-2 : goal.store_child-requires-2
 store_child-requires-2 c =
@@ -51,8 +51,8 @@ store_child-requires-2 c =
     let o = asked.has_rows in
     let own = c.store_own.ensures in
     let left = c.store_child.ensures in
-    let l : a.b < a.count = omega (arith, o.1, o.4) in
-    record { queueable = queueable_as (left.notes.keeps.size ∙ own.queues_if.enters.keeps.size) asked.queueable; x_lt_count = (l, o.2, omega (arith, has_row a.n a.count a.marks.now a.b o.0 l, own.joins.gains.size, left.joins.gains.size)) }
+    let l : a.b < a.on.now.count = omega (arith, o.1, o.4) in
+    record { queueable = queueable_as (left.notes.keeps.size ∙ own.queues_if.enters.keeps.size) asked.queueable; x_lt_count = (l, o.2, omega (arith, has_row a.n a.on.now.count a.marks.now a.b o.0 l, own.joins.gains.size, left.joins.gains.size)) }
 
 pub returns : goal.returns
 returns c =
@@ -66,5 +66,5 @@ returns c =
     let right = c.store_child-2.ensures in
     let w = gate_ticks words-at.ensures words-at2.ensures words-at3.ensures in
     λ W. visits_by _ _ _ _ _ _ W _ _ _ _ _ _ (gate_steps _ _ _ _ _ _ _ _ _ _ _ _ _ o.has_rows.3 o.has_rows.4 _ _ _ w.0 w.1 w.2 own.joins left.joins right.joins W)
-    (λ e. notes_then _ _ _ (notes_parents _ _ _ _ _ o.queueable.linked _ _ _ _ o.has_rows.1 (rests_here a.rows.now a.row _ e (λ w s. s.0)) own.queues_if)
+    (λ e. notes_then _ _ _ (notes_parents _ _ _ _ _ o.queueable.linked _ _ _ _ o.has_rows.1 (rests_here a.on.now.rows.now a.row _ e (λ w s. s.0)) own.queues_if)
     (notes_then _ _ _ (notes_but _ _ _ left.notes) (notes_but _ _ _ right.notes)))

@@ -12,13 +12,13 @@ pub words_at-r-requires : goal.words_at-r-requires
 words_at-r-requires c =
     let a = c.args in
     let o = c.requires.has_rows in
-    (o.2, has_row a.n a.count a.marks.now a.row o.0 o.1)
+    (o.2, has_row a.n a.on.now.count a.marks.now a.row o.0 o.1)
 
 pub words_at-y-requires : goal.words_at-y-requires
 words_at-y-requires c =
     let a = c.args in
     let o = c.requires.has_rows in
-    (o.2, has_row a.n a.count a.marks.now a.x o.0 (omega (arith, o.1, o.3)))
+    (o.2, has_row a.n a.on.now.count a.marks.now a.x o.0 (omega (arith, o.1, o.3)))
 
 pub store_own-requires : goal.store_own-requires
 store_own-requires c =
@@ -26,7 +26,7 @@ store_own-requires c =
     let a = c.args in
     let given = asked.queueable in
     let o = asked.has_rows in
-    record { row_lt_count = (o.1, o.2, has_row a.n a.count a.marks.now a.row o.0 o.1); ended = ended given.linked; list_fits = given.roomy }
+    record { row_lt_count = (o.1, o.2, has_row a.n a.on.now.count a.marks.now a.row o.0 o.1); ended = ended given.linked; list_fits = given.roomy }
 
 pub store_child-requires : goal.store_child-requires
 store_child-requires c =
@@ -34,8 +34,8 @@ store_child-requires c =
     let a = c.args in
     let o = asked.has_rows in
     let own = c.store_own.ensures in
-    let l : a.x < a.count = omega (arith, o.1, o.3) in
-    record { queueable = queueable_as own.queues_if.enters.keeps.size asked.queueable; x_lt_count = (l, o.2, omega (arith, has_row a.n a.count a.marks.now a.x o.0 l, own.joins.gains.size)) }
+    let l : a.x < a.on.now.count = omega (arith, o.1, o.3) in
+    record { queueable = queueable_as own.queues_if.enters.keeps.size asked.queueable; x_lt_count = (l, o.2, omega (arith, has_row a.n a.on.now.count a.marks.now a.x o.0 l, own.joins.gains.size)) }
 
 pub returns : goal.returns
 returns c =
@@ -46,4 +46,4 @@ returns c =
     let own = c.store_own.ensures in
     let child = c.store_child.ensures in
     λ W. visits_by _ _ _ _ _ _ W _ _ _ _ _ _ (not_steps _ _ _ _ _ _ _ _ _ o.has_rows.3 words-at.ensures words-at2.ensures own.joins child.joins W)
-    (λ e. notes_then _ _ _ (notes_parents _ _ _ _ _ o.queueable.linked _ _ _ _ o.has_rows.1 (rests_here a.rows.now a.row _ e (λ w s. s.0)) own.queues_if) (notes_but _ _ _ child.notes))
+    (λ e. notes_then _ _ _ (notes_parents _ _ _ _ _ o.queueable.linked _ _ _ _ o.has_rows.1 (rests_here a.on.now.rows.now a.row _ e (λ w s. s.0)) own.queues_if) (notes_but _ _ _ child.notes))

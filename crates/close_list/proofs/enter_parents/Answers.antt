@@ -1,5 +1,6 @@
 -- `enter_parents` meets its contract. The invariant: a row of the list has its bit, or is still ahead. Assumes nothing.
 use native.Mathlib.Omega.{arith}
+use mathlib.Core.Path.{refl}
 use Rattle.close_list.proofs.Queueing.{walk_start, walk_more, walk_edge, walk_end}
 use Rattle.close_list.proofs.enter_parents.Goals as goal
 
@@ -29,13 +30,13 @@ bounds-nexts-h c =
 pub loop-h-smaller : goal.loop-h-smaller
 loop-h-smaller c =
     let l = c.loop-h in
-    omega (arith, walk_edge _ _ _ _ _ _ _ (omega arith) l.invariant, c.index-h.ensures)
+    omega (arith, walk_edge _ _ _ _ _ _ _ (omega arith) l.invariant)
 
 pub loop-h-preserved : goal.loop-h-preserved
 loop-h-preserved c =
     let enter = c.enter in
     let l = c.loop-h in
-    walk_more _ _ _ _ _ _ _ _ _ (omega arith) c.index-h.ensures l.invariant enter.ensures
+    walk_more _ _ _ _ _ _ _ _ _ (omega arith) refl l.invariant enter.ensures
 
 pub shape_of-todo : goal.shape_of-todo
 shape_of-todo c = c.loop-h.invariant.keeps.size

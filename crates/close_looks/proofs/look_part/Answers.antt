@@ -8,24 +8,23 @@ use Rattle.close_looks.proofs.look_part.Goals as goal
 
 pub part_of-part-requires : goal.part_of-part-requires
 part_of-part-requires c =
-    let fits = c.ranges in
-    omega (arith, word_in_window _ _ _ c.requires.row_lt_count.3 c.requires.sees.within, fits.window.fits)
+    omega (arith, word_in_window _ _ _ c.requires.row_lt_count.3 c.requires.sees.within, c.well_formed)
 
 pub returns-then-part-back : goal.returns-then-part-back
 returns-then-part-back c =
     let part_of_lem = c.part_of-part in
-    record { looks_from = part_none _ _ _ _ _ _ _ _ _ _ _ _ _ _ (λ t s d a h k. omega (arith, c.if-part-back.true, part_of_lem.ensures.0)); sees_2 = c.requires.sees }
+    record { looks_from = part_none _ _ _ _ _ _ _ _ _ _ _ _ _ _ (λ t s d a h k. omega (arith, c.if-part-back.true, part_of_lem.ensures.0)); sees_still = c.requires.sees }
 
 pub returns-then-n-p : goal.returns-then-n-p
 returns-then-n-p c =
     let part_of_lem = c.part_of-part in
-    record { looks_from = part_none _ _ _ _ _ _ _ _ _ _ _ _ _ _ (λ t s d a h k. omega (arith, words_cover _ _ c.requires.row_lt_count.3, c.if-n-p.true, part_of_lem.ensures.0)); sees_2 = c.requires.sees }
+    record { looks_from = part_none _ _ _ _ _ _ _ _ _ _ _ _ _ _ (λ t s d a h k. omega (arith, words_cover _ _ c.requires.row_lt_count.3, c.if-n-p.true, part_of_lem.ensures.0)); sees_still = c.requires.sees }
 
 pub returns-then-part-eq64 : goal.returns-then-part-eq64
 returns-then-part-eq64 c =
     let part_of_lem = c.part_of-part in
     let a = c.args in
-    record { looks_from = part_none _ _ _ _ _ _ _ _ _ _ _ _ _ _ (λ t s d x h k. part_whole a.up _ a.offset (omega (arith, part_of_lem.ensures.1, c.if-part-eq64.true)) t s d h k); sees_2 = c.requires.sees }
+    record { looks_from = part_none _ _ _ _ _ _ _ _ _ _ _ _ _ _ (λ t s d x h k. part_whole a.up _ a.offset (omega (arith, part_of_lem.ensures.1, c.if-part-eq64.true)) t s d h k); sees_still = c.requires.sees }
 
 pub window_beside-there-requires : goal.window_beside-there-requires
 window_beside-there-requires c =
@@ -64,5 +63,5 @@ returns c =
       looks_from = part_some _ _ _ _ _ _ _ _ _ _ _ (part_of_lem.result.e - a.offset / 64) _ _ c.requires.row_lt_count.2 (omega (arith, if1.false, f.0))
           (gives_as _ shift.ensures (from_child _ _ _ _ _ _ _ _ _ a.up b window-beside.ensures (omega (arith, good)) (omega (arith, good)) t.reads)) c.store_look-j.ensures.joins
           (gives_as _ c.shift-to_child.ensures (from_look _ _ _ _ _ _ _ _ _ a.up b t.window (omega (arith, c.store_look-j, good)) (omega (arith, c.store_look-j, good)) c.store_look-j.ensures.reads)) (rw f.2 at c.store_look-j.ensures.queues_if) c.join.ensures;
-      sees_2 = record { within = t.within; window = t.window; reads = child_stays _ _ _ _ _ c.requires.row_lt_count.2 c.store_look-j.ensures.joins t.reads };
+      sees_still = record { within = t.within; window = t.window; reads = child_stays _ _ _ _ _ c.requires.row_lt_count.2 c.store_look-j.ensures.joins t.reads };
     }

@@ -20,7 +20,7 @@ pub look_part-requires : goal.look_part-requires
 look_part-requires c =
     let a = c.args in
     let given = c.requires.workable in
-    record { row_lt_count = (c.requires.row_lt_count.0, omega (arith, row_there given a.row c.requires.row_lt_count.0, c.look_part-g), c.requires.row_lt_count.1, given.sized.words_are); sees = c.look_part-g.ensures.sees_2; ended = ended given.linked; list_fits = roomy_as c.look_part-g.ensures.looks_from.enters.enters.keeps.size given.roomy }
+    record { row_lt_count = (c.requires.row_lt_count.0, omega (arith, row_there given a.row c.requires.row_lt_count.0, c.look_part-g), c.requires.row_lt_count.1, given.sized.words_are); sees = c.look_part-g.ensures.sees_still; ended = ended given.linked; list_fits = roomy_as c.look_part-g.ensures.looks_from.enters.enters.keeps.size given.roomy }
 
 pub returns : goal.returns
 returns c =
@@ -35,5 +35,5 @@ returns c =
           (λ e. notes_then _ _ _
           (notes_look _ _ _ _ _ k _ _ (q - a.offset / 64) _ l _ _ q q below e (λ z. omega (arith, lower.word z)) (λ w h. h) lower.enters)
           (notes_look _ _ _ _ _ k _ _ (q + 1 - a.offset / 64) _ l _ _ (q + 1) (q + 2) below e (λ z. omega (arith, upper.word z)) (λ w. ⊎_elim (λ (h : w ≡ q + 1). inr (omega arith)) (λ h. inl (omega arith))) upper.enters));
-      sees_2 = c.look_part.ensures.sees_2;
+      sees_still = c.look_part.ensures.sees_still;
     }

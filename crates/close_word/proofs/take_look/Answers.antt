@@ -12,13 +12,13 @@ visit_look-g-requires c =
     let given = c.requires.workable in
     let r = 64 * a.i + a.k in
     let starts = c.requires.item_at.1 in
-    record { workable = given; row_lt_count = (look_in a.count a.rows.now r a.child.row starts given.coded, look_below a.count a.rows.now r a.child.row starts given.coded); sees = c.requires.sees }
+    record { workable = given; row_lt_count = (look_in a.on.now.count a.on.now.rows.now r a.child.row starts given.coded, look_below a.on.now.count a.on.now.rows.now r a.child.row starts given.coded); sees = c.requires.sees }
 
 pub clear_bit-requires : goal.clear_bit-requires
 clear_bit-requires c =
     let a = c.args in
     let given = c.requires.workable in
-    let y = look_row a.count a.rows.now (64 * a.i + a.k) a.child.row c.requires.item_at.1 in
+    let y = look_row a.on.now.count a.on.now.rows.now (64 * a.i + a.k) a.child.row c.requires.item_at.1 in
     let at = item_kept c.requires.item_at.0 (look_keeps given.coded y c.visit_look-g.ensures.visits_look) in
     (omega (arith, item_inside c.requires.item_at.0 given.roomy), at.bit, at.on_list)
 
@@ -27,6 +27,6 @@ returns c =
     let clear-bit = c.clear_bit in
     let a = c.args in
     let given = c.requires.workable in
-    let y = look_row a.count a.rows.now (64 * a.i + a.k) a.child.row c.requires.item_at.1 in
+    let y = look_row a.on.now.count a.on.now.rows.now (64 * a.i + a.k) a.child.row c.requires.item_at.1 in
     let at = item_kept c.requires.item_at.0 (look_keeps given.coded y c.visit_look-g.ensures.visits_look) in
-    record { takes_off_look = looked _ _ _ _ _ _ _ at (omega (arith, item_inside c.requires.item_at.0 given.roomy)) clear-bit.ensures given.coded _ _ _ _ y c.visit_look-g.ensures.visits_look; sees_2 = c.visit_look-g.ensures.sees_2 }
+    record { takes_off_look = looked _ _ _ _ _ _ _ at (omega (arith, item_inside c.requires.item_at.0 given.roomy)) clear-bit.ensures given.coded _ _ _ _ y c.visit_look-g.ensures.visits_look; sees_still = c.visit_look-g.ensures.sees_still }

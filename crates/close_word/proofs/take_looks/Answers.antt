@@ -21,12 +21,12 @@ pub overflow_add-kind : goal.overflow_add-kind
 overflow_add-kind c =
     omega (arith, c.requires.item_at.0.column, c.requires.item_at.0.bit, c.requires.workable.coded.codes.long)
 
-pub offset_bounds-rows-start : goal.offset_bounds-rows-start
-offset_bounds-rows-start c =
+pub offset_bounds-on-start : goal.offset_bounds-on-start
+offset_bounds-on-start c =
     omega (arith, c.requires.item_at.0.column, c.requires.item_at.0.bit, c.requires.workable.coded.codes.long)
 
-pub bounds-rows-start : goal.bounds-rows-start
-bounds-rows-start c =
+pub bounds-on-start : goal.bounds-on-start
+bounds-on-start c =
     omega (arith, c.requires.item_at.0.column, c.requires.item_at.0.bit, c.requires.workable.coded.codes.long)
 
 pub child_at-child-requires : goal.child_at-child-requires
@@ -35,9 +35,9 @@ child_at-child-requires c =
     let given = c.requires.workable in
     let o = c.requires.item_at in
     let r = 64 * a.i + a.first in
-    let y = get_or a.rows.now r 0 % (code_kinds * code_numbers) / code_kinds in
-    let starts = look_start a.rows.now r o.1 in
-    let l : y < a.count = omega (arith, look_below a.count a.rows.now r y starts given.coded, look_in a.count a.rows.now r y starts given.coded) in
+    let y = get_or a.on.now.rows.now r 0 % (code_kinds * code_numbers) / code_kinds in
+    let starts = look_start a.on.now.rows.now r o.1 in
+    let l : y < a.on.now.count = omega (arith, look_below a.on.now.count a.on.now.rows.now r y starts given.coded, look_in a.on.now.count a.on.now.rows.now r y starts given.coded) in
     (o.0.word, row_there given y l, given.sized.words_are)
 
 pub loop-k-init : goal.loop-k-init
@@ -45,7 +45,7 @@ loop-k-init c =
     let a = c.args in
     let o = c.requires.item_at in
     let s = c.child_at-child.ensures in
-    (gathering_none _ _ _ _ _ refl _ _ _ _, s.2, λ l. (rw s.1 o.0, rw s.0 (look_start a.rows.now (64 * a.i + a.first) o.1)))
+    (gathering_none _ _ _ _ _ refl _ _ _ _, s.2, λ l. (rw s.1 o.0, rw s.0 (look_start a.on.now.rows.now (64 * a.i + a.first) o.1)))
 
 pub take_look-given-requires : goal.take_look-given-requires
 take_look-given-requires c =
@@ -70,11 +70,10 @@ next_look-k-requires c =
 
 pub loop-k-smaller : goal.loop-k-smaller
 loop-k-smaller c =
-    let slice-known3 = c.slice_known-in-loop-k-1 in
     let a = c.args in
     let k = c.requires.workable.coded in
     let look = c.take_look-given.ensures.takes_off_look in
-    stretch_less a.j (look.each k.program k.codes).0 look.less (omega (arith, slice-known3.given a.j))
+    stretch_less a.j (look.each k.program k.codes).0 look.less (omega (arith, c.type_inv.todo a.j))
 
 pub loop-k-preserved : goal.loop-k-preserved
 loop-k-preserved c =
@@ -82,8 +81,8 @@ loop-k-preserved c =
     let a = c.args in
     let o = c.requires.item_at in
     let s = c.child_at-child.ensures in
-    let starts = look_start a.rows.now (64 * a.i + a.first) o.1 in
-    (gathering_more _ _ _ _ _ _ loop.invariant.0 c.take_look-given.ensures.takes_off_look, c.take_look-given.ensures.sees_2, λ l. let k = c.next_look-k.ensures l in (item_next (loop.invariant.2 (omega arith)).0 l k.0, rw s.0 (k.1 ∙ starts)))
+    let starts = look_start a.on.now.rows.now (64 * a.i + a.first) o.1 in
+    (gathering_more _ _ _ _ _ _ loop.invariant.0 c.take_look-given.ensures.takes_off_look, c.take_look-given.ensures.sees_still, λ l. let k = c.next_look-k.ensures l in (item_next (loop.invariant.2 (omega arith)).0 l k.0, rw s.0 (k.1 ∙ starts)))
 
 pub store_child-requires : goal.store_child-requires
 store_child-requires c =
@@ -92,9 +91,9 @@ store_child-requires c =
     let o = c.requires.item_at in
     let given = gathering_workable _ _ _ _ _ c.requires.workable loop.invariant.0 in
     let r = 64 * a.i + a.first in
-    let y = get_or a.rows.now r 0 % (code_kinds * code_numbers) / code_kinds in
-    let starts = look_start a.rows.now r o.1 in
-    let l : y < a.count = omega (arith, look_below a.count a.rows.now r y starts given.coded, look_in a.count a.rows.now r y starts given.coded) in
+    let y = get_or a.on.now.rows.now r 0 % (code_kinds * code_numbers) / code_kinds in
+    let starts = look_start a.on.now.rows.now r o.1 in
+    let l : y < a.on.now.count = omega (arith, look_below a.on.now.count a.on.now.rows.now r y starts given.coded, look_in a.on.now.count a.on.now.rows.now r y starts given.coded) in
     record { queueable = queueable given; x_lt_count = (l, o.0.word, row_there given y l) }
 
 pub shape_of-todo : goal.shape_of-todo

@@ -12,9 +12,9 @@ use Rattle.close_word.proofs.take_looks.Given as goal
 
 abbrev pub invariant-loop-k : goal.invariant-loop-k
 invariant-loop-k l =
-    LooksSoFar l.count l.rows l.window l.n l.j (l.k ≡ l.first) (GatheredFor l.child l.given) l.initial.marks l.marks l.initial.todo l.todo
-    × Sees l.n l.window l.marks l.child
-    × (l.k < 64 → ItemAt l.count l.n l.child.q l.i l.j l.k l.todo × LooksAt l.rows (64 * l.i + l.k) l.child.row)
+    LooksSoFar l.on.count l.on.rows.now l.on.window l.n l.j (l.k ≡ l.first) (GatheredFor l.child l.given) l.initial.marks l.marks l.initial.todo l.todo
+    × Sees l.n l.on.window l.marks l.child
+    × (l.k < 64 → ItemAt l.on.count l.n l.child.q l.i l.j l.k l.todo × LooksAt l.on.rows.now (64 * l.i + l.k) l.child.row)
 
 abbrev pub decreases-loop-k : goal.decreases-loop-k
 decreases-loop-k l =

@@ -61,9 +61,8 @@ take-requires c =
 pub loop-todo-smaller : goal.loop-todo-smaller
 loop-todo-smaller c =
     let take = c.take in
-    let slice-known5 = c.slice_known-in-loop-todo-3-1 in
     let a = c.args in
-    taken_less _ _ _ _ _ c.requires.workable.coded take.ensures (omega (arith, slice-known5.given (a.q * per a.count + a.i)))
+    taken_less _ _ _ _ _ c.requires.workable.coded take.ensures (omega (arith, c.type_inv.todo (a.q * per a.on.now.count + a.i)))
 
 pub loop-todo-preserved : goal.loop-todo-preserved
 loop-todo-preserved c =

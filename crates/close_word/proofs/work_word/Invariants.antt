@@ -7,7 +7,7 @@ use Rattle.close_word.proofs.work_word.Given as goal
 
 abbrev pub invariant-loop-todo : goal.invariant-loop-todo
 invariant-loop-todo l =
-    WorksList l.count l.rows l.window l.n NoWord l.initial.marks l.marks l.initial.todo l.todo × (l.from < 64)
+    WorksList l.on.count l.on.rows.now l.on.window l.n NoWord l.initial.marks l.marks l.initial.todo l.todo × (l.from < 64)
 
 abbrev pub decreases-loop-todo : goal.decreases-loop-todo
 decreases-loop-todo l =

@@ -6,9 +6,9 @@ use Rattle.read_names.specs.Spellings.{names_at}
 use Rattle.dump_readings.proofs.Taking.{Takes}
 use Rattle.dump_readings.proofs.take_events.Given as goal
 
-abbrev pub invariant-loop-e : goal.invariant-loop-e
-invariant-loop-e l =
-    Takes l.window l.count (names_at l.s l.places) l.d l.p l.initial.out l.signs l.out l.used l.time l.next l.at × (length l.out ≡ length l.initial.out) × (length l.signs ≡ length l.initial.signs)
+abbrev pub invariant-loop-next : goal.invariant-loop-next
+invariant-loop-next l =
+    Takes l.window l.count (names_at l.s l.places) l.d l.p l.initial.w.out.now l.signs l.w.out.now l.w.used l.time l.next l.at × (l.w.out.ghost_name ≡ l.initial.w.out.ghost_name)
 
-abbrev pub decreases-loop-e : goal.decreases-loop-e
-decreases-loop-e l = length l.d - l.at
+abbrev pub decreases-loop-next : goal.decreases-loop-next
+decreases-loop-next l = length l.d - l.at

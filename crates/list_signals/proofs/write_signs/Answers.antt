@@ -1,8 +1,6 @@
 -- `write_signs` meets its contract. The invariant: the signs of the ticks from t on are left to be written. Assumes nothing.
-use borrow.Author.Rules.{rules}
 use native.Mathlib.Omega.{arith}
-use mathlib.Core.Path.{refl, sym}
-use Prim.Native.Nat.{◌-◌}
+use mathlib.Core.Path.{sym}
 use Rattle.spec_tilco.specs.Table.Answer.{Unsettled}
 use Rattle.write_bytes.proofs.Writing.{counted_like}
 use Rattle.write_bytes.proofs.Leaves.{left_all, left_rest, left_none}
@@ -11,21 +9,20 @@ use Rattle.list_signals.proofs.Signs.{fewer, signs_start, signs_next, signs_end,
 use Rattle.list_signals.proofs.write_signs.Goals as goal
 
 pub loop-t-init : goal.loop-t-init
-loop-t-init c = (refl, λ f a. left_all (signs_start f _), λ f. counted_like (c.requires.1 f) (sym (signs_start f _)))
+loop-t-init c = (λ f a. left_all (signs_start f _), λ f. counted_like (c.requires.1 f) (sym (signs_start f _)))
 
 pub sign_at-sign-requires : goal.sign_at-sign-requires
 sign_at-sign-requires c =
     fewer _ _ (omega arith) (omega arith) c.requires.0
 
-pub push-at-requires : goal.push-at-requires
-push-at-requires c = sign_counted (λ t. Unsettled) _ _ (omega arith) (c.loop-t.invariant.2 (λ t. Unsettled))
+pub push-requires : goal.push-requires
+push-requires c = sign_counted (λ t. Unsettled) _ _ (omega arith) (c.loop-t.invariant.1 (λ t. Unsettled))
 
 pub loop-t-preserved : goal.loop-t-preserved
 loop-t-preserved c = (
-  search rules,
-  λ f a. left_rest _ (c.loop-t.invariant.1 f a) (signed (c.sign_at-sign.ensures (f c.loop-t.t) (a c.loop-t.t (omega arith))) c.push-at.ensures) (signs_next f _ _ (omega arith)),
-  λ f. signs_counted f _ _ (omega arith) (c.loop-t.invariant.2 f) c.push-at.ensures,
+  λ f a. left_rest _ (c.loop-t.invariant.0 f a) (signed (c.sign_at-sign.ensures (f c.loop-t.t) (a c.loop-t.t (omega arith))) c.push.ensures) (signs_next f _ _ (omega arith)),
+  λ f. signs_counted f _ _ (omega arith) (c.loop-t.invariant.1 f) c.push.ensures,
 )
 
 pub returns : goal.returns
-returns c = λ f a. left_none (c.loop-t.invariant.1 f a) (signs_end f _ _ (omega arith))
+returns c = λ f a. left_none (c.loop-t.invariant.0 f a) (signs_end f _ _ (omega arith))

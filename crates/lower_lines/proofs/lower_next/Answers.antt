@@ -8,28 +8,28 @@ use Rattle.lower_rule.specs.RuleRows.{whole_at}
 use Rattle.lower_lines.proofs.Trying.{room_next, follows_full, follows_over, follows_more}
 use Rattle.lower_lines.proofs.lower_next.Goals as goal
 
-pub returns-in_default : goal.returns-in_default
-returns-in_default c = follows_full (whole_at c.args.arena.now c.args.node) _ _ _ c.in_default.is
+pub returns-in_err-last : goal.returns-in_err-last
+returns-in_err-last c = rw (c.in_err-last.was, c.from_residual.ensures) (follows_full (whole_at c.args.arena.now c.args.node) _ _)
 
 pub overflow_sub-tops : goal.overflow_sub-tops
 overflow_sub-tops c =
-    let h = room_next _ _ c.in-Next.is c.requires.room_in in omega (arith, h.tops_in)
+    let h = room_next _ c.in_ok-last.was c.requires.room_in in omega (arith, h.tops_in)
 
-pub returns-then-tops-at : goal.returns-then-tops-at
-returns-then-tops-at c =
-    let next = c.in-Next.is in
-    follows_over (whole_at c.args.arena.now c.args.node) _ _ _ next
-    (omega (arith, (room_next _ _ next c.requires.room_in).tops_in, c.if-tops-at.true, length-map (definings_at c.args.arena.now c.args.node) (lowered true), c.requires.rule_in.hidden))
+pub returns-then-tops-last : goal.returns-then-tops-last
+returns-then-tops-last c =
+    rw c.in_ok-last.was
+    (follows_over (whole_at c.args.arena.now c.args.node) _ _ _
+    (omega (arith, (room_next _ c.in_ok-last.was c.requires.room_in).tops_in, c.if-tops-last.true, length-map (definings_at c.args.arena.now c.args.node) (lowered true), c.requires.rule_in.hidden)))
 
 pub lower_whole_rule-requires : goal.lower_whole_rule-requires
 lower_whole_rule-requires c =
     let given = c.requires in
-    let h = room_next _ _ c.in-Next.is given.room_in in
-    record { rule_in = given.rule_in; hidden_in_bounds = omega (arith, h.tops_in, c.if-tops-at.false); row_buffer = h.buffer }
+    let h = room_next _ c.in_ok-last.was given.room_in in
+    record { rule_in = given.rule_in; tops_free = omega (arith, h.tops_in, c.if-tops-last.false); row_buffer = h.buffer }
 
 pub returns : goal.returns
 returns c =
-    let next = c.in-Next.is in
-    follows_more (whole_at c.args.arena.now c.args.node) _ _ _ next
-    (omega (arith, (room_next _ _ next c.requires.room_in).tops_in, c.if-tops-at.false, length-map (definings_at c.args.arena.now c.args.node) (lowered true), c.requires.rule_in.hidden))
-    _ c.lower_whole_rule.ensures
+    rw c.in_ok-last.was
+    (follows_more (whole_at c.args.arena.now c.args.node) _ _ _
+    (omega (arith, (room_next _ c.in_ok-last.was c.requires.room_in).tops_in, c.if-tops-last.false, length-map (definings_at c.args.arena.now c.args.node) (lowered true), c.requires.rule_in.hidden))
+    _ c.lower_whole_rule.ensures)

@@ -11,4 +11,4 @@ pub returns : goal.returns
 returns c =
     let f = record_in c.args.words.now in
     let e : c.loop-i.i ≡ length c.args.records.now = omega arith in
-    c.loop-i.invariant.1 ∙ ap (λ (i : ℕ). filled f i c.args.records.now) e ∙ filled_whole f c.args.records.now
+    c.loop-i.invariant ∙ ap (λ (i : ℕ). filled f i c.args.records.now) e ∙ filled_whole f c.args.records.now

@@ -9,22 +9,24 @@ pub slice_bounds-formula-end : goal.slice_bounds-formula-end
 slice_bounds-formula-end c =
     simp length-take (omega (arith, again_inside c.args.s.now c.args.names.now c.args.at c.requires c.line_end-e.ensures))
 
-pub formula-r-requires : goal.formula-r-requires
-formula-r-requires c =
+pub formula-requires : goal.formula-requires
+formula-requires c =
     again_ready c.args.s.now c.args.names.now c.args.at c.requires c.line_end-e.ensures _ (omega arith)
 
-pub overflow_sub-nodes : goal.overflow_sub-nodes
-overflow_sub-nodes c =
-    omega (arith, (again_held c.args.s.now c.args.names.now c.args.at c.requires c.line_end-e.ensures c.formula-r.ensures c.in-Got.is).some)
+pub returns-in_err-part : goal.returns-in_err-part
+returns-in_err-part c =
+    absurd (again_accepted c.args.s.now c.args.names.now c.args.at c.requires c.line_end-e.ensures c.in_err-part.ensures)
+
+pub overflow_sub-node : goal.overflow_sub-node
+overflow_sub-node c =
+    omega (arith, (again_held c.args.s.now c.args.names.now c.args.at c.requires c.line_end-e.ensures c.in_ok-part.ensures).some)
 
 pub print_node-requires : goal.print_node-requires
 print_node-requires c =
-    record { named_node = node_named c.args.s.now c.args.names.now c.args.at (again_held c.args.s.now c.args.names.now c.args.at c.requires c.line_end-e.ensures c.formula-r.ensures c.in-Got.is); node_len_bound = node_short c.args.s.now c.args.names.now c.args.at (again_held c.args.s.now c.args.names.now c.args.at c.requires c.line_end-e.ensures c.formula-r.ensures c.in-Got.is) }
+    let held = again_held c.args.s.now c.args.names.now c.args.at c.requires c.line_end-e.ensures c.in_ok-part.ensures in
+    record { named_node = node_named c.args.s.now c.args.names.now c.args.at held; node_len_bound = node_short c.args.s.now c.args.names.now c.args.at held }
 
-pub returns-in-Got : goal.returns-in-Got
-returns-in-Got c =
-    gives_rule c.args.s.now c.args.names.now c.args.at (again_held c.args.s.now c.args.names.now c.args.at c.requires c.line_end-e.ensures c.formula-r.ensures c.in-Got.is) c.print_node.ensures
-
-pub returns-in-Refused : goal.returns-in-Refused
-returns-in-Refused c =
-    absurd (again_accepted c.args.s.now c.args.names.now c.args.at c.requires c.line_end-e.ensures c.formula-r.ensures c.in-Refused.is)
+pub returns : goal.returns
+returns c =
+    let held = again_held c.args.s.now c.args.names.now c.args.at c.requires c.line_end-e.ensures c.in_ok-part.ensures in
+    gives_rule c.args.s.now c.args.names.now c.args.at held c.print_node.ensures

@@ -1,39 +1,44 @@
 -- `open_table` meets its contract. Assumes nothing.
 use native.Mathlib.Omega.{arith}
-use mathlib.Core.Path.{refl, sym, ◌∙◌}
-use Rattle.table_facts.proofs.Clashing.{never}
-use Rattle.open_table.specs.OpenedTable.TableOpens.{ready, refused_at}
-use Rattle.open_table.proofs.Tables.{when_sheet, window_range, words_most, wrong_length, outside, within, sheet_refused}
+use borrow.Author.Rules.{rules}
+use mathlib.Core.Path.{◌≡◌, refl, sym, ◌∙◌, subst}
+use Rattle.std.specs.Prelude.{Err}
+use Rattle.open_table.specs.OpenedTable.{TableOpens}
+use mathlib.Core.Bool.{true≢false}
+use Rattle.open_table.specs.Opens.Opens.{not_the_sheet}
+use Rattle.open_table.proofs.Tables.{window_range, words_most, wrong_length, outside, within}
 use Rattle.open_table.proofs.open_table.Goals as goal
 
-pub returns-in_default : goal.returns-in_default
-returns-in_default c = sheet_refused _ c.open_sheet-o.ensures c.in_default.is
+pub returns-in_err-sheet : goal.returns-in_err-sheet
+returns-in_err-sheet c =
+    let refused : c.from_residual.result ≡ Err c.in_err-sheet.field-0.0 = search rules in
+    subst (TableOpens _ _ _ _ _) (sym refused) (not_the_sheet c.in_err-sheet.ensures)
 
 pub words_of-n-requires : goal.words_of-n-requires
-words_of-n-requires c = let k = (when_sheet c.open_sheet-o.ensures c.in-Sheet.is).1 in (words_most k _ refl).0
+words_of-n-requires c = let k = c.in_ok-sheet.ensures.1 in (words_most k _ refl).0
 
-pub overflow_mul-count : goal.overflow_mul-count
-overflow_mul-count c = let k = (when_sheet c.open_sheet-o.ensures c.in-Sheet.is).1 in omega (arith, (words_most k _ refl).1)
+pub overflow_mul-sheet : goal.overflow_mul-sheet
+overflow_mul-sheet c = let k = c.in_ok-sheet.ensures.1 in omega (arith, (words_most k _ refl).1)
 
-pub overflow_mul-count-2 : goal.overflow_mul-count-2
-overflow_mul-count-2 c =
-    let k = (when_sheet c.open_sheet-o.ensures c.in-Sheet.is).1 in
+pub overflow_mul-sheet-2 : goal.overflow_mul-sheet-2
+overflow_mul-sheet-2 c =
+    let k = c.in_ok-sheet.ensures.1 in
     omega (arith, (words_most k _ c.words_of-n.ensures).2)
 
-pub returns-then-table-count : goal.returns-then-table-count
-returns-then-table-count c = let k = (when_sheet c.open_sheet-o.ensures c.in-Sheet.is).1 in refused_at {n = 15} {p = 0} (wrong_length k _ _ c.words_of-n.ensures c.if-table-count.true)
+pub returns-then-table-sheet : goal.returns-then-table-sheet
+returns-then-table-sheet c = let k = c.in_ok-sheet.ensures.1 in (wrong_length k _ _ c.words_of-n.ensures c.if-table-sheet.true)
 
-pub inside_window-inside-requires : goal.inside_window-inside-requires
-inside_window-inside-requires c =
-    let k = (when_sheet c.open_sheet-o.ensures c.in-Sheet.is).1 in
-    (c.if-table-count.false, (window_range k).0, c.words_of-n.ensures, omega (arith, (words_most k _ c.words_of-n.ensures).2))
+pub inside_window-requires : goal.inside_window-requires
+inside_window-requires c =
+    let k = c.in_ok-sheet.ensures.1 in
+    (c.if-table-sheet.false, (window_range k).0, c.words_of-n.ensures, omega (arith, (words_most k _ c.words_of-n.ensures).2))
 
-pub returns-then-not-inside : goal.returns-then-not-inside
-returns-then-not-inside c =
-    let k = (when_sheet c.open_sheet-o.ensures c.in-Sheet.is).1 in
-    refused_at {n = 16} {p = 0} (outside k _ _ c.words_of-n.ensures c.if-table-count.false (λ i. never (sym (c.inside_window-inside.ensures.1 i) ∙ c.if-not-inside.true)))
+pub returns-then-not-inside_window : goal.returns-then-not-inside_window
+returns-then-not-inside_window c =
+    let k = c.in_ok-sheet.ensures.1 in
+    (outside k _ _ c.words_of-n.ensures c.if-table-sheet.false (λ i. true≢false (sym (c.inside_window.ensures.1 i) ∙ c.if-not-inside_window.true)))
 
 pub returns : goal.returns
 returns c =
-    let h = when_sheet c.open_sheet-o.ensures c.in-Sheet.is in
-    ready h.0 (record { sheet = h.1; table = within h.1 _ _ c.words_of-n.ensures c.if-table-count.false (c.inside_window-inside.ensures.0 (c.if-not-inside.false)) })
+    let h = c.in_ok-sheet.ensures in
+    (h.0, record { sheet = h.1; table = within h.1 _ _ c.words_of-n.ensures c.if-table-sheet.false (c.inside_window.ensures.0 (c.if-not-inside_window.false)) })

@@ -1,38 +1,41 @@
 -- `take_line` meets its contract. Assumes nothing.
 use native.Mathlib.Omega.{arith}
-use mathlib.Core.Path.{sym, ap, subst}
+use mathlib.Core.Path.{◌≡◌, sym, ap, ◌∙◌}
+use borrow.Author.Rules.{rules}
 use lib.ListN.{set}
 use Rattle.read_bytes.specs.Bytes.{name_byte}
-use Rattle.read_bytes.proofs.Answers.{answered, hand_on}
+use Rattle.read_bytes.proofs.Answers.{hand_on}
 use Rattle.read_bytes.proofs.Runs.{end_reach}
-use Rattle.read_lines.specs.Lines.{says}
-use Rattle.read_captions.specs.Captions.{caption_line, LineTaken}
-use Rattle.read_captions.specs.Captions.LineTaken.{taken, refused_at}
+use Rattle.std.specs.Prelude.{ℕ, Some, Err}
+use Rattle.read_captions.specs.Captions.{caption_line}
 use Rattle.read_captions.proofs.CaptionLines.{line_placed, line_open, line_unknown, line_again, line_new}
 use Rattle.read_captions.proofs.take_line.Goals as goal
 
-pub returns-in_default : goal.returns-in_default
+pub returns-in_err-v : goal.returns-in_err-v
 unfolding caption_line
-returns-in_default c =
-    let e = c.in_default.is in
-    subst (LineTaken _ _ _ _ _) (sym e) (refused_at (sym (hand_on _ (answered says c.caption_form-l.ensures e))))
+returns-in_err-v c =
+    let refused : c.from_residual.result ≡ Err c.in_err-v.field-0.0 = search rules in
+    rw refused (sym (hand_on _ (sym c.in_err-v.ensures)))
 
 pub overflow_add-next : goal.overflow_add-next
-overflow_add-next c = omega (arith, line_placed _ _ (answered says c.caption_form-l.ensures c.in-Got.is))
+overflow_add-next c = omega (arith, line_placed _ _ (sym c.in_ok-v.ensures))
 
-pub overflow_add-end : goal.overflow_add-end
-overflow_add-end c = omega (arith, end_reach name_byte c.args.c.now c.args.p c.requires.1, c.find-f.ensures.ends)
+pub overflow_add-f : goal.overflow_add-f
+overflow_add-f c = omega (arith, end_reach name_byte c.args.c.now c.args.p c.requires.1, c.find-f.ensures.ends)
 
-pub returns-then-end-v : goal.returns-then-end-v
-returns-then-end-v c = refused_at (sym (line_open c.args.s.now c.args.names.now _ _ _ c.requires.1 (answered says c.caption_form-l.ensures c.in-Got.is) c.find-f.ensures c.if-end-v.true))
+pub returns-then-f-v : goal.returns-then-f-v
+returns-then-f-v c = sym (line_open c.args.s.now c.args.names.now _ _ _ c.requires.1 (sym c.in_ok-v.ensures) c.find-f.ensures c.if-f-v.true)
 
 pub returns-then-captions-x : goal.returns-then-captions-x
-returns-then-captions-x c = refused_at (sym (line_unknown c.args.s.now c.args.names.now _ _ _ c.requires.1 (answered says c.caption_form-l.ensures c.in-Got.is) c.find-f.ensures c.if-end-v.false (omega (arith, c.requires.2, c.if-captions-x.true))))
+returns-then-captions-x c = sym (line_unknown c.args.s.now c.args.names.now _ _ _ c.requires.1 (sym c.in_ok-v.ensures) c.find-f.ensures c.if-f-v.false (omega (arith, c.requires.2, c.if-captions-x.true)))
 
-pub returns-then-captions-x-ne0 : goal.returns-then-captions-x-ne0
-returns-then-captions-x-ne0 c = refused_at (sym (line_again c.args.s.now c.args.names.now _ _ _ c.requires.1 (answered says c.caption_form-l.ensures c.in-Got.is) c.find-f.ensures c.if-end-v.false (omega (arith, c.requires.2, c.if-captions-x.false)) c.if-captions-x-ne0.true))
+pub returns-then-is_some : goal.returns-then-is_some
+returns-then-is_some c = sym (line_again c.args.s.now c.args.names.now _ _ _ c.requires.1 (sym c.in_ok-v.ensures) c.find-f.ensures c.if-f-v.false (omega (arith, c.requires.2, c.if-captions-x.false)) (sym c.is_some.ensures ∙ c.if-is_some.true))
 
 pub returns : goal.returns
 returns c =
-    let form = (answered says c.caption_form-l.ensures c.in-Got.is) in
-    taken (sym (line_new c.args.s.now c.args.names.now _ _ _ c.requires.1 form c.find-f.ensures c.if-end-v.false (omega (arith, c.requires.2, c.if-captions-x.false)) c.if-captions-x-ne0.false)) (ap (set c.args.captions.now c.find-f.result.signal) (omega (arith, (line_placed _ _ form).place)))
+    let form = sym c.in_ok-v.ensures in
+    record {
+      line = sym (line_new c.args.s.now c.args.names.now _ _ _ c.requires.1 form c.find-f.ensures c.if-f-v.false (omega (arith, c.requires.2, c.if-captions-x.false)) (sym c.is_some.ensures ∙ c.if-is_some.false));
+      noted = ap (λ (v : ℕ). set c.args.captions.now c.find-f.result.signal (Some v)) (line_placed _ _ form).place;
+    }

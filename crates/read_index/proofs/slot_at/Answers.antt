@@ -16,26 +16,26 @@ loop-i-init c = walk_start _ _
 pub returns-then-b-lt48 : goal.returns-then-b-lt48
 returns-then-b-lt48 c =
     let b = get_or c.args.r.now c.loop-i.i 0 in
-    walk_end c.loop-i.invariant _ refl refl (run_none name_byte _ _ (omega arith) (name_neither b (between_low (byte "a") (byte "z") b (omega arith)) (between_low (byte "0") (byte "9") b (omega arith))))
+    walk_end c.loop-i.invariant _ refl (run_none name_byte _ _ (omega arith) (name_neither b (between_low (byte "a") (byte "z") b (omega arith)) (between_low (byte "0") (byte "9") b (omega arith))))
 
 pub returns-then-b-gt57 : goal.returns-then-b-gt57
 returns-then-b-gt57 c =
     let b = get_or c.args.r.now c.loop-i.i 0 in
-    walk_end c.loop-i.invariant _ refl refl (run_none name_byte _ _ (omega arith) (name_neither b (between_low (byte "a") (byte "z") b (omega arith)) (between_high (byte "0") (byte "9") b (omega arith))))
+    walk_end c.loop-i.invariant _ refl (run_none name_byte _ _ (omega arith) (name_neither b (between_low (byte "a") (byte "z") b (omega arith)) (between_high (byte "0") (byte "9") b (omega arith))))
 
 pub returns-then-b-gt122 : goal.returns-then-b-gt122
 returns-then-b-gt122 c =
     let b = get_or c.args.r.now c.loop-i.i 0 in
-    walk_end c.loop-i.invariant _ refl refl (run_none name_byte _ _ (omega arith) (name_neither b (between_high (byte "a") (byte "z") b (omega arith)) (between_high (byte "0") (byte "9") b (omega arith))))
+    walk_end c.loop-i.invariant _ refl (run_none name_byte _ _ (omega arith) (name_neither b (between_high (byte "a") (byte "z") b (omega arith)) (between_high (byte "0") (byte "9") b (omega arith))))
 
 pub overflow_cast-h : goal.overflow_cast-h
-overflow_cast-h c = omega (arith, c.shared_slice_known-1.given c.loop-i.i, c.loop-i.invariant.small)
+overflow_cast-h c = omega (arith, c.type_inv.r c.loop-i.i, c.loop-i.invariant.small)
 
 pub overflow_add-h : goal.overflow_add-h
-overflow_add-h c = omega (arith, c.shared_slice_known-1.given c.loop-i.i, c.loop-i.invariant.small)
+overflow_add-h c = omega (arith, c.type_inv.r c.loop-i.i, c.loop-i.invariant.small)
 
 pub overflow_mul-h : goal.overflow_mul-h
-overflow_mul-h c = omega (arith, c.shared_slice_known-1.given c.loop-i.i, c.loop-i.invariant.small)
+overflow_mul-h c = omega (arith, c.type_inv.r c.loop-i.i, c.loop-i.invariant.small)
 
 pub loop-i-preserved : goal.loop-i-preserved
 loop-i-preserved c =
@@ -47,4 +47,4 @@ loop-i-preserved c =
     c.if-b-lt97.branch-raw)
 
 pub returns : goal.returns
-returns c = walk_end c.loop-i.invariant _ refl refl (run_past name_byte _ _ (omega arith))
+returns c = walk_end c.loop-i.invariant _ (omega arith) (run_past name_byte _ _ (omega arith))

@@ -5,9 +5,6 @@ use Rattle.read_bytes.proofs.Runs.{end_more, end_here}
 use Rattle.read_lines.proofs.KeyedLines.{lf_ends, lf_not, past_byte, at_byte}
 use Rattle.read_lines.proofs.line_end.Goals as goal
 
-pub returns-then-s-lt4 : goal.returns-then-s-lt4
-returns-then-s-lt4 c = c.rest_end.ensures
-
 pub loop-i-init : goal.loop-i-init
 loop-i-init c = refl
 
@@ -38,6 +35,3 @@ loop-i-preserved c =
     let two = past_byte _ _ _ 1 (omega arith) one c.if-s-i-eq10-2.false in
     let three = past_byte _ _ _ 2 (omega arith) two c.if-s-i-eq10-3.false in
     past_byte _ _ _ 3 (omega arith) three c.if-s-i-eq10-4.false
-
-pub returns : goal.returns
-returns c = c.rest_end-2.ensures ∙ sym c.loop-i.invariant

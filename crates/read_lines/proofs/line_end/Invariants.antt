@@ -1,12 +1,7 @@
 -- `line_end` meets its contract. The invariant: the line at `at` ends where that at `i` does. Assumes nothing.
 use mathlib.Core.Path.{◌≡◌}
-use Prim.Native.Nat.{◌-◌}
-use lib.ListN.{length}
 use Rattle.read_lines.specs.Lines.{line_end}
 use Rattle.read_lines.proofs.line_end.Given as goal
 
 abbrev pub invariant-loop-i : goal.invariant-loop-i
 invariant-loop-i l = line_end l.s l.at ≡ line_end l.s l.i
-
-abbrev pub decreases-loop-i : goal.decreases-loop-i
-decreases-loop-i l = length l.s - l.i

@@ -5,10 +5,10 @@ use Rattle.run_cases.proofs.Places.{counted}
 use Rattle.run_cases.proofs.append.Goals as goal
 
 pub returns-then-out-n : goal.returns-then-out-n
-returns-then-out-n c = counted _ _ c.loop-p.invariant.0
+returns-then-out-n c = counted _ _ c.loop-p.invariant
 
 pub loop-p-preserved : goal.loop-p-preserved
-loop-p-preserved c = simp length-set (omega arith, omega arith)
+loop-p-preserved c = simp length-set (omega arith)
 
 pub returns : goal.returns
-returns c = counted _ _ c.loop-p.invariant.0
+returns c = counted _ _ c.loop-p.invariant

@@ -3,4 +3,4 @@ use Rattle.run_cases.proofs.Places.{counted}
 use Rattle.run_cases.proofs.repeat.Goals as goal
 
 pub returns : goal.returns
-returns c = counted _ _ c.loop-i.invariant.0
+returns c = counted _ _ c.loop.invariant

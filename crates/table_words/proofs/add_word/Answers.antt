@@ -13,8 +13,7 @@ returns-then-new-old c =
 pub returns : goal.returns
 returns c =
     let a = c.args in
-    let slice-known = c.slice_known-1 in
     let place_of = c.place_of-i in
     let o = c.requires in
     joins_some _ _ _ a.value _ _ o.0 _ place_of.ensures.0 (omega (arith, o.1, place_of.ensures.1))
-    (omega (arith, slice-known.given place_of.result)) (omega arith) c.if-new-old.false
+    (omega arith) (omega arith) c.if-new-old.false

@@ -22,12 +22,11 @@ pub returns : goal.returns
 returns c =
     let place_of = c.place_of-i in
     let a = c.args in
-    let slice-known = c.slice_known-1 in
     let place-of2 = c.place_of-j in
     let o = c.requires in
     let p = place_of.ensures in
     let r = place-of2.ensures in record {
       joins = sides_some _ _ _ a.u _ _ _ o.0 _ _ p.0 r.0 (omega (arith, o.1, p.1)) (omega (arith, o.1, r.1))
-          (omega (arith, slice-known.given place_of.result)) (omega (arith, slice-known.given place-of2.result)) (omega arith) (omega arith) c.if-this-a-eq0.false;
+          (omega arith) (omega arith) (omega arith) (omega arith) c.if-this-a-eq0.false;
       reads = words_some _ a.marks.now _ a.u _ _ _ o.0 _ _ p.0 r.0 (omega (arith, o.1, p.1)) (omega (arith, o.1, r.1));
     }

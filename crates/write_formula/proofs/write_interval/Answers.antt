@@ -4,25 +4,25 @@ use mathlib.Core.Path.{refl}
 use Rattle.write_formula.proofs.Parts.{interval_parts}
 use Rattle.write_formula.proofs.write_interval.Goals as goal
 
-pub push-end-requires : goal.push-end-requires
-push-end-requires c = counted_first _ (counted_like c.requires (interval_parts _ _ _ _ refl refl))
-
-pub write_end-comma-requires : goal.write_end-comma-requires
-write_end-comma-requires c =
-    counted_first _ (counted_rest (counted_like c.requires (interval_parts _ _ _ _ refl refl)) c.push-end.ensures)
-
-pub push-last-requires : goal.push-last-requires
-push-last-requires c =
-    counted_first _ (counted_rest (counted_rest (counted_like c.requires (interval_parts _ _ _ _ refl refl)) c.push-end.ensures) c.write_end-comma.ensures)
-
-pub write_end-close-requires : goal.write_end-close-requires
-write_end-close-requires c =
-    counted_first _ (counted_rest (counted_rest (counted_rest (counted_like c.requires (interval_parts _ _ _ _ refl refl)) c.push-end.ensures) c.write_end-comma.ensures) c.push-last.ensures)
-
 pub push-requires : goal.push-requires
-push-requires c =
-    counted_rest (counted_rest (counted_rest (counted_rest (counted_like c.requires (interval_parts _ _ _ _ refl refl)) c.push-end.ensures) c.write_end-comma.ensures) c.push-last.ensures) c.write_end-close.ensures
+push-requires c = counted_first _ (counted_like c.requires (interval_parts _ _ _ _ refl refl))
+
+pub write_end-requires : goal.write_end-requires
+write_end-requires c =
+    counted_first _ (counted_rest (counted_like c.requires (interval_parts _ _ _ _ refl refl)) c.push.ensures)
+
+pub push-requires-2 : goal.push-requires-2
+push-requires-2 c =
+    counted_first _ (counted_rest (counted_rest (counted_like c.requires (interval_parts _ _ _ _ refl refl)) c.push.ensures) c.write_end.ensures)
+
+pub write_end-requires-2 : goal.write_end-requires-2
+write_end-requires-2 c =
+    counted_first _ (counted_rest (counted_rest (counted_rest (counted_like c.requires (interval_parts _ _ _ _ refl refl)) c.push.ensures) c.write_end.ensures) c.push-2.ensures)
+
+pub push-requires-3 : goal.push-requires-3
+push-requires-3 c =
+    counted_rest (counted_rest (counted_rest (counted_rest (counted_like c.requires (interval_parts _ _ _ _ refl refl)) c.push.ensures) c.write_end.ensures) c.push-2.ensures) c.write_end-2.ensures
 
 pub returns : goal.returns
 returns c =
-    like (interval_parts _ _ _ _ refl refl) (and_then_lem c.push-end.ensures (and_then_lem c.write_end-comma.ensures (and_then_lem c.push-last.ensures (and_then_lem c.write_end-close.ensures c.push.ensures))))
+    like (interval_parts _ _ _ _ refl refl) (and_then_lem c.push.ensures (and_then_lem c.write_end.ensures (and_then_lem c.push-2.ensures (and_then_lem c.write_end-2.ensures c.push-3.ensures))))

@@ -1,11 +1,7 @@
 -- `write_name` meets its contract. Assumes nothing.
 use Rattle.write_bytes.proofs.Writing.{like, counted_like}
-use mir.Facts.{Fits-widen}
 use Rattle.write_formula.proofs.Ranks.{name_spelled}
 use Rattle.write_formula.proofs.write_name.Goals as goal
-
-pub overflow_cast-at-2 : goal.overflow_cast-at-2
-overflow_cast-at-2 c = Fits-widen tt (c.shared_slice_known-3-1.given _)
 
 pub write_word-requires : goal.write_word-requires
 write_word-requires c =

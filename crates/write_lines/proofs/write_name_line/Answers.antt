@@ -2,18 +2,14 @@
 use Rattle.write_lines.proofs.Lines.{key_counted, value_counted, end_counted, line_written}
 use Rattle.write_lines.proofs.write_name_line.Goals as goal
 
-pub push_text-value-requires : goal.push_text-value-requires
-push_text-value-requires c =
-    key_counted _ c.requires
+pub push_text-requires : goal.push_text-requires
+push_text-requires c = key_counted _ c.requires
 
-pub write_word-end-requires : goal.write_word-end-requires
-write_word-end-requires c =
-    value_counted c.requires c.push_text-value.ensures
+pub write_word-requires : goal.write_word-requires
+write_word-requires c = value_counted c.requires c.push_text.ensures
 
 pub push-requires : goal.push-requires
-push-requires c =
-    end_counted c.requires c.push_text-value.ensures c.write_word-end.ensures
+push-requires c = end_counted c.requires c.push_text.ensures c.write_word.ensures
 
 pub returns : goal.returns
-returns c =
-    line_written c.push_text-value.ensures c.write_word-end.ensures c.push.ensures
+returns c = line_written c.push_text.ensures c.write_word.ensures c.push.ensures

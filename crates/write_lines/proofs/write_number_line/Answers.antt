@@ -2,17 +2,14 @@
 use Rattle.write_lines.proofs.Lines.{key_counted, value_counted, end_counted, line_written}
 use Rattle.write_lines.proofs.write_number_line.Goals as goal
 
-pub push_text-value-requires : goal.push_text-value-requires
-push_text-value-requires c = key_counted _ c.requires
+pub push_text-requires : goal.push_text-requires
+push_text-requires c = key_counted _ c.requires
 
-pub decimal-end-requires : goal.decimal-end-requires
-decimal-end-requires c =
-    value_counted c.requires c.push_text-value.ensures
+pub decimal-requires : goal.decimal-requires
+decimal-requires c = value_counted c.requires c.push_text.ensures
 
 pub push-requires : goal.push-requires
-push-requires c =
-    end_counted c.requires c.push_text-value.ensures c.decimal-end.ensures
+push-requires c = end_counted c.requires c.push_text.ensures c.decimal.ensures
 
 pub returns : goal.returns
-returns c =
-    line_written c.push_text-value.ensures c.decimal-end.ensures c.push.ensures
+returns c = line_written c.push_text.ensures c.decimal.ensures c.push.ensures

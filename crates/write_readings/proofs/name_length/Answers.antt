@@ -1,14 +1,10 @@
 -- `name_length` meets its contract: the name ends where its spelling does. Assumes nothing.
-use mir.Facts.{Fits-widen}
 use native.Mathlib.Omega.{arith}
 use mathlib.Core.Path.{ap}
 use lib.ListN.{length}
 use Rattle.read_bytes.specs.Bytes.{run_end}
 use Rattle.read_names.proofs.Names.{names_at_lem}
 use Rattle.write_readings.proofs.name_length.Goals as goal
-
-pub overflow_cast-name : goal.overflow_cast-name
-overflow_cast-name c = Fits-widen tt (c.shared_slice_known-3-1.given _)
 
 pub overflow_sub-result : goal.overflow_sub-result
 unfolding run_end

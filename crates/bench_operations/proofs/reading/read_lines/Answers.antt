@@ -11,7 +11,6 @@ use Rattle.lower_lines.specs.InTurn.{Legible}
 use Rattle.read_index.specs.Index.{places_in, name_count}
 use Rattle.read_head.proofs.Signals.{up_to_lem}
 use Rattle.read_sheet.proofs.Ruled.{rule_past}
-use Rattle.read_sheet.proofs.Answers.{when_rule}
 use Rattle.bench_operations.proofs.reading.read_lines.Goals as goal
 
 -- The next line can be read.
@@ -27,16 +26,16 @@ line_ready {names = names} a g z l r e = record {
 pub overflow_sub-row : goal.overflow_sub-row
 overflow_sub-row c = omega (arith, c.requires.index.long)
 
-pub loop-i-init : goal.loop-i-init
-loop-i-init c = (record { ahead = omega arith; inside = c.requires.within }, omega arith, refl)
+pub loop-done-init : goal.loop-done-init
+loop-done-init c = (record { ahead = omega arith; inside = c.requires.within }, omega arith, refl)
 
-pub rule_line-r-requires : goal.rule_line-r-requires
-rule_line-r-requires c =
-    let z = c.loop-i.invariant in line_ready _ c.requires z.0 c.loop-i-test.true z.1 z.2
+pub rule_line-requires : goal.rule_line-requires
+rule_line-requires c =
+    let z = c.loop-done.invariant in line_ready _ c.requires z.0 (omega arith) z.1 z.2
 
-pub loop-i-preserved : goal.loop-i-preserved
-loop-i-preserved c =
-    let z = c.loop-i.invariant in
-    let w = when_rule c.rule_line-r.ensures c.in-Got.is in
+pub loop-done-preserved : goal.loop-done-preserved
+loop-done-preserved c =
+    let z = c.loop-done.invariant in
+    let w = c.in_ok-read.ensures in
     let y = rule_past _ _ _ w.reads in
     (record { ahead = omega (arith, z.0.ahead, y.ahead); inside = y.inside }, omega (arith, z.1, w.few), omega (arith, z.2))

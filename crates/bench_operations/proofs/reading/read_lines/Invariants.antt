@@ -7,8 +7,5 @@ use Rattle.read_bytes.proofs.Places.{Reach}
 use Rattle.read_index.specs.Index.{name_count}
 use Rattle.bench_operations.proofs.reading.read_lines.Given as goal
 
-abbrev pub invariant-loop-i : goal.invariant-loop-i
-invariant-loop-i l = Reach l.s l.first l.place × (l.row ≤ name_count l.names + most_rule_bytes * l.i) × (length l.arena ≡ arena_numbers)
-
-abbrev pub decreases-loop-i : goal.decreases-loop-i
-decreases-loop-i l = l.m - l.i
+abbrev pub invariant-loop-done : goal.invariant-loop-done
+invariant-loop-done l = Reach l.s l.first l.place × (l.row ≤ name_count l.names + most_rule_bytes * l.done) × (length l.arena ≡ arena_numbers)

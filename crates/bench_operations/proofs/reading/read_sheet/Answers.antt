@@ -1,25 +1,24 @@
 -- `read_sheet` is safe and ends. Assumes nothing.
 use native.Mathlib.Omega.{arith}
 use lib.ListN.{length-take}
-use Rattle.read_sheet.proofs.Answers.{when_headed}
-use Rattle.open_sheet.proofs.Sheets.{begun, legible}
+use Rattle.read_head.proofs.Heads.{head_past}
 use Rattle.open_sheet.proofs.Buffers.{fresh_names}
 use Rattle.bench_operations.proofs.reading.read_sheet.Goals as goal
 
-pub head-h-requires : goal.head-h-requires
-head-h-requires c = (fresh_names, omega arith)
+pub head-requires : goal.head-requires
+head-requires c = (fresh_names, omega arith)
 
 pub overflow_add-names : goal.overflow_add-names
-overflow_add-names c = let h = when_headed c.head-h.ensures c.in-Lines.is in omega (arith, h.2.few)
+overflow_add-names c = omega (arith, c.in_ok-head.ensures.put.few)
 
 pub slice_bounds-names-end : goal.slice_bounds-names-end
-slice_bounds-names-end c =
-    let h = when_headed c.head-h.ensures c.in-Lines.is in omega (arith, h.2.few)
+slice_bounds-names-end c = omega (arith, c.in_ok-head.ensures.put.few)
 
 pub slice_bounds-read_lines-end : goal.slice_bounds-read_lines-end
-slice_bounds-read_lines-end c =
-    let h = when_headed c.head-h.ensures c.in-Lines.is in simp length-take (omega (arith, h.2.few))
+slice_bounds-read_lines-end c = simp length-take (omega (arith, c.in_ok-head.ensures.put.few))
 
 pub read_lines-requires : goal.read_lines-requires
 read_lines-requires c =
-    legible (begun c.head-h.ensures c.in-Lines.is c.if-s-gt-BYTES.false)
+    let h = c.in_ok-head.ensures in
+    let a = head_past _ h.lines in
+    record { within = a.inside; before = a.before; index = h.put.index; most = h.sizes.rules_high }

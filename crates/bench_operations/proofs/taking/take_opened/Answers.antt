@@ -17,8 +17,8 @@ count_facts-before-requires c =
     let few : name_count c.args.names.now ≤ most_rows = omega (arith, given.0.few) in
     (spread.some, rw n given.3, omega (arith, table_most few spread.most))
 
-pub take_readings-r-requires : goal.take_readings-r-requires
-take_readings-r-requires c =
+pub take_readings-requires : goal.take_readings-requires
+take_readings-requires c =
     let given = c.requires in
     let n = c.words_of-n.ensures in
     record { index = given.0; some = given.1; ticks = omega (arith, given.2); covered = (row_words given.1 given.2 n).cover; room = rw n given.3 }

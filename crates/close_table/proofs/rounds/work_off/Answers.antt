@@ -14,7 +14,7 @@ overflow_mul-m c =
 
 pub loop-go-init : goal.loop-go-init
 loop-go-init c =
-    (λ i. omega (arith, c.slice_known-2-1.given i), refl, toward_start _ _ _ _ _ _ c.requires.settled_off_list)
+    (λ i. omega (arith, c.type_inv.marks i), refl, toward_start _ _ _ _ _ _ c.requires.settled_off_list)
 
 pub work_round-requires : goal.work_round-requires
 work_round-requires c =
@@ -36,9 +36,8 @@ loop-go-smaller c =
 pub loop-go-preserved : goal.loop-go-preserved
 loop-go-preserved c =
     let work-round = c.work_round in
-    let slice-known4 = c.slice_known-in-loop-go-2-1 in
     let l = c.loop-go in
-    (λ i. omega (arith, slice-known4.given i), work-round.ensures.long ∙ l.invariant.1, toward_more _ _ _ _ _ _ _ _ _ _ l.invariant.2 work-round.ensures c.items_left-go.ensures.0)
+    (λ i. omega (arith, c.type_inv.marks i), work-round.ensures.long ∙ l.invariant.1, toward_more _ _ _ _ _ _ _ _ _ _ l.invariant.2 work-round.ensures c.items_left-go.ensures.0)
 
 pub shape_of-todo : goal.shape_of-todo
 shape_of-todo c = c.loop-go.invariant.1

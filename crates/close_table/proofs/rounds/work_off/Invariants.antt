@@ -9,7 +9,7 @@ use Rattle.close_table.proofs.rounds.work_off.Given as goal
 
 abbrev pub invariant-loop-go : goal.invariant-loop-go
 invariant-loop-go l =
-    Small 64 l.marks × (length l.todo ≡ length l.initial.todo) × Toward l.count l.rows l.window l.n l.initial.marks l.marks l.todo l.go
+    Small 64 l.marks × (length l.todo ≡ length l.initial.todo) × Toward l.on.count l.on.rows.now l.on.window l.n l.initial.marks l.marks l.todo l.go
 
 abbrev pub decreases-loop-go : goal.decreases-loop-go
 decreases-loop-go l = room l.marks + another l.go

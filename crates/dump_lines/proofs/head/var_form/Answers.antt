@@ -2,7 +2,6 @@
 use native.Mathlib.Omega.{arith}
 use mathlib.Core.Path.{refl, sym, ◌∙◌}
 use mathlib.Core.Bool.{true≢false}
-use mir.Facts.{Fits-widen}
 use Rattle.read_lines.proofs.ValueFirst.{keyed_is, keyed_by}
 use Rattle.dump_lines.proofs.VarForms.{form_is, form_not}
 use Rattle.dump_lines.proofs.head.var_form.Goals as goal
@@ -12,9 +11,6 @@ returns-then-not-keyed c = form_not _ _ _ _ refl (λ h. true≢false (sym h.key 
 
 pub returns-then-d-v : goal.returns-then-d-v
 returns-then-d-v c = form_not _ _ _ _ refl (λ h. omega (arith, h.long))
-
-pub overflow_cast-d : goal.overflow_cast-d
-overflow_cast-d c = Fits-widen tt (c.shared_slice_known-2-1.given _)
 
 pub returns-then-d-p : goal.returns-then-d-p
 returns-then-d-p c = form_not _ _ _ _ refl (λ h. c.if-d-p.true h.id)

@@ -5,17 +5,17 @@ use Rattle.dump_changes.specs.WordSigns.{row_sign}
 use Rattle.dump_text.proofs.Events.{tick_moves}
 use Rattle.dump_text.proofs.changes.write_tick.Goals as goal
 
-pub write_number_line-signs-requires : goal.write_number_line-signs-requires
+pub write_number_line-requires : goal.write_number_line-requires
 unfolding event_text
-write_number_line-signs-requires c =
+write_number_line-requires c =
     counted_first _ (counted_like c.requires.3 (tick_moves (row_sign c.args.n c.args.table.now) c.args.k c.args.tick c.requires.2))
 
 pub write_differing-requires : goal.write_differing-requires
 unfolding event_text
 write_differing-requires c =
-    (c.requires.0, c.requires.1, counted_rest (counted_like c.requires.3 (tick_moves (row_sign c.args.n c.args.table.now) c.args.k c.args.tick c.requires.2)) c.write_number_line-signs.ensures)
+    (c.requires.0, c.requires.1, counted_rest (counted_like c.requires.3 (tick_moves (row_sign c.args.n c.args.table.now) c.args.k c.args.tick c.requires.2)) c.write_number_line.ensures)
 
 pub returns : goal.returns
 unfolding event_text
 returns c =
-    like (tick_moves (row_sign c.args.n c.args.table.now) c.args.k c.args.tick c.requires.2) (and_then_lem c.write_number_line-signs.ensures c.write_differing.ensures)
+    like (tick_moves (row_sign c.args.n c.args.table.now) c.args.k c.args.tick c.requires.2) (and_then_lem c.write_number_line.ensures c.write_differing.ensures)

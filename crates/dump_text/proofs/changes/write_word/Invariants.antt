@@ -1,9 +1,7 @@
 -- `write_word` meets its contract. The invariant: `left` has the ticks from `next` on at which a sign changes, and their lines are left to be written.
 -- Assumes nothing.
 -- The tick after those of the word.
-use mathlib.Core.Path.{◌≡◌}
 use Prim.Native.Nat.{ℕ, ◌+◌, ◌-◌, ◌*◌}
-use lib.ListN.{length}
 use Rattle.write_bytes.proofs.Leaves.{Leaves}
 use Rattle.spec_dump.specs.DumpTexts.{events_text}
 use Rattle.spec_dump.specs.TableSigns.{changes_from}
@@ -16,7 +14,7 @@ abbrev end : ℕ → ℕ → ℕ
 end window q = 64 * q + word_ticks window q
 
 abbrev pub invariant-loop-left : goal.invariant-loop-left
-invariant-loop-left l = (length l.out ≡ length l.initial.out) × WordLeft (row_sign l.n l.table) l.k l.next (end l.window l.q) l.left × Leaves (word_text l.k l.window l.n l.table l.q) l.used l.initial.out (events_text (changes_from (row_sign l.n l.table) l.k l.next (end l.window l.q - l.next))) l.at l.out
+invariant-loop-left l = WordLeft (row_sign l.n l.table) l.k l.next (end l.window l.q) l.left × Leaves (word_text l.k l.window l.n l.table l.q) l.initial.w (events_text (changes_from (row_sign l.n l.table) l.k l.next (end l.window l.q - l.next))) l.w
 
 abbrev pub decreases-loop-left : goal.decreases-loop-left
 decreases-loop-left l = l.left

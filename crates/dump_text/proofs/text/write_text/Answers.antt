@@ -1,20 +1,21 @@
 -- `write_text` meets its contract. Assumes nothing.
-use Rattle.write_bytes.proofs.Writing.{and_then_lem, like, counted_first, counted_rest}
+use borrow.Author.Rules.{rules}
+use Rattle.write_bytes.proofs.Writing.{and_then_lem, like, all_written, counted_start, counted_first, counted_rest}
 use Rattle.dump_text.proofs.Wholes.{whole, whole_counted}
 use Rattle.dump_text.proofs.text.write_text.Goals as goal
 
-pub write_head-first-requires : goal.write_head-first-requires
-write_head-first-requires c =
-    (c.requires.0.few, counted_first _ (whole_counted _ _ c.requires.0 c.requires.1))
+pub write_head-requires : goal.write_head-requires
+write_head-requires c =
+    (c.requires.0.few, counted_first _ (counted_start (whole_counted _ _ c.requires.0 c.requires.1) c.new-w.ensures.start))
 
-pub write_first-later-requires : goal.write_first-later-requires
-write_first-later-requires c =
-    (c.requires.0, counted_first _ (counted_rest (whole_counted _ _ c.requires.0 c.requires.1) c.write_head-first.ensures))
+pub write_first-requires : goal.write_first-requires
+write_first-requires c =
+    (c.requires.0, counted_first _ (counted_rest (counted_start (whole_counted _ _ c.requires.0 c.requires.1) c.new-w.ensures.start) c.write_head.ensures))
 
 pub write_changes-requires : goal.write_changes-requires
 write_changes-requires c =
-    (c.requires.0, counted_rest (counted_rest (whole_counted _ _ c.requires.0 c.requires.1) c.write_head-first.ensures) c.write_first-later.ensures)
+    (c.requires.0, counted_rest (counted_rest (counted_start (whole_counted _ _ c.requires.0 c.requires.1) c.new-w.ensures.start) c.write_head.ensures) c.write_first.ensures)
 
 pub returns : goal.returns
 returns c =
-    like (whole c.args.s.now c.args.places.now c.requires.0) (and_then_lem c.write_head-first.ensures (and_then_lem c.write_first-later.ensures c.write_changes.ensures))
+    all_written (like (whole c.args.s.now c.args.places.now c.requires.0) (and_then_lem c.write_head.ensures (and_then_lem c.write_first.ensures c.write_changes.ensures))) c.new-w.ensures.lent c.new-w.ensures.start (search rules) c.length.ensures

@@ -1,14 +1,9 @@
 -- `write_vars` meets its contract. The invariant: the signals from `x` on are left to be written. Assumes nothing.
-use mathlib.Core.Path.{◌≡◌}
-use Prim.Native.Nat.{◌≤◌, ◌-◌}
-use lib.ListN.{length, drop}
+use lib.ListN.{drop}
 use Rattle.read_names.specs.Spellings.{names_at}
 use Rattle.write_bytes.proofs.Leaves.{Leaves}
 use Rattle.spec_dump.specs.DumpTexts.{vars_text}
 use Rattle.dump_text.proofs.text.write_vars.Given as goal
 
 abbrev pub invariant-loop-x : goal.invariant-loop-x
-invariant-loop-x l = (length l.out ≡ length l.initial.out) × (l.x ≤ length l.places) × Leaves (vars_text 0 (names_at l.s l.places)) l.used l.initial.out (vars_text l.x (names_at l.s (drop l.x l.places))) l.at l.out
-
-abbrev pub decreases-loop-x : goal.decreases-loop-x
-decreases-loop-x l = length l.places - l.x
+invariant-loop-x l = Leaves (vars_text 0 (names_at l.s l.places)) l.initial.w (vars_text l.x (names_at l.s (drop l.x l.places))) l.w

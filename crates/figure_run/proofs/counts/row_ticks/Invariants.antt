@@ -4,6 +4,3 @@ use Rattle.figure_run.proofs.counts.row_ticks.Given as goal
 
 abbrev pub invariant-loop-q : goal.invariant-loop-q
 invariant-loop-q l = CountedFrom l.n l.table l.row l.q l.held l.failed l.first
-
-abbrev pub decreases-loop-q : goal.decreases-loop-q
-decreases-loop-q l = l.q

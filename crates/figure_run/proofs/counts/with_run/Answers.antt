@@ -3,8 +3,5 @@ use native.Mathlib.Omega.{arith}
 use Rattle.figure_run.proofs.Runs.{clashing_run}
 use Rattle.figure_run.proofs.counts.with_run.Goals as goal
 
-pub with_settled-requires : goal.with_settled-requires
-with_settled-requires c = rw c.if-clash.false at c.requires
-
 pub returns-then-clash : goal.returns-then-clash
 returns-then-clash c = clashing_run (c.requires.clashes.0 c.if-clash.true) (omega arith) (omega arith)

@@ -4,14 +4,14 @@ use Rattle.write_bytes.proofs.Writing.{and_then_lem, counted_first, counted_rest
 use Rattle.list_signals.specs.Signals.{signal_text}
 use Rattle.list_captioned.proofs.signals.write_shown_signal.Goals as goal
 
-pub write_text_line-marks-requires : goal.write_text_line-marks-requires
+pub write_text_line-requires : goal.write_text_line-requires
 unfolding signal_text
-write_text_line-marks-requires c = counted_first _ (c.requires.1 (λ t. Unsettled))
+write_text_line-requires c = counted_first _ (c.requires.1 (λ t. Unsettled))
 
 pub write_marks_line-requires : goal.write_marks_line-requires
 unfolding signal_text
-write_marks_line-requires c = (c.requires.0, λ f. counted_rest (c.requires.1 f) c.write_text_line-marks.ensures)
+write_marks_line-requires c = (c.requires.0, λ f. counted_rest (c.requires.1 f) c.write_text_line.ensures)
 
 pub returns : goal.returns
 unfolding signal_text
-returns c = λ f a. and_then_lem c.write_text_line-marks.ensures (c.write_marks_line.ensures f a)
+returns c = λ f a. and_then_lem c.write_text_line.ensures (c.write_marks_line.ensures f a)

@@ -1,6 +1,5 @@
--- `write_shown_signals` meets its contract. The invariant: the signals from the place `i` on are left to be written. Assumes nothing.
-use mathlib.Core.Path.{◌≡◌}
-use Prim.Native.Nat.{ℕ, ◌-◌}
+-- `write_shown_signals` meets its contract. The invariant: the signals from `signal-index` on are left to be written. Assumes nothing.
+use Prim.Native.Nat.{ℕ}
 use lib.ListN.{length, drop}
 use Rattle.spec_tilco.specs.Table.{Stands, Answer}
 use Rattle.read_captions.specs.Parts.{shown_texts}
@@ -9,8 +8,5 @@ use Rattle.write_bytes.proofs.Leaves.{Leaves}
 use Rattle.list_signals.specs.Signals.{Answers, signals_text}
 use Rattle.list_captioned.proofs.signals.write_shown_signals.Given as goal
 
-abbrev pub invariant-loop-i : goal.invariant-loop-i
-invariant-loop-i l = (length l.out ≡ length l.initial.out) × ((f : ℕ → ℕ → Answer) → Answers (Stands l.n l.table) (length l.places) l.window f → Leaves (signals_text l.window f (shown_texts l.s l.c l.places l.captions) l.signals) l.used l.initial.out (signals_text l.window f (shown_texts l.s l.c l.places l.captions) (drop l.i l.signals)) l.at l.out) × ((f : ℕ → ℕ → Answer) → Counted l.at (signals_text l.window f (shown_texts l.s l.c l.places l.captions) (drop l.i l.signals)))
-
-abbrev pub decreases-loop-i : goal.decreases-loop-i
-decreases-loop-i l = length l.signals - l.i
+abbrev pub invariant-loop-signal : goal.invariant-loop-signal
+invariant-loop-signal l = ((f : ℕ → ℕ → Answer) → Answers (Stands l.n l.table) (length l.places) l.window f → Leaves (signals_text l.window f (shown_texts l.s l.c l.places l.captions) l.signals) l.initial.w (signals_text l.window f (shown_texts l.s l.c l.places l.captions) (drop l.signal-index l.signals)) l.w) × ((f : ℕ → ℕ → Answer) → Counted l.w.used (signals_text l.window f (shown_texts l.s l.c l.places l.captions) (drop l.signal-index l.signals)))

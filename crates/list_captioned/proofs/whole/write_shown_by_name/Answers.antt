@@ -15,7 +15,7 @@ write_shown_signals-requires c = (
   c.requires.1,
   c.requires.2,
   subst (All (λ x. x < length c.args.places.now)) (sym c.signals_in_order.ensures) (order_placed c.args.s.now c.args.places.now),
-  λ f. subst (λ xs. Counted c.args.used (signals_text c.args.window f (shown_texts c.args.s.now c.args.c.now c.args.places.now c.args.captions.now) xs)) (sym c.signals_in_order.ensures) (c.requires.3 f),
+  λ f. subst (λ xs. Counted c.args.w.now.used (signals_text c.args.window f (shown_texts c.args.s.now c.args.c.now c.args.places.now c.args.captions.now) xs)) (sym c.signals_in_order.ensures) (c.requires.3 f),
 )
 
 pub returns : goal.returns

@@ -15,7 +15,7 @@ write_signals-requires c =
     let names = names_at c.args.s.now c.args.places.now in (
       c.requires.1,
       subst (All (λ x. x < length c.args.places.now)) (sym c.signals_in_order.ensures) (order_placed c.args.s.now c.args.places.now),
-      λ f. subst (λ xs. Counted c.args.used (signals_text c.args.window f names xs)) (sym c.signals_in_order.ensures) (c.requires.2 f),
+      λ f. subst (λ xs. Counted c.args.w.now.used (signals_text c.args.window f names xs)) (sym c.signals_in_order.ensures) (c.requires.2 f),
     )
 
 pub returns : goal.returns

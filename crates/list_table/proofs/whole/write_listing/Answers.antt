@@ -1,7 +1,8 @@
 -- `write_listing` meets its contract. Assumes nothing.
+use borrow.Author.Rules.{rules}
 use mathlib.Core.Path.{sym}
 use lib.Seq.{length-take-le}
-use Rattle.write_bytes.proofs.Writing.{and_then_lem, counted_rest}
+use Rattle.write_bytes.proofs.Writing.{counted_after, written_after}
 use Rattle.list_table.specs.Listing.{listing_text}
 use Rattle.list_table.proofs.whole.write_listing.Goals as goal
 
@@ -12,9 +13,9 @@ slice_bounds-write_by_name-end c =
 pub write_by_name-requires : goal.write_by_name-requires
 unfolding listing_text
 write_by_name-requires c =
-    (record { inside = c.requires.1; many = length-take-le _ _ c.requires.2 }, c.requires.0, λ f. counted_rest (c.requires.3 f) c.write_head-signals.ensures)
+    (record { inside = c.requires.1; many = length-take-le _ _ c.requires.2 }, c.requires.0, λ f. counted_after (c.requires.3 f) c.write_head-w.ensures.head)
 
 pub returns : goal.returns
 unfolding listing_text
 returns c =
-    λ f a. and_then_lem c.write_head-signals.ensures (c.write_by_name.ensures f a)
+    λ f a. let h = c.write_by_name.ensures f a in written_after c.write_head-w.ensures.head h (search rules) c.length.ensures

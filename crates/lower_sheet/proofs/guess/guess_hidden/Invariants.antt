@@ -5,7 +5,4 @@ use Rattle.spec_limits.specs.Limits.{most_hidden}
 use Rattle.lower_sheet.proofs.guess.guess_hidden.Given as goal
 
 abbrev pub invariant-loop-i : goal.invariant-loop-i
-invariant-loop-i l = (l.n ≤ most_hidden) × (1 ≤ l.i)
-
-abbrev pub decreases-loop-i : goal.decreases-loop-i
-decreases-loop-i l = length l.s - l.i
+invariant-loop-i l = l.n ≤ most_hidden

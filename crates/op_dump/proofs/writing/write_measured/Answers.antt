@@ -1,5 +1,4 @@
 -- `write_measured` meets its contract. Assumes nothing.
-use native.Mathlib.Omega.{arith}
 use Rattle.op_dump.proofs.Measured.{too_long, all_fits}
 use Rattle.op_dump.proofs.writing.write_measured.Goals as goal
 
@@ -15,5 +14,4 @@ write_text-requires c =
     c.requires
 
 pub returns : goal.returns
-returns c =
-    all_fits c.write_text-long.ensures (omega arith) c.write_text.ensures
+returns c = all_fits c.write_text-long.ensures c.if-out-long.false c.write_text.ensures

@@ -1,6 +1,5 @@
 -- `moved_length` meets its contract. The invariant: what the numbers before i are joined to is added up, unless the limit is passed. Assumes nothing.
 use native.Mathlib.Omega.{arith}
-use Prim.Native.Nat.{◌-◌}
 use Rattle.op_moves.proofs.RunTexts.{run_writable}
 use Rattle.op_moves.proofs.Measured.{stops_adding, runs_start, run_more, run_last}
 use Rattle.op_moves.proofs.lengths.moved_length.Goals as goal

@@ -1,8 +1,6 @@
 -- `singles_length` meets its contract. The invariant: the readings at the ticks before `tick` are added up, unless the limit is passed. Assumes nothing.
-use mathlib.Core.Bool.{false}
 use mathlib.Core.Path.{refl}
 use native.Mathlib.Omega.{arith}
-use Prim.Native.Nat.{◌-◌}
 use Rattle.join_spans.specs.Joining.{singles}
 use Rattle.op_moves.proofs.Measured.{known_length, stops_adding, single_more, single_last}
 use Rattle.op_moves.proofs.lengths.singles_length.Goals as goal
@@ -19,12 +17,6 @@ entry_length-at-requires c = (c.requires.0, omega arith, omega arith)
 
 pub overflow_add-at : goal.overflow_add-at
 overflow_add-at c = omega (arith, c.if-at-gt-BYTES.false, c.entry_length-at.ensures.0)
-
-pub overflow_add-tick : goal.overflow_add-tick
-overflow_add-tick c = omega arith
-
-pub loop-tick-smaller : goal.loop-tick-smaller
-loop-tick-smaller c = omega arith
 
 pub loop-tick-preserved : goal.loop-tick-preserved
 loop-tick-preserved c = λ names x v e. single_more names x v _ _ _ (c.loop-tick.invariant names x v e) (omega arith) (c.entry_length-at.ensures.1 names x v e)

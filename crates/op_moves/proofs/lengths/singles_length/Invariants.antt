@@ -15,6 +15,3 @@ abbrev pub invariant-loop-tick : goal.invariant-loop-tick
 invariant-loop-tick l =
     (names : List (List ℕ)) (x : ℕ) (v : Bool) → length (get_or names x []) ≡ l.name
     → Measures most_bytes (l.used + length (entries_text false names (singles (span x v l.first l.last)))) (l.at + length (entries_text false names (singles_from x v l.tick (l.last + 1 - l.tick))))
-
-abbrev pub decreases-loop-tick : goal.decreases-loop-tick
-decreases-loop-tick l = l.last + 1 - l.tick

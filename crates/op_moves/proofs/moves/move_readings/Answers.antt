@@ -1,32 +1,21 @@
 -- `move_readings` meets its contract. Assumes nothing.
-use native.Mathlib.Omega.{arith}
-use mathlib.Core.Path.{refl}
-use lib.ListN.{length-take}
+use borrow.Author.Rules.{rules}
+use mathlib.Core.Path.{◌≡◌, refl}
+use Rattle.std.specs.Prelude.{Err}
 use Rattle.open_sheet.proofs.Buffers.{fresh}
-use Rattle.open_table.proofs.Tables.{when_sheet, when_refused}
 use Rattle.spec_moves.specs.Moves.Moves.{not_opened}
 use Rattle.op_moves.proofs.moves.move_readings.Goals as goal
 
-pub open_sheet-o-requires : goal.open_sheet-o-requires
-open_sheet-o-requires c = fresh
+pub open_sheet-requires : goal.open_sheet-requires
+open_sheet-requires c = fresh
 
-pub overflow_add-names : goal.overflow_add-names
-overflow_add-names c = let h = when_sheet c.open_sheet-o.ensures c.in-Sheet.is in omega (arith, h.0.few)
-
-pub slice_bounds-names-end : goal.slice_bounds-names-end
-slice_bounds-names-end c =
-    let h = when_sheet c.open_sheet-o.ensures c.in-Sheet.is in omega (arith, h.0)
-
-pub slice_bounds-move_opened-end : goal.slice_bounds-move_opened-end
-slice_bounds-move_opened-end c =
-    let h = when_sheet c.open_sheet-o.ensures c.in-Sheet.is in simp length-take (omega (arith, h.0))
+pub returns-in_err-sheet : goal.returns-in_err-sheet
+returns-in_err-sheet c =
+    let refused : c.from_residual.result ≡ Err c.in_err-sheet.field-0.0 = search rules in
+    rw refused (not_opened c.in_err-sheet.ensures refl)
 
 pub move_opened-requires : goal.move_opened-requires
 move_opened-requires c =
-    let h = when_sheet c.open_sheet-o.ensures c.in-Sheet.is in
+    let h = c.in_ok-sheet.ensures in
     let k = h.1 in
     (record { contents = k.contents; holds = k.holds; names_are = k.names_are; window_is = k.window_is }, h.0.index)
-
-pub returns-in-Refused : goal.returns-in-Refused
-returns-in-Refused c =
-    not_opened (when_refused c.open_sheet-o.ensures c.in-Refused.is) refl

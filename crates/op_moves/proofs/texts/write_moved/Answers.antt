@@ -1,7 +1,7 @@
 -- `write_moved` meets its contract. The invariant: what the numbers before i are joined to is written. Assumes nothing.
+use borrow.Author.Rules.{rules}
 use native.Mathlib.Omega.{arith}
-use Prim.Native.Nat.{◌-◌}
-use Rattle.write_bytes.proofs.Writing.{as_long}
+use Rattle.write_bytes.proofs.Writing.{all_written, counted_start}
 use Rattle.op_moves.proofs.Progress.{starts, counts, goes_on, ends}
 use Rattle.op_moves.proofs.RunTexts.{moved_runs, next_run, no_run, run_writable}
 use Rattle.op_moves.proofs.texts.write_moved.Goals as goal
@@ -13,9 +13,9 @@ loop-i-init c =
 pub run_from-row-requires : goal.run_from-row-requires
 run_from-row-requires c = c.loop-i-test.true
 
-pub write_run-at-requires : goal.write_run-at-requires
-write_run-at-requires c =
-    (run_writable c.requires.0 c.loop-i-test.true c.run_from-row.ensures, counts c.loop-i.invariant c.requires.1 _ (next_run _ _ c.run_from-row.ensures))
+pub write_run-requires : goal.write_run-requires
+write_run-requires c =
+    (run_writable c.requires.0 c.loop-i-test.true c.run_from-row.ensures, counts c.loop-i.invariant (counted_start c.requires.1 c.new-w.ensures.start) _ (next_run _ _ c.run_from-row.ensures))
 
 pub loop-i-smaller : goal.loop-i-smaller
 loop-i-smaller c =
@@ -23,11 +23,8 @@ loop-i-smaller c =
 
 pub loop-i-preserved : goal.loop-i-preserved
 loop-i-preserved c =
-    goes_on c.loop-i.invariant (next_run _ _ c.run_from-row.ensures) c.write_run-at.ensures
-
-pub shape_of-out : goal.shape_of-out
-shape_of-out c = as_long c.loop-i.invariant.wrote
+    goes_on c.loop-i.invariant (next_run _ _ c.run_from-row.ensures) c.write_run.ensures
 
 pub returns : goal.returns
 returns c =
-    ends c.loop-i.invariant (no_run _ _ c.args.noted.now c.loop-i.i (omega arith))
+    all_written (ends c.loop-i.invariant (no_run _ _ c.args.noted.now c.loop-i.i (omega arith))) c.new-w.ensures.lent c.new-w.ensures.start (search rules) c.length.ensures

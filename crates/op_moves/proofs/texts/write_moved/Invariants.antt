@@ -11,7 +11,7 @@ use Rattle.op_moves.proofs.texts.write_moved.Given as goal
 
 abbrev pub invariant-loop-i : goal.invariant-loop-i
 invariant-loop-i l =
-    Progress (moved_text l.spans (names_at l.s l.places) l.noted) (runs_text l.spans (names_at l.s l.places) (merged (spans_from l.noted l.i))) 0 l.initial.out l.out l.at
+    Progress (moved_text l.spans (names_at l.s l.places) l.noted) (runs_text l.spans (names_at l.s l.places) (merged (spans_from l.noted l.i))) l.initial.w l.w
 
 abbrev pub decreases-loop-i : goal.decreases-loop-i
 decreases-loop-i l = length l.noted - l.i

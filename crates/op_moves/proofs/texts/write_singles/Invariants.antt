@@ -10,7 +10,4 @@ use Rattle.op_moves.proofs.texts.write_singles.Given as goal
 
 abbrev pub invariant-loop-tick : goal.invariant-loop-tick
 invariant-loop-tick l =
-    Progress (entries_text false (names_at l.s l.places) (singles (span l.signal l.value l.first l.last))) (entries_text false (names_at l.s l.places) (singles_from l.signal l.value l.tick (l.last + 1 - l.tick))) l.used l.initial.out l.out l.at
-
-abbrev pub decreases-loop-tick : goal.decreases-loop-tick
-decreases-loop-tick l = l.last + 1 - l.tick
+    Progress (entries_text false (names_at l.s l.places) (singles (span l.signal l.value l.first l.last))) (entries_text false (names_at l.s l.places) (singles_from l.signal l.value l.tick (l.last + 1 - l.tick))) l.initial.w l.w

@@ -13,13 +13,13 @@ pub returns-then-b-x : goal.returns-then-b-x
 returns-then-b-x c =
     sym
     (c.loop-i.invariant.0
-    ∙ fours_off _ _ (λ k. (c.shared_slice_known-1.given k).fits) (λ k. (c.shared_slice_known-2-1.given k).fits) _ c.requires _ (omega arith)
+    ∙ fours_off _ _ (λ k. (c.type_inv.s k).fits) (λ k. (c.type_inv.w k).fits) _ c.requires _ (omega arith)
     (λ e. c.if-b-x.true (c.four_at-b.ensures ∙ e ∙ sym c.four_at-x.ensures)))
 
 pub loop-i-preserved : goal.loop-i-preserved
 loop-i-preserved c = (
   c.loop-i.invariant.0
-      ∙ fours_on _ _ (λ k. (c.shared_slice_known-1.given k).fits) (λ k. (c.shared_slice_known-2-1.given k).fits) _ c.requires _ (omega arith)
+      ∙ fours_on _ _ (λ k. (c.type_inv.s k).fits) (λ k. (c.type_inv.w k).fits) _ c.requires _ (omega arith)
       (sym c.four_at-b.ensures ∙ c.if-b-x.false ∙ c.four_at-x.ensures),
   omega arith,
 )

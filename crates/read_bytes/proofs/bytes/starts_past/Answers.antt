@@ -6,16 +6,16 @@ use Rattle.read_bytes.proofs.Places.{starts_done, starts_off, starts_on, starts_
 use Rattle.read_bytes.proofs.bytes.starts_past.Goals as goal
 
 pub loop-i-init : goal.loop-i-init
-loop-i-init c = (starts_first _ _ _, omega arith)
+loop-i-init c = starts_first _ _ _
 
-pub returns-then-b-x : goal.returns-then-b-x
-returns-then-b-x c =
-    sym (c.loop-i.invariant.0 ∙ starts_off _ _ _ _ (omega arith) (λ e. c.if-b-x.true (c.byte_at-b.ensures ∙ sym e)))
+pub returns-then-byte_at-w : goal.returns-then-byte_at-w
+returns-then-byte_at-w c =
+    sym (c.loop-i.invariant ∙ starts_off _ _ _ _ (omega arith) (λ e. c.if-byte_at-w.true (c.byte_at.ensures ∙ sym e)))
 
 pub loop-i-preserved : goal.loop-i-preserved
 loop-i-preserved c =
-    (c.loop-i.invariant.0 ∙ starts_on _ _ _ _ (omega arith) (sym c.if-b-x.false ∙ c.byte_at-b.ensures), omega arith)
+    c.loop-i.invariant ∙ starts_on _ _ _ _ (omega arith) (sym c.if-byte_at-w.false ∙ c.byte_at.ensures)
 
 pub returns : goal.returns
 returns c =
-    sym (c.loop-i.invariant.0 ∙ starts_done _ _ _ _ (omega arith))
+    sym (c.loop-i.invariant ∙ starts_done _ _ _ _ (omega arith))

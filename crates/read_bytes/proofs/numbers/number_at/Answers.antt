@@ -1,6 +1,7 @@
 -- `number_at` meets its contract. Assumes nothing.
 use native.Mathlib.Omega.{arith}
-use mathlib.Core.Path.{◌∙◌}
+use mathlib.Core.Path.{ap, ◌∙◌}
+use Rattle.std.specs.Prelude.{Some}
 use Rattle.read_bytes.specs.Bytes.{byte}
 use Rattle.read_bytes.proofs.Tests.{between_low, between_high}
 use Rattle.read_bytes.proofs.Values.{number_zero, number_some, number_none}
@@ -11,7 +12,7 @@ returns-in-48 c = number_zero _ _ _ c.byte_at-b.ensures c.in-48.is
 
 pub returns-in-49-to-57 : goal.returns-in-49-to-57
 returns-in-49-to-57 c =
-    c.digits.ensures ∙ number_some _ _ _ c.byte_at-b.ensures (omega arith) (omega arith)
+    ap Some c.digits.ensures ∙ number_some _ _ _ c.byte_at-b.ensures (omega arith) (omega arith)
 
 pub returns-in_default : goal.returns-in_default
 returns-in_default c =

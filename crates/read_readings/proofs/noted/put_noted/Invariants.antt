@@ -1,12 +1,8 @@
 -- `put_noted` meets its contract. The invariant: the marks of the first i spans are put. Assumes nothing.
-use Prim.Native.Nat.{◌-◌, ◌≤◌}
 use Rattle.read_reading.specs.Spans.{marks_of_all}
 use Rattle.table_marks.specs.Puts.{Puts}
 use Rattle.read_readings.specs.SpanNumbers.{spans_in}
 use Rattle.read_readings.proofs.noted.put_noted.Given as goal
 
 abbrev pub invariant-loop-i : goal.invariant-loop-i
-invariant-loop-i l = (l.i ≤ l.count) × Puts l.n (marks_of_all (spans_in l.noted l.i)) l.initial.table l.table
-
-abbrev pub decreases-loop-i : goal.decreases-loop-i
-decreases-loop-i l = l.count - l.i
+invariant-loop-i l = Puts l.n (marks_of_all (spans_in l.noted l.i)) l.initial.table l.table

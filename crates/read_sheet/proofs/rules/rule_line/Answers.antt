@@ -1,18 +1,22 @@
 -- `rule_line` meets its contract. Assumes nothing.
-use Rattle.read_lines.specs.Lines.{says}
-use Rattle.read_bytes.proofs.Answers.{answered}
-use Rattle.read_sheet.proofs.Ruled.{line_read, line_refused, line_ended, line_ready}
+use borrow.Author.Rules.{rules}
+use mathlib.Core.Path.{◌≡◌, sym}
+use Rattle.std.specs.Prelude.{Err}
+use Rattle.read_sheet.specs.Sheet.{rule_line}
+use Rattle.read_sheet.proofs.Ruled.{line_ended, line_ready}
 use Rattle.read_sheet.proofs.rules.rule_line.Goals as goal
+
+pub returns-in_err-v : goal.returns-in_err-v
+unfolding rule_line
+returns-in_err-v c =
+    let e : c.from_residual.result ≡ Err c.in_err-v.field-0.0 = search rules in
+    rw e (rw (← c.in_err-v.ensures))
 
 pub rule_to-requires : goal.rule_to-requires
 rule_to-requires c =
-    let asked = c.requires in
-    let a = answered says c.line_at-l.ensures c.in-Got.is in
-    record { ready = line_ready _ _ a asked; ended = line_ended _ _ a }
+    let line = sym c.in_ok-v.ensures in
+    record { ready = line_ready _ _ line c.requires; ended = line_ended _ _ line }
 
-pub returns-in-Got : goal.returns-in-Got
-returns-in-Got c =
-    line_read _ _ _ (answered says c.line_at-l.ensures c.in-Got.is) c.rule_to.ensures
-
-pub returns-in-Refused : goal.returns-in-Refused
-returns-in-Refused c = line_refused _ _ _ (answered says c.line_at-l.ensures c.in-Refused.is)
+pub returns : goal.returns
+unfolding rule_line
+returns c = rw (← c.in_ok-v.ensures) c.rule_to.ensures

@@ -1,37 +1,28 @@
 -- `rule_to` meets its contract. Assumes nothing.
+use borrow.Author.Rules.{rules}
 use native.Mathlib.Omega.{arith}
-use mathlib.Core.Path.{subst, sym}
+use mathlib.Core.Logic.{⊎_elim}
 use lib.ListN.{length-take}
-use Rattle.read_parts.specs.Parsed.{Parses}
-use Rattle.read_sheet.specs.RuleAnswers.{RuleRead}
-use Rattle.read_sheet.specs.RuleAnswers.RuleRead.{refused_at}
 use Rattle.read_sheet.proofs.Ruled.{rule_short, rule_long, rule_ready, rule_read, rule_refused}
 use Rattle.read_sheet.proofs.rules.rule_to.Goals as goal
 
-pub returns-in_default : goal.returns-in_default
-returns-in_default c =
-    refused_at {k = 5} {p = c.args.v} (rule_short _ _ _ _ (omega arith))
-
-pub returns-in_default-2 : goal.returns-in_default-2
-returns-in_default-2 c =
-    refused_at {k = 5} {p = c.args.v} (rule_long _ _ _ _ (omega arith))
+pub returns-then-n-lt1 : goal.returns-then-n-lt1
+returns-then-n-lt1 c = ⊎_elim (rule_short _ _ _ _) (λ h. rule_long _ _ _ _ h.1) c.then-n-lt1.either
 
 pub slice_bounds-rule-end : goal.slice_bounds-rule-end
 slice_bounds-rule-end c = simp length-take (omega arith)
 
-pub rule-r-requires : goal.rule-r-requires
-rule-r-requires c =
+pub rule-requires : goal.rule-requires
+rule-requires c =
     let asked = c.requires in
     rule_ready _ _ _ _ _ _ asked.ready asked.ended (omega arith)
 
-pub returns-in_default-r : goal.returns-in_default-r
-returns-in_default-r c =
+pub returns-in_err-part : goal.returns-in_err-part
+returns-in_err-part c =
     let asked = c.requires in
-    let e = c.in_default-r.is in
-    subst (RuleRead _ _ _) (sym e)
-    (rule_refused _ _ _ _ _ _ asked.ready asked.ended (omega arith) _ (omega arith) (subst (Parses _ _ _ _ _ _ _ _ _) e c.rule-r.ensures))
+    rule_refused _ _ _ _ _ _ asked.ready asked.ended (omega arith) _ (omega arith) c.in_err-part.ensures (search rules)
 
 pub returns : goal.returns
 returns c =
     let asked = c.requires in
-    rule_read _ _ _ _ _ _ asked.ready asked.ended (omega arith) _ (omega arith) (subst (Parses _ _ _ _ _ _ _ _ _) c.in-Got.is c.rule-r.ensures)
+    rule_read _ _ _ _ _ _ asked.ready asked.ended (omega arith) _ (omega arith) c.in_ok-part.ensures

@@ -1,19 +1,20 @@
 -- `rule` meets its contract. Assumes nothing.
+use borrow.Author.Rules.{rules}
 use Rattle.read_parts.specs.FormulaText.{rule}
-use Rattle.read_parts.proofs.Levels.{was, hand_on, whole, not_whole}
+use Rattle.read_parts.proofs.Levels.{hand_on, whole, not_whole}
 use Rattle.read_sheet.proofs.whole_rule.rule.Goals as goal
 
-pub returns-in_default : goal.returns-in_default
+pub returns-in_err-part : goal.returns-in_err-part
 unfolding rule
-returns-in_default c =
-    hand_on _ c.formula-r.ensures c.in_default.is
+returns-in_err-part c =
+    hand_on _ c.in_err-part.ensures (search rules)
 
-pub returns-then-next-s : goal.returns-then-next-s
+pub returns-then-part-s : goal.returns-then-part-s
 unfolding rule
-returns-then-next-s c =
-    whole _ (was c.formula-r.ensures c.in-Got.is) c.if-next-s.true
+returns-then-part-s c =
+    whole _ c.in_ok-part.ensures c.if-part-s.true
 
-pub returns-else-next-s : goal.returns-else-next-s
+pub returns-else-part-s : goal.returns-else-part-s
 unfolding rule
-returns-else-next-s c =
-    not_whole _ (was c.formula-r.ensures c.in-Got.is) c.if-next-s.false
+returns-else-part-s c =
+    not_whole _ c.in_ok-part.ensures c.if-part-s.false

@@ -1,0 +1,2 @@
+-- The laws.
+pub mod OneFault
