@@ -7,7 +7,7 @@
  *
  * You owe what the proof assumes of a caller: behind each pointer lies memory of the length given, no two of one call overlap, nobody else
  * writes there during the call, and no pointer is null, also where its length is 0. The texts, the table's words, the buffers, the records and the
- * numbers may be anything at all. A call needs 72 KB (73,728 bytes) of stack: the deepest sheets that are known take 50,648.
+ * numbers may be anything at all. A call needs 72 KB (73,728 bytes) of stack: the deepest sheets that are known take 50,632.
  *
  * The table. With n the fewest words that have a bit for each tick of the window, (window + 63) / 64, a sheet of `rows` rows (see mikhakun_check)
  * has a table of 2 * rows * n words, and words of zeros are the empty one. Row x is that of signal x, numbered from 0 in sheet order; the rows of
