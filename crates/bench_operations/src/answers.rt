@@ -19,7 +19,7 @@ pub enum Answer {
 pub fn print_answer<W: Write>(output: &mut W, answer: Result<Answer, Refusal>) -> io::Result<()> {
     let told = match answer {
         Ok(told) => told,
-        Err(r) => return print_refusal(output, r),
+        Err(r) => return print_refusal(output, r.number(), r.place),
     };
     match told {
         Answer::Rules(n) => print_number(output, b"rules=", n as u64, b"\n"),

@@ -19,7 +19,7 @@ use op_check::check;
 use open_sheet::open_sheet;
 use read_index::INDEX;
 use reading::read_sheet;
-use run_cases::{print, print_number};
+use run_cases::{print_number, print_refusal};
 use run_parts::{TEXT, is_asked, read_text, times_asked};
 use spec_limits::{BYTES, ROWS, TOPS};
 use spec_refusals::Refusal;
@@ -151,7 +151,7 @@ fn run_table<W: Write>(
     requires { length table.old ≤ most_table_words }
 {
     let Some(answer) = run_times(run, s, readings, table, out, times) else {
-        print(output, b"--- refused 0 at 0\n")?;
+        print_refusal(output, 0, 0)?;
         return print_marks(output, table);
     };
     print_answer(output, answer)?;

@@ -4,14 +4,12 @@
 
 ghost use Rattle.std.specs.Prelude.{◌<◌, ◌≤◌, ◌++◌, length, OnOk, codes, decimal};
 ghost use Rattle.std.specs.Io.KnownBytes.{Appends};
-ghost use Rattle.spec_refusals.specs.Numbers.{fault_number};
 ghost use Rattle.run_parts.specs.Prefixes.{IsPrefixLen};
 
 use read_bytes::bytes::{byte_at, starts_at};
 use read_bytes::numbers::number_at;
 use read_lines::line_end;
 use read_names::spelling_end;
-use spec_refusals::Refusal;
 use std::io;
 use std::io::Write;
 
@@ -119,11 +117,9 @@ pub fn print_number<W: Write>(
 }
 
 // Prints a refusal's number and place.
-pub fn print_refusal<W: Write>(output: &mut W, refusal: Refusal) -> io::Result<()>
+pub fn print_refusal<W: Write>(output: &mut W, number: usize, place: usize) -> io::Result<()>
     ensures { OnOk result (Appends (W.contents output.old) (W.contents output.new)
-        (codes "--- refused " ++ (decimal (fault_number refusal.fault) ++ (codes " at " ++ (decimal refusal.place ++ codes "\n"))))) }
+        (codes "--- refused " ++ (decimal number ++ (codes " at " ++ (decimal place ++ codes "\n"))))) }
 {
-    let number = refusal.number();
-    let place = refusal.place;
     writeln!(output, "--- refused {number} at {place}")
 }

@@ -31,7 +31,7 @@ fn print_caption<'a, W: Write>(
 ) -> io::Result<()> {
     match caption_part(s, c, signal) {
         Ok(part) => print_part(output, part)?,
-        Err(r) => print_refusal(output, r)?,
+        Err(r) => print_refusal(output, r.number(), r.place)?,
     }
     let shown = caption(s, c, signal);
     print(output, b"--- shown: ")?;

@@ -80,7 +80,7 @@ fn run_texts<W: Write>(
     let mut records = [0u64; RECORD_WORDS * SIGNALS];
     match figures_in_words(s, texts, lengths, m, words, &mut records) {
         Ok(()) => print_records(output, &records, m)?,
-        Err(r) => print_refusal(output, r)?,
+        Err(r) => print_refusal(output, r.number(), r.place)?,
     }
     print_words(output, words)
 }

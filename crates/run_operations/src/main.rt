@@ -73,7 +73,7 @@ fn length_at(cases: &[u8], at: usize) -> usize
 fn run_check<W: Write>(output: &mut W, s: &[u8]) -> io::Result<()> {
     match check(s) {
         Ok(n) => print_number(output, b"--- rows ", n as u64, b"\n"),
-        Err(r) => print_refusal(output, r),
+        Err(r) => print_refusal(output, r.number(), r.place),
     }
 }
 
@@ -94,7 +94,7 @@ fn run_add<W: Write>(
             print_number(output, b"--- new facts ", added.new as u64, b", clash ")?;
             print_number(output, b"", added.clash as u64, b"\n")?;
         }
-        Err(r) => print_refusal(output, r)?,
+        Err(r) => print_refusal(output, r.number(), r.place)?,
     }
     print_words(output, words)
 }
@@ -122,7 +122,7 @@ fn run_ask<W: Write>(
     let tick = decimal_at(cases, second) as usize;
     match ask(s, words, signal, tick) {
         Ok(v) => print_value(output, v),
-        Err(r) => print_refusal(output, r),
+        Err(r) => print_refusal(output, r.number(), r.place),
     }
 }
 

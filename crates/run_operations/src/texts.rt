@@ -75,7 +75,7 @@ fn print_written<W: Write>(
             print_then(output, out, n)
         }
         Err(r) => {
-            print_refusal(output, r)?;
+            print_refusal(output, r.number(), r.place)?;
             print_then(output, out, 0)
         }
     }

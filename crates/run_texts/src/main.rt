@@ -30,7 +30,7 @@ fn run_sheet<W: Write>(output: &mut W, cases: &[u8], at: usize) -> io::Result<()
     let n = text_under(cases, at, &mut buffer);
     match check(&buffer[..n]) {
         Ok(rows) => print_number(output, b"--- accepted, rows: ", rows as u64, b"\n"),
-        Err(r) => print_refusal(output, r),
+        Err(r) => print_refusal(output, r.number(), r.place),
     }
 }
 
@@ -62,7 +62,7 @@ fn run_readings<W: Write>(output: &mut W, cases: &[u8], above: usize, at: usize)
     );
     match answer {
         Ok(()) => print(output, b"--- accepted\n"),
-        Err(r) => print_refusal(output, r),
+        Err(r) => print_refusal(output, r.number(), r.place),
     }
 }
 
