@@ -62,8 +62,10 @@ module _ {names : List (List ℕ)} {W : ℕ} {ns j : List ℕ} {i at : ℕ} (z :
   read_all h = z.same ∙ rw (drop_of_length-le ns h)
 
   -- What is noted of the part that is lent is noted of text i.
-  pub text_noted : {a : List ℕ} {v : Result ℕ Refusal} → EntriesNoted (entries names W (take (at + get_or ns i 0 - at) (drop at j))) a v → EntriesNoted (entries names W (text_at ns j i)) a v
-  text_noted {a} {v} = subst (λ r. EntriesNoted (entries names W r) a v) (part_lent j at (get_or ns i 0) ∙ rw z.start)
+  pub text_noted : {a : List ℕ} {v : Result ℕ Refusal}
+      → EntriesNoted (entries names W (take (at + get_or ns i 0 - at) (drop at j))) (length (take (at + get_or ns i 0 - at) (drop at j))) a v
+      → EntriesNoted (entries names W (text_at ns j i)) (length (text_at ns j i)) a v
+  text_noted {a} {v} = subst (λ r. EntriesNoted (entries names W r) (length r) a v) (part_lent j at (get_or ns i 0) ∙ rw z.start)
 
   module _ (h : i < length ns) where
     -- What is next is text i, and what comes after it.

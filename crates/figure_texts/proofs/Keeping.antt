@@ -53,7 +53,7 @@ put_from used a part rest = take used a ++ (part ++ rest)
 
 -- Text i is noted in the part from there on, which is put back, and c of its notes are kept.
 module _ {names : List (List ℕ)} {W : ℕ} {ns j a cs : List ℕ} {i used : ℕ} (z : KeptBefore names W ns j a cs i used) (inside : i < length cs) (part rest : List ℕ)
-    {count c : ℕ} (same : length (put_from used a part rest) ≡ length a) (noted : NotedAs (entries names W (text_at ns j i)) part count) (keeps : Keeps count (length (put_from used a part rest) - used) c) where
+    {count q c : ℕ} (same : length (put_from used a part rest) ≡ length a) (noted : NotedAs (entries names W (text_at ns j i)) part count q) (keeps : Keeps count (length (put_from used a part rest) - used) c) where
   room : length (take used a) ≡ used
   room = length-take-le used a (omega (arith, z.places))
 
@@ -64,7 +64,7 @@ module _ {names : List (List ℕ)} {W : ℕ} {ns j a cs : List ℕ} {i used : �
   unfolding spans_in
   notes_here = rw (sum_here, get_or-set_same cs i c 0 inside) (record {
     within = omega (arith, z.places, keeps.places);
-    all = λ some. (noted.place, noted.all ∙ rw (drop_at (take used a) (part ++ rest) used room, keeps.all some, take-append-le count part rest noted.few));
+    all = λ some. (q, noted.all ∙ rw (drop_at (take used a) (part ++ rest) used room, keeps.all some, take-append-le count part rest noted.few));
   })
 
   notes_before : (k : ℕ) → k < i → NotesAt names W (text_at ns j k) (put_from used a part rest) (sum_to (set cs i c) k) (get_or (set cs i c) k 0)

@@ -111,7 +111,7 @@ module _ {s places : List ℕ} {window : ℕ} (k : Opened s places window) where
     pub readings_refused : {spans : Bool} {O : List ℕ} {n p : ℕ} → entries (names_at s places) window r ≡ unread n p → Moves spans s r O O (refused n p)
     readings_refused {n = n} {p = p} e = not_read k.holds (to_contents (λ l w. readings (names_at s l) w r ≡ unread n p) (readings_off (names_at s places) window r e)) refl
 
-    module _ {a : List ℕ} {count : ℕ} (y : NotedAs (entries (names_at s places) window r) a count) where
+    module _ {a : List ℕ} {count q : ℕ} (y : NotedAs (entries (names_at s places) window r) a count q) where
       writable : CanWrite (names_at s places) (take count a)
       unfolding spans_in
       writable =
@@ -132,10 +132,10 @@ module _ {s places : List ℕ} {window : ℕ} (k : Opened s places window) where
       whole_text spans es m = record {
         contents = k.contents;
         marks = marks_of_all (map span_of (take count a));
-        place = y.place;
+        place = q;
         entries = es;
         sheet = k.holds;
-        reads = to_contents (λ l w. readings (names_at s l) w r ≡ got (marks_of_all (map span_of (take count a))) y.place) (readings_are (names_at s places) window r y.all);
+        reads = to_contents (λ l w. readings (names_at s l) w r ≡ got (marks_of_all (map span_of (take count a))) q) (readings_are (names_at s places) window r y.all);
         moved = m;
         text = ap (λ (p : List ℕ). entries_text spans (names_at s p) es) k.names_are;
       }

@@ -23,17 +23,16 @@ use Rattle.read_readings.specs.TakeReadings.ReadingsTaken.{taken, kept}
 use Rattle.table_marks.proofs.Marks.{puts_same}
 
 -- A text that is refused, where its entries were to be noted, is refused where they are to be taken.
-pub not_noted : {R : Read (List Span)} {a : List ℕ} {r : Refusal} → EntriesNoted R a (Err r) → R ≡ refused (fault_number r.fault) r.place
+pub not_noted : {R : Read (List Span)} {end : ℕ} {a : List ℕ} {r : Refusal} → EntriesNoted R end a (Err r) → R ≡ refused (fault_number r.fault) r.place
 not_noted (refused_at r e) = e
 
--- The entries of an accepted text are in the array.
-pub record NotedAs (R : Read (List Span)) (a : List ℕ) (k : ℕ) : Type 0 where
+-- The entries of an accepted text are in the array, and are read up to q.
+pub record NotedAs (R : Read (List Span)) (a : List ℕ) (k q : ℕ) : Type 0 where
   pub few : k ≤ length a
-  pub place : ℕ
-  pub all : R ≡ got (spans_in a k) place
+  pub all : R ≡ got (spans_in a k) q
 
-pub when_noted : {R : Read (List Span)} {a : List ℕ} {k : ℕ} → EntriesNoted R a (Ok k) → NotedAs R a k
-when_noted (all_noted k q l e) = record { few = l; place = q; all = e }
+pub when_noted : {R : Read (List Span)} {end : ℕ} {a : List ℕ} {k : ℕ} → EntriesNoted R end a (Ok k) → NotedAs R a k end
+when_noted (all_noted k l e) = record { few = l; all = e }
 
 -- What an accepted text says: its marks are put.
 pub record AcceptedAs (R : Read (List Mark)) (n : ℕ) (T T' : List ℕ) : Type 0 where

@@ -30,10 +30,10 @@ pub record CanNote (s names : List ℕ) (window : ℕ) (a : List ℕ) : Type 0 w
   pub ticks : window ≤ most_ticks
   pub room : most_readings ≤ length a
 
--- What each answer says of the text, R, and the array: its first k numbers are the text's entries, or the text is refused.
-pub data EntriesNoted (R : Read (List Span)) (a : List ℕ) : Result ℕ Refusal → Type 0 where
-  all_noted : (k q : ℕ) → k ≤ length a → R ≡ got (spans_in a k) q → EntriesNoted R a (Ok k)
-  refused_at : (r : Refusal) → R ≡ refused (fault_number r.fault) r.place → EntriesNoted R a (Err r)
+-- What each answer says of the text, R, where it ends, and the array: its first k numbers are the text's entries, read up to the end, or the text is refused.
+pub data EntriesNoted (R : Read (List Span)) (end : ℕ) (a : List ℕ) : Result ℕ Refusal → Type 0 where
+  all_noted : (k : ℕ) → k ≤ length a → R ≡ got (spans_in a k) end → EntriesNoted R end a (Ok k)
+  refused_at : (r : Refusal) → R ≡ refused (fault_number r.fault) r.place → EntriesNoted R end a (Err r)
 
 -- A table of m words, n for each row and value, has room for the span, which has a tick at least.
 pub record SpanRoom (n m : ℕ) (e : Span) : Type 0 where

@@ -1,5 +1,5 @@
 // The readings of a whole text: it is read once, and no mark is put before all are accepted. Assumes nothing of the text.
-ghost use Rattle.std.specs.Prelude.{◌≡◌, ℕ};
+ghost use Rattle.std.specs.Prelude.{◌≡◌, ℕ, length};
 ghost use Rattle.read_index.specs.Index.{names_in};
 ghost use Rattle.read_readings.specs.Readings.{entries, readings};
 ghost use Rattle.read_readings.specs.SpanNumbers.{CanNote, EntriesNoted};
@@ -20,7 +20,7 @@ pub fn note_entries(
     noted: &mut [u32],
 ) -> Result<usize, Refusal>
     requires { CanNote s.now names.now window noted.old }
-    ensures { EntriesNoted (entries (names_in s.now names.now) window r.now) noted.new result }
+    ensures { EntriesNoted (entries (names_in s.now names.now) window r.now) (length r.now) noted.new result }
 {
     if BYTES < r.len() {
         return Err(Refusal {

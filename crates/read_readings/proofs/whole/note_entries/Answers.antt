@@ -1,11 +1,12 @@
 -- `note_entries` meets its contract. The invariant: the loop over the entries stands at `at`, the array's first numbers are those read, and each had 22 bytes.
 -- Assumes nothing.
 use native.Mathlib.Omega.{arith}
-use mathlib.Core.Path.{◌≡◌, refl, sym, ◌∙◌}
+use mathlib.Core.Path.{◌≡◌, refl, sym, ap, ◌∙◌}
 use borrow.Author.Rules.{rules}
 use Rattle.std.specs.Prelude.{Err}
 use Prim.Native.Nat.{◌<◌}
 use lib.ListN.{length, length-set}
+use Rattle.read_bytes.specs.Read.Read.{got}
 use Rattle.read_index.proofs.Places.{names_in_many}
 use Rattle.read_readings.specs.SpanNumbers.{spans_in}
 use Rattle.read_readings.specs.SpanNumbers.EntriesNoted.{all_noted, refused_at}
@@ -61,5 +62,7 @@ loop-at-preserved c =
 
 pub returns : goal.returns
 returns c =
-    all_noted c.loop-at.count _ (omega (arith, c.loop-at.invariant.0, c.loop-at.invariant.1, c.loop-at.invariant.2.inside, c.if-r-gt-BYTES.false, c.requires.room))
-    (entries_short _ _ _ c.if-r-gt-BYTES.false ∙ of_form _ _ _ _ c.starts_at-spans.ensures (passed_all _ _ c.loop-at.invariant.2 (omega arith)))
+    let z = c.loop-at.invariant in
+    let end : c.loop-at.at ≡ length c.args.r.now = omega (arith, z.2.inside) in
+    all_noted c.loop-at.count (omega (arith, z.0, z.1, z.2.inside, c.if-r-gt-BYTES.false, c.requires.room))
+    (entries_short _ _ _ c.if-r-gt-BYTES.false ∙ of_form _ _ _ _ c.starts_at-spans.ensures (passed_all _ _ z.2 (omega arith) ∙ ap (got (spans_in c.loop-at.noted c.loop-at.count)) end))
