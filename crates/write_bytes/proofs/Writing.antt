@@ -24,10 +24,6 @@ stored e = record { next = refl; holds = e }
 pub no_room : {w b : ℕ} {m m₁ : List ℕ} → length m ≤ b → m₁ ≡ m → Wrote (w ∷ []) b m m₁ (b + 1)
 no_room {w} {b} {m} h e = stored (e ∙ sym (set_out m b w h))
 
--- A text that there is room for is copied to its place.
-pub copied : {ws vs : List ℕ} {n : ℕ} (m : List ℕ) (b : ℕ) → b + length ws ≤ length m → n ≡ length ws → vs ≡ ws → take b m ++ (vs ++ drop n (drop b m)) ≡ sets m b ws
-copied {ws} m b h e i = rw (e, i, drop-drop (length ws) b m) (sym (sets-eq ws m b h ∙ append_assoc (take b m) ws (drop (b + length ws) m)))
-
 -- Of what stands in a buffer: entries in another form, and one run after another.
 pub wrote_like : {ws vs : List ℕ} {b : ℕ} {m m₁ : List ℕ} {u : ℕ} → ws ≡ vs → Wrote vs b m m₁ u → Wrote ws b m m₁ u
 wrote_like {b = b} {m} {m₁} {u} e h = subst (λ (l : List ℕ). Wrote l b m m₁ u) (sym e) h

@@ -50,22 +50,8 @@ impl<'a> Writer<'a> {
         self.used += 1;
     }
 
-    // The bytes of a text.
+    // The bytes of a text, one by one: a copy of a whole part would have an archive for C ask for memcpy from outside.
     pub fn push_text(&mut self, text: &[u8])
-        requires { Counted self.old.used text.now }
-        ensures { Writes text.now self.old self.new }
-    {
-        let end = self.used + text.len();
-        if self.out.len() < end {
-            self.push_part(text);
-            return;
-        }
-        self.out[self.used..end].copy_from_slice(text);
-        self.used = end;
-    }
-
-    // The bytes of a text for which there may be no room.
-    fn push_part(&mut self, text: &[u8])
         requires { Counted self.old.used text.now }
         ensures { Writes text.now self.old self.new }
     {
