@@ -40,6 +40,15 @@ module _ (s : List ℕ) (p i k : ℕ) (l : i + k < length s) (e : line_end s p �
   pub at_byte : get_or s (i + k) 0 ≡ byte "\n" → i + k ≡ line_end s p
   at_byte h = sym (e ∙ end_here in_line s (i + k) l (lf_ends (get_or s (i + k) 0) h))
 
+-- A line that reaches i goes on past four bytes that are no LF.
+pub past_four : (s : List ℕ) (p i : ℕ) → i + 3 < length s → line_end s p ≡ line_end s i → (get_or s i 0 ≡ byte "\n" → ⊥) → (get_or s (i + 1) 0 ≡ byte "\n" → ⊥) → (get_or s (i + 2) 0 ≡ byte "\n" → ⊥) → (get_or s (i + 3) 0 ≡ byte "\n" → ⊥)
+    → line_end s p ≡ line_end s (i + 4)
+past_four s p i l e n n1 n2 n3 =
+    let one = e ∙ end_more in_line s i (omega arith) (lf_not (get_or s i 0) n) in
+    let two = past_byte s p i 1 (omega arith) one n1 in
+    let three = past_byte s p i 2 (omega arith) two n2 in
+    past_byte s p i 3 l three n3
+
 -- A value takes its line whole, or not.
 module _ (x q e n p : ℕ) where
   pub whole_is : q ≡ e → got x (e + 1) ≡ whole x q e n p

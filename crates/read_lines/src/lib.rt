@@ -23,7 +23,7 @@ fn rest_end(s: &[u8], at: usize) -> usize
     if at < s.len() { s.len() } else { at }
 }
 
-// The same, four bytes a turn. Where none of these is LF, the few bytes left tell, and they are looked at one by one.
+// The same, four bytes a turn while four are left. Where none of these is LF, the three at most after them are looked at one by one.
 // std's `position` looks at a byte a turn, and costs half as many instructions again.
 pub fn line_end(s: &[u8], at: usize) -> usize
     ensures { result ≡ line_end s.now at }
@@ -32,6 +32,7 @@ pub fn line_end(s: &[u8], at: usize) -> usize
         return rest_end(s, at);
     }
     let last = s.len() - 3;
+    let mut rest = at;
     for i in (at..last).step_by(4) {
         if s[i] == b'\n' {
             return i;
@@ -45,8 +46,9 @@ pub fn line_end(s: &[u8], at: usize) -> usize
         if s[i + 3] == b'\n' {
             return i + 3;
         }
+        rest = i + 4;
     }
-    rest_end(s, at)
+    rest_end(s, rest)
 }
 
 // Does the key stand at `at`, and the text reach to the place of its value?
