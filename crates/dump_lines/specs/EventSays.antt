@@ -1,6 +1,6 @@
 -- What the reader of an event answers. Assumes nothing.
 use Rattle.std.specs.Prelude.{ℕ, Result}
-use Rattle.spec_refusals.specs.declared.Refusal.{Refusal}
+use Rattle.spec_refusals.specs.Numbers.{Refusal}
 use Rattle.read_bytes.specs.Read.{Read, said}
 use Rattle.read_bytes.specs.Read.Read.{got}
 use Rattle.spec_dump.specs.DumpTexts.{Event as Said, time, sign}

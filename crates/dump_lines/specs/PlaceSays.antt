@@ -1,6 +1,6 @@
 -- What a reader of lines answers that gives the place after them alone. Assumes nothing.
 use Rattle.std.specs.Prelude.{ℕ, Result}
-use Rattle.spec_refusals.specs.declared.Refusal.{Refusal}
+use Rattle.spec_refusals.specs.Numbers.{Refusal}
 use Rattle.read_bytes.specs.Read.{Read, said}
 use Rattle.read_bytes.specs.Read.Read.{got}
 

@@ -6,7 +6,7 @@ use Prim.Native.Nat.{ℕ, suc, ◌≤◌}
 use native.Mathlib.Omega.{arith}
 use lib.ListN.{length, take, drop, length-drop}
 use Rattle.std.specs.Prelude.{Result}
-use Rattle.spec_refusals.specs.declared.Refusal.{Refusal}
+use Rattle.spec_refusals.specs.Numbers.{Refusal}
 use Rattle.spec_limits.specs.Limits.{most_signals, most_name_bytes}
 use Rattle.spec_tilco.proofs.Lists.{all_weaker}
 use Rattle.read_names.specs.Spellings.{names_at}

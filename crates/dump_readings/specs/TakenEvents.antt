@@ -1,8 +1,7 @@
 -- A dump's events taken: what each answer says of the dump and of the buffer. Assumes nothing.
 -- R is what the dump's events are read to, `names` are the declared names, W the window, m the buffer before and m' after.
 use Rattle.std.specs.Prelude.{◌≡◌, List, ℕ, Result, Ok, Err}
-use Rattle.spec_refusals.specs.declared.Refusal.{Refusal}
-use Rattle.spec_refusals.specs.Numbers.{fault_number}
+use Rattle.spec_refusals.specs.Numbers.{fault_number, Refusal}
 use Rattle.read_bytes.specs.Read.{Read}
 use Rattle.read_bytes.specs.Read.Read.{got, refused}
 use Rattle.write_bytes.specs.Writes.{Wrote}

@@ -8,8 +8,7 @@ use native.Mathlib.Omega.{arith}
 use lib.ListN.{length}
 use Rattle.std.specs.Prelude.{Result, Ok, Err}
 use Rattle.spec_refusals.specs.declared.Fault.TheVariants.{TableLength, Records, TextLengths}
-use Rattle.spec_refusals.specs.declared.Refusal.{Refusal}
-use Rattle.spec_refusals.specs.Numbers.{fault_number}
+use Rattle.spec_refusals.specs.Numbers.{fault_number, Refusal}
 use Rattle.read_bytes.specs.Read.Read.{got, refused as unread}
 use Rattle.read_names.specs.Spellings.{names_at}
 use Rattle.read_index.specs.Index.{places_in}

@@ -8,7 +8,7 @@ use Rattle.read_bytes.proofs.Answers.{not_both, same_value}
 use Rattle.spec_tilco.specs.Inference.{Mark}
 use Rattle.table_marks.specs.Puts.{Puts}
 use Rattle.std.specs.Prelude.{Result}
-use Rattle.spec_refusals.specs.declared.Refusal.{Refusal}
+use Rattle.spec_refusals.specs.Numbers.{Refusal}
 use Rattle.read_readings.specs.TakeReadings.{ReadingsTaken}
 use Rattle.read_readings.specs.TakeReadings.ReadingsTaken.{taken, kept}
 

@@ -2,7 +2,7 @@
 -- Assumes nothing. `s` is the sheet's text, j the joined readings texts, ns their lengths, T the work table before and U after, m how many records are asked for, ws'
 -- the words after.
 use Rattle.std.specs.Prelude.{◌≡◌, List, ℕ, ◌*◌, ◌≤◌, length, Result as Answer}
-use Rattle.spec_refusals.specs.declared.Refusal.{Refusal}
+use Rattle.spec_refusals.specs.Numbers.{Refusal}
 use Rattle.open_sheet.specs.Results.{Result, accepted, refused, answer_says}
 use Rattle.spec_figures.specs.declared.Record.{Record}
 use Rattle.spec_figures.specs.Figures.{Figures}

@@ -2,8 +2,7 @@
 -- Assumes nothing. `s` is the sheet's text, j the joined readings texts, ns their lengths; T is the work table before and U after, ws' the records' words after.
 use Rattle.std.specs.Prelude.{◌≡◌, Bool, true, List, ◌↔◌, ℕ, ◌*◌, ◌<◌, ◌≤◌, length, get_or, Result, Ok, Err}
 use Rattle.spec_limits.specs.Limits.{most_signals}
-use Rattle.spec_refusals.specs.declared.Refusal.{Refusal}
-use Rattle.spec_refusals.specs.Numbers.{fault_number}
+use Rattle.spec_refusals.specs.Numbers.{fault_number, Refusal}
 use Rattle.read_bytes.specs.Read.Read.{got, refused}
 use Rattle.spec_tilco.specs.Inference.{Mark, Clash}
 use Rattle.spec_tilco.specs.Lists.{All}

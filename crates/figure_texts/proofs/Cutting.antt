@@ -11,7 +11,7 @@ use Rattle.spec_tilco.specs.Inference.{Mark}
 use Rattle.read_bytes.specs.Read.{Read, and_then}
 use Rattle.read_bytes.specs.Read.Read.{got, refused}
 use Rattle.std.specs.Prelude.{Result}
-use Rattle.spec_refusals.specs.declared.Refusal.{Refusal}
+use Rattle.spec_refusals.specs.Numbers.{Refusal}
 use Rattle.read_readings.specs.Readings.{entries, readings}
 use Rattle.read_readings.specs.SpanNumbers.{EntriesNoted}
 use Rattle.spec_figures.specs.Texts.{LengthsFit, texts_in, marks_from}

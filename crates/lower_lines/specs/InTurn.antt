@@ -14,8 +14,7 @@ use Rattle.lower_rule.specs.RuleRows.{Buffers, LowersAll, all_lowered_says}
 use Rattle.lower_rows.specs.RowWrites.{RowBuffer, no_room_lem}
 use Rattle.lower_rule.specs.declared.rules.InUse.{InUse}
 use Rattle.lower_lines.specs.declared.RuleLines.{RuleLines}
-use Rattle.spec_refusals.specs.declared.Refusal.{Refusal}
-use Rattle.spec_refusals.specs.Numbers.{fault_number}
+use Rattle.spec_refusals.specs.Numbers.{fault_number, Refusal}
 
 -- The lines of m rules can be read from p on: the names stand before them.
 pub record Legible (s names : List ℕ) (m p : ℕ) : Type 0 where

@@ -28,7 +28,7 @@ use Rattle.lower_lines.specs.InTurn.Tried.{went, full}
 use Rattle.lower_sheet.specs.SheetRows.FitOrOver.{fits, over}
 use Rattle.lower_lines.specs.declared.RuleLines.{RuleLines}
 use Rattle.std.specs.Prelude.{Result, Ok, Err}
-use Rattle.spec_refusals.specs.declared.Refusal.{Refusal}
+use Rattle.spec_refusals.specs.Numbers.{Refusal}
 
 -- How many formulas rules come to: one a rule, and one a hidden signal.
 pub spelled_many : (ws : List Written) (n : ℕ) → length (laid hiddens spelled ws n) ≡ length ws + total hiddens ws

@@ -13,8 +13,7 @@ use Rattle.lower_rows.specs.RowWrites.{no_room_lem}
 use Rattle.lower_rule.specs.RuleRows.{Buffers, LowersAll, all_lowered_says}
 use Rattle.lower_rule.specs.declared.rules.InUse.{InUse}
 use Rattle.lower_lines.specs.declared.RuleLines.{RuleLines}
-use Rattle.spec_refusals.specs.declared.Refusal.{Refusal}
-use Rattle.spec_refusals.specs.Numbers.{fault_number}
+use Rattle.spec_refusals.specs.Numbers.{fault_number, Refusal}
 use Rattle.lower_lines.specs.InTurn.{spelled_all}
 
 -- The buffers as they are lent: no row, and a place for each row and for each top that a sheet may have.

@@ -4,7 +4,7 @@ use Rattle.std.specs.Prelude.{Result as Answer}
 use Rattle.spec_tilco.specs.Table as table
 use Rattle.table_marks.specs.declared.Value.{Value}
 use Rattle.table_marks.specs.Values.{value_says}
-use Rattle.spec_refusals.specs.declared.Refusal.{Refusal}
+use Rattle.spec_refusals.specs.Numbers.{Refusal}
 use Rattle.open_sheet.specs.Results.{Result, answer_says}
 
 -- What ask's answer says.

@@ -10,7 +10,7 @@ use denote.Ref.{Bor}
 use lib.ListN.{length, get_or, take, length-drop}
 use lib.Seq.{get_or-drop}
 use Rattle.std.specs.Prelude.{Option, None, Ok, Err, Result as Answer}
-use Rattle.spec_refusals.specs.declared.Refusal.{Refusal}
+use Rattle.spec_refusals.specs.Numbers.{Refusal}
 use Rattle.read_bytes.specs.Read.Read.{got, refused as unread}
 use Rattle.spec_tilco.specs.Lists.{All}
 use Rattle.spec_tilco.proofs.Lists.{all_nth}

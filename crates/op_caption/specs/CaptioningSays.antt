@@ -1,7 +1,7 @@
 -- What caption_part answers: the part that is shown, or a refusal's number and place (01, "Numbers of refusal").
 -- Assumes nothing.
 use Rattle.std.specs.Prelude.{Result as Answer}
-use Rattle.spec_refusals.specs.declared.Refusal.{Refusal}
+use Rattle.spec_refusals.specs.Numbers.{Refusal}
 use Rattle.read_captions.specs.declared.Part.{Part}
 use Rattle.open_sheet.specs.Results.{Result, answer_says}
 

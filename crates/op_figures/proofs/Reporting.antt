@@ -6,7 +6,7 @@ use Prim.Native.Nat.{ℕ, ◌*◌, ◌≤◌}
 use native.Mathlib.Omega.{arith}
 use lib.ListN.{length}
 use Rattle.std.specs.Prelude.{Ok, Err}
-use Rattle.spec_refusals.specs.declared.Refusal.{Refusal}
+use Rattle.spec_refusals.specs.Numbers.{Refusal}
 use Rattle.open_sheet.specs.Results.{Result, accepted, refused}
 use Rattle.spec_tilco.proofs.Lists.{length_tab}
 use Rattle.spec_figures.specs.declared.Record.{Record}

@@ -1,7 +1,7 @@
 -- What figures answers and leaves in the work table and the records that it is lent (E1).
 -- Assumes nothing. `s` is the sheet's text, j the joined readings texts, ns their lengths, T the work table before and U after, X the records before and X' after.
 use Rattle.std.specs.Prelude.{◌≡◌, List, ℕ, length, Result as Answer}
-use Rattle.spec_refusals.specs.declared.Refusal.{Refusal}
+use Rattle.spec_refusals.specs.Numbers.{Refusal}
 use Rattle.open_sheet.specs.Results.{Result, accepted, refused}
 use Rattle.spec_figures.specs.declared.Record.{Record}
 use Rattle.spec_figures.specs.Figures.{Figures}

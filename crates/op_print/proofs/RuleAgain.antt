@@ -21,7 +21,7 @@ use Rattle.read_head.proofs.Signals.{up_to_lem}
 use Rattle.spec_tilco.specs.Formula.{Written}
 use Rattle.read_parts.specs.FormulaText.{formula, plain_part, rule}
 use Rattle.std.specs.Prelude.{Err}
-use Rattle.spec_refusals.specs.declared.Refusal.{Refusal}
+use Rattle.spec_refusals.specs.Numbers.{Refusal}
 use Rattle.read_parts.specs.Parsed.{Answer, reached, PartReady, Parses}
 use Rattle.read_parts.specs.Parsed.Parses.{parsed, refuses}
 use Rattle.read_sheet.specs.Sheet.{rule_to, rule_line}

@@ -6,8 +6,7 @@ use Rattle.read_head.specs.SheetHead.{first_places, NamesPut}
 use Rattle.read_sheet.specs.Sheet.{Contents, meant}
 use Rattle.close_rules.specs.Codes.{Codes, TopsAre}
 use Rattle.open_sheet.specs.declared.Sheet.{Sheet}
-use Rattle.spec_refusals.specs.declared.Refusal.{Refusal}
-use Rattle.spec_refusals.specs.Numbers.{fault_number}
+use Rattle.spec_refusals.specs.Numbers.{fault_number, Refusal}
 use Rattle.open_sheet.specs.Results.{accepted, refused}
 use Rattle.open_sheet.specs.SheetIn.{sheet_in}
 

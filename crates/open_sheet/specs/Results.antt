@@ -1,8 +1,7 @@
 -- A result: a value, or a refusal's number and place (01, "Numbers of refusal").
 -- Assumes nothing.
 use Rattle.std.specs.Prelude.{ℕ, Ok, Err, Result as Answer}
-use Rattle.spec_refusals.specs.declared.Refusal.{Refusal}
-use Rattle.spec_refusals.specs.Numbers.{fault_number}
+use Rattle.spec_refusals.specs.Numbers.{fault_number, Refusal}
 
 -- A value, or a refusal's number and place.
 pub data Result (A : Type 0) : Type 0 where

@@ -3,8 +3,7 @@
 use Rattle.std.specs.Prelude.{List, ℕ, Result, Ok, Err}
 use Rattle.read_head.specs.SheetHead.{first_places, NamesPut}
 use Rattle.open_sheet.specs.declared.Sheet.{Sheet}
-use Rattle.spec_refusals.specs.declared.Refusal.{Refusal}
-use Rattle.spec_refusals.specs.Numbers.{fault_number}
+use Rattle.spec_refusals.specs.Numbers.{fault_number, Refusal}
 use Rattle.open_sheet.specs.Results.{accepted, refused}
 use Rattle.open_table.specs.Opens.{Opens}
 use Rattle.open_sheet.specs.OpenedSheet.{OpenedSheet}

@@ -2,7 +2,7 @@
 -- Assumes nothing. An end is kept with 10,000 added (`end_zero`), so that it is never negative.
 use Rattle.std.specs.Prelude.{Bool, true, false, ◌&&◌, List, ℕ, ◌+◌, ◌-◌, leb, eqb, Option, Some, None, Result, Ok, Err}
 use Rattle.spec_limits.specs.Limits.{most_end, offset_zero}
-use Rattle.spec_refusals.specs.declared.Refusal.{Refusal}
+use Rattle.spec_refusals.specs.Numbers.{Refusal}
 use Rattle.spec_refusals.specs.declared.Fault.{Fault}
 use Rattle.spec_refusals.specs.declared.Fault.TheVariants.{Formula, Interval}
 use Rattle.read_bytes.specs.Bytes.{byte, bytes, peek, pick, between, one_of}

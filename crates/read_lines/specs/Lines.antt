@@ -1,14 +1,19 @@
 -- Lines with a key and a value, and lines one after another (01, "The sheet", "Readings" and "Numbers of refusal").
 -- Assumes nothing. `form` is the number of the refusal for a line's form, and `content` that for its content.
 use Rattle.std.specs.Prelude.{◌≡◌, ℕ, zero, suc, ◌+◌, List, [], ◌∷◌, ◌++◌, Bool, false, not, ◌&&◌, length, leb, ltb, eqb, Option, Some, None, Result}
-use Rattle.spec_refusals.specs.declared.Refusal.{Refusal}
-use Rattle.read_bytes.specs.Read.{Read, and_then, said}
+use Rattle.spec_refusals.specs.declared.Refusal as told
+use Rattle.spec_refusals.specs.Numbers.{Refusal}
+use Rattle.read_bytes.specs.Read.{Read, and_then, said_by, said}
 use Rattle.read_bytes.specs.Read.Read.{got, refused}
 use Rattle.read_bytes.specs.Bytes.{byte, peek, pick, between, starts, run_end}
 use Rattle.read_names.specs.Spellings.{name_at}
 use Rattle.read_bytes.specs.Numbers.{number}
 
--- What an answer of a reader of lines says: a value with the place after it, or a refusal.
+-- What an answer of a reader of lines says: a value with the place after it, or a refusal, whose number n tells.
+abbrev pub says_by : {F : Type 0} → (F → ℕ) → Result (ℕ × ℕ) (told.Refusal F) → Read ℕ
+says_by n = said_by n (λ x. got x.0 x.1)
+
+-- The same, of a refusal that tells a kind of fault.
 abbrev pub says : Result (ℕ × ℕ) Refusal → Read ℕ
 says = said (λ x. got x.0 x.1)
 

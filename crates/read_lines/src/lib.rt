@@ -1,15 +1,15 @@
 // Lines of a text: a key, a value, and LF. Assumes nothing of the text.
 // `form` is the fault of a line that is not of its form, at the line, and `content` that of a value that is wrong, at the value. What is read comes with the place after it.
+// The caller tells a fault as it likes, by its kind or by a number.
 #![tactic(auto)]
 
 ghost use Rattle.std.specs.Prelude.{◌≡◌, ◌+◌, ◌≤◌, length};
-ghost use Rattle.spec_refusals.specs.Numbers.{fault_number};
-ghost use Rattle.read_lines.specs.Lines.{says, line_end, keyed_at, lf_at, NoName, line, number_value, ranged_value, ranged_line, name_line};
+ghost use Rattle.read_lines.specs.Lines.{says_by, line_end, keyed_at, lf_at, NoName, line, number_value, ranged_value, ranged_line, name_line};
 
 use read_bytes::bytes::stands_at;
 use read_bytes::numbers::number_at;
 use read_names::name_at;
-use spec_refusals::{Fault, Refusal};
+use spec_refusals::{Numbered, Refusal};
 
 // The place of the first LF from `at` on, or the text's length. The bytes are looked at one by one.
 fn rest_end(s: &[u8], at: usize) -> usize
@@ -72,9 +72,14 @@ pub fn lf_at(s: &[u8], at: usize) -> bool
 }
 
 // The line at `at` with the key `key`: the place of its value, and that of its LF.
-pub fn line_at(s: &[u8], at: usize, key: &[u8], form: Fault) -> Result<(usize, usize), Refusal>
+pub fn line_at<F: Numbered>(
+    s: &[u8],
+    at: usize,
+    key: &[u8],
+    form: F,
+) -> Result<(usize, usize), Refusal<F>>
     requires { at ≤ length s.now }
-    ensures { says result ≡ line s.now at key.now (fault_number form) }
+    ensures { says_by F.number result ≡ line s.now at key.now (F.number form) }
 {
     if keyed(s, at, key) {
         let v = at + key.len();
@@ -90,9 +95,14 @@ pub fn line_at(s: &[u8], at: usize, key: &[u8], form: Fault) -> Result<(usize, u
 }
 
 // The number at `v` and the LF after it, of the line at `at`: the number, and the place after the line.
-fn number_value(s: &[u8], at: usize, v: usize, form: Fault) -> Result<(usize, usize), Refusal>
+fn number_value<F: Numbered>(
+    s: &[u8],
+    at: usize,
+    v: usize,
+    form: F,
+) -> Result<(usize, usize), Refusal<F>>
     requires { v ≤ length s.now }
-    ensures { says result ≡ number_value s.now at v (fault_number form) }
+    ensures { says_by F.number result ≡ number_value s.now at v (F.number form) }
 {
     let Some((x, q)) = number_at(s, v) else {
         return Err(Refusal {
@@ -112,17 +122,17 @@ fn number_value(s: &[u8], at: usize, v: usize, form: Fault) -> Result<(usize, us
 }
 
 // The same, with a number from `lo` to `hi`.
-pub fn ranged_value(
+pub fn ranged_value<F: Numbered>(
     s: &[u8],
     at: usize,
     v: usize,
-    form: Fault,
-    content: Fault,
+    form: F,
+    content: F,
     lo: usize,
     hi: usize,
-) -> Result<(usize, usize), Refusal>
+) -> Result<(usize, usize), Refusal<F>>
     requires { v ≤ length s.now }
-    ensures { says result ≡ ranged_value s.now at v (fault_number form) (fault_number content) lo hi }
+    ensures { says_by F.number result ≡ ranged_value s.now at v (F.number form) (F.number content) lo hi }
 {
     let (x, q) = number_value(s, at, v, form)?;
     if x < lo {
@@ -141,17 +151,17 @@ pub fn ranged_value(
 }
 
 // The line at `at` with the key `key` and such a number.
-pub fn ranged_line(
+pub fn ranged_line<F: Numbered>(
     s: &[u8],
     at: usize,
     key: &[u8],
-    form: Fault,
-    content: Fault,
+    form: F,
+    content: F,
     lo: usize,
     hi: usize,
-) -> Result<(usize, usize), Refusal>
+) -> Result<(usize, usize), Refusal<F>>
     requires { at ≤ length s.now }
-    ensures { says result ≡ ranged_line s.now at key.now (fault_number form) (fault_number content) lo hi }
+    ensures { says_by F.number result ≡ ranged_line s.now at key.now (F.number form) (F.number content) lo hi }
 {
     if keyed(s, at, key) {
         let v = at + key.len();
@@ -165,15 +175,15 @@ pub fn ranged_line(
 }
 
 // The refusal of a line whose value is no name that takes it whole: for its form, where the key or the LF is missing, or for its content.
-fn no_name(
+fn no_name<F: Numbered>(
     s: &[u8],
     at: usize,
     key: &[u8],
-    form: Fault,
-    content: Fault,
-) -> Result<(usize, usize), Refusal>
+    form: F,
+    content: F,
+) -> Result<(usize, usize), Refusal<F>>
     requires { (at ≤ length s.now) × NoName s.now (at + length key.now) }
-    ensures { says result ≡ name_line s.now at key.now (fault_number form) (fault_number content) }
+    ensures { says_by F.number result ≡ name_line s.now at key.now (F.number form) (F.number content) }
 {
     let (v, _) = line_at(s, at, key, form)?;
     Err(Refusal {
@@ -183,15 +193,15 @@ fn no_name(
 }
 
 // The line at `at` with the key `key` and a name: the place of the name, and the place after the line.
-pub fn name_line(
+pub fn name_line<F: Numbered>(
     s: &[u8],
     at: usize,
     key: &[u8],
-    form: Fault,
-    content: Fault,
-) -> Result<(usize, usize), Refusal>
+    form: F,
+    content: F,
+) -> Result<(usize, usize), Refusal<F>>
     requires { at ≤ length s.now }
-    ensures { says result ≡ name_line s.now at key.now (fault_number form) (fault_number content) }
+    ensures { says_by F.number result ≡ name_line s.now at key.now (F.number form) (F.number content) }
 {
     if !keyed(s, at, key) {
         return Err(Refusal {
@@ -208,5 +218,45 @@ pub fn name_line(
         Ok((v, next))
     } else {
         no_name(s, at, key, form, content)
+    }
+}
+
+#[cfg(test)]
+mod tests {
+    use crate::{Refusal, name_line, ranged_line};
+
+    // A line with a number from `lo` to `hi`, where any two numbers tell the refusals.
+    fn by_numbers(
+        s: &[u8],
+        at: usize,
+        key: &[u8],
+        form: usize,
+        content: usize,
+        lo: usize,
+        hi: usize,
+    ) -> Result<(usize, usize), Refusal<usize>>
+        requires { at ≤ length s.now }
+        ensures { says_by (λ n. n) result ≡ ranged_line s.now at key.now form content lo hi }
+    {
+        ranged_line(s, at, key, form, content, lo, hi)
+    }
+
+    // A line of the sheet's head, read and refused by numbers that no kind of fault has.
+    #[test]
+    fn refused_by_any_number(rt: HostRuntime) {
+        let s: &[u8] = b"window=40\n";
+        let key: &[u8] = b"window=";
+        let form = Refusal {
+            fault: 1000,
+            place: 0,
+        };
+        let content = Refusal {
+            fault: 2000,
+            place: 7,
+        };
+        assert!(rt; by_numbers(s, 0, key, 1000, 2000, 1, 40) == Ok((40, 10)));
+        assert!(rt; by_numbers(s, 0, b"rules=", 1000, 2000, 1, 40) == Err(form));
+        assert!(rt; by_numbers(s, 0, key, 1000, 2000, 1, 39) == Err(content));
+        assert!(rt; name_line(s, 0, key, 1000, 2000) == Err(content));
     }
 }

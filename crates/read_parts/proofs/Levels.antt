@@ -23,8 +23,7 @@ use Rattle.read_arena.proofs.Helds.{held_kept, held_name, held_neg, held_pair, h
 use Rattle.read_arena.proofs.Keeps.{arena_put_keep, same_put_keep, held_keep}
 use Rattle.std.specs.Prelude.{Err}
 use Rattle.spec_refusals.specs.declared.Fault.TheVariants.{Formula}
-use Rattle.spec_refusals.specs.declared.Refusal.{Refusal}
-use Rattle.spec_refusals.specs.Numbers.{fault_number}
+use Rattle.spec_refusals.specs.Numbers.{fault_number, Refusal}
 use Rattle.read_parts.specs.FormulaText.{then_paren}
 use Rattle.read_parts.specs.Parsed.{Answer, reached, refusing, Progress, Parses}
 use Rattle.read_parts.specs.Parsed.Parses.{parsed, refuses}

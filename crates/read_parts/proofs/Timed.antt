@@ -15,7 +15,7 @@ use Rattle.read_arena.specs.declared.Node.TheVariants.{Time}
 use Rattle.read_arena.specs.Nodes.{put_node}
 use Rattle.read_arena.specs.NodeRules.{Arena, NodeRoom, Held}
 use Rattle.std.specs.Prelude.{Ok, Err}
-use Rattle.spec_refusals.specs.declared.Refusal.{Refusal}
+use Rattle.spec_refusals.specs.Numbers.{Refusal}
 use Rattle.read_interval.specs.Interval.{interval}
 use Rattle.read_parts.specs.FormulaText.{offsets_then, times}
 use Rattle.read_parts.specs.Parsed.{Answer, reached, PartReady, Parses}

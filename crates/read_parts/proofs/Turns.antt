@@ -17,7 +17,7 @@ use Rattle.read_arena.specs.Nodes.{op_of}
 use Rattle.read_arena.specs.NodeRules.{Held}
 use Rattle.read_arena.proofs.Puts.{length_put, arena_put}
 use Rattle.std.specs.Prelude.{Err}
-use Rattle.spec_refusals.specs.declared.Refusal.{Refusal}
+use Rattle.spec_refusals.specs.Numbers.{Refusal}
 use Rattle.read_parts.specs.FormulaText.{Reader, sign_text, repeats, more, level}
 use Rattle.read_parts.specs.Parsed.{Answer, reached, PartReady, Parses}
 use Rattle.read_parts.specs.Promise.{Joinable, Joins, goes_on}

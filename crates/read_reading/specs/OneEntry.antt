@@ -1,7 +1,7 @@
 -- An entry of a readings text, line by line: a reading of three lines, or a span of four (01, "Readings" and "Numbers of refusal" 11 to 14; E5, 21).
 -- Assumes nothing. `names` are the declared names in sheet order, W the window, r the readings text, p a place in it; `spans` tells the text's form.
 use Rattle.std.specs.Prelude.{ℕ, ◌+◌, ◌-◌, Bool, true, false, List, length, leb, ltb, eqb, Result}
-use Rattle.spec_refusals.specs.declared.Refusal.{Refusal}
+use Rattle.spec_refusals.specs.Numbers.{Refusal}
 use Rattle.read_bytes.specs.Read.{Read, and_then, said}
 use Rattle.read_bytes.specs.Read.Read.{got, refused}
 use Rattle.read_bytes.specs.Bytes.{bytes, pick}

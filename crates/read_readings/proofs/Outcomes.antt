@@ -5,8 +5,7 @@ use mathlib.Core.List.{List}
 use Prim.Native.Nat.{ℕ, ◌≤◌}
 use lib.ListN.{length}
 use Rattle.std.specs.Prelude.{Result, Ok, Err}
-use Rattle.spec_refusals.specs.declared.Refusal.{Refusal}
-use Rattle.spec_refusals.specs.Numbers.{fault_number}
+use Rattle.spec_refusals.specs.Numbers.{fault_number, Refusal}
 use Rattle.spec_refusals.proofs.OneFault.{same_refusal}
 use Rattle.read_bytes.specs.Read.{Read}
 use Rattle.read_bytes.specs.Read.Read.{got, refused}

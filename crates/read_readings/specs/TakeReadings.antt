@@ -2,8 +2,7 @@
 -- Assumes nothing. R is what the text holds, n how many words a row has for each value, T the table before and T' after.
 use Rattle.std.specs.Prelude.{◌≡◌, List, ℕ, ◌*◌, ◌≤◌, length, Result, Ok, Err}
 use Rattle.spec_limits.specs.Limits.{most_ticks}
-use Rattle.spec_refusals.specs.declared.Refusal.{Refusal}
-use Rattle.spec_refusals.specs.Numbers.{fault_number}
+use Rattle.spec_refusals.specs.Numbers.{fault_number, Refusal}
 use Rattle.read_index.specs.Index.{name_count, IndexOf}
 use Rattle.read_bytes.specs.Read.{Read}
 use Rattle.read_bytes.specs.Read.Read.{got, refused}

@@ -22,7 +22,7 @@ use Rattle.spec_tilco.specs.Formula.{Written, hiddens}
 use Rattle.spec_tilco.specs.Lists.{total}
 use Rattle.spec_tilco.proofs.Lists.{total_append}
 use Rattle.std.specs.Prelude.{Err}
-use Rattle.spec_refusals.specs.declared.Refusal.{Refusal}
+use Rattle.spec_refusals.specs.Numbers.{Refusal}
 use Rattle.read_parts.specs.FormulaText.{rule}
 use Rattle.read_parts.specs.Parsed as formula
 use Rattle.read_parts.specs.Parsed.{Answer, reached, Parses}

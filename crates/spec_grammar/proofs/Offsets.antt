@@ -9,7 +9,7 @@ use borrow.Author.Tests.{eqb-true, leb-true, le-leb}
 use lib.Dec.{eqb, leb}
 use lib.ListN.{length}
 use Rattle.std.specs.Prelude.{Option, Some, Ok, Err}
-use Rattle.spec_refusals.specs.declared.Refusal.{Refusal}
+use Rattle.spec_refusals.specs.Numbers.{Refusal}
 use Rattle.spec_refusals.specs.declared.Fault.TheVariants as fault
 use Rattle.read_bytes.specs.Bytes.{byte, bytes, peek, pick, one_of}
 use Rattle.read_bytes.proofs.Tests.{between_is}

@@ -17,9 +17,8 @@ use Rattle.read_bytes.specs.Bytes.{byte, bytes, peek, pick, one_of, digit, start
 use Rattle.read_bytes.proofs.Places.{peek_out}
 use Rattle.spec_tilco.specs.Formula.{Written}
 use Rattle.std.specs.Prelude.{Ok, Err}
-use Rattle.spec_refusals.specs.declared.Refusal.{Refusal}
 use Rattle.spec_refusals.specs.declared.Fault.TheVariants as fault
-use Rattle.spec_refusals.specs.Numbers.{fault_number}
+use Rattle.spec_refusals.specs.Numbers.{fault_number, Refusal}
 use Rattle.read_interval.specs.Interval.{Offsets, refusing}
 use Rattle.read_interval.specs.Interval as reading
 use Rattle.read_interval.specs.Interval.{end_at, end_then, end_after_lem, close_at, comma_at, offsets_of, end_zero}

@@ -7,9 +7,8 @@ use borrow.Author.Rules.{rules}
 use denote.Enum.Declared.{tag_of}
 use denote.Enum.Bare.{tag_one}
 use Rattle.spec_refusals.specs.declared.Fault.{Fault}
-use Rattle.spec_refusals.specs.declared.Refusal.{Refusal}
 use Rattle.spec_refusals.specs.contracts.Fault.{the_type}
-use Rattle.spec_refusals.specs.Numbers.{fault_number}
+use Rattle.spec_refusals.specs.Numbers.{fault_number, Refusal}
 
 -- Which kind a number is of, the first one being 0.
 abbrev kind_of : ℕ → ℕ

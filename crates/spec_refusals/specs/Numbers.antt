@@ -2,6 +2,7 @@
 -- Assumes nothing.
 use Rattle.std.specs.Prelude.{ℕ}
 use Rattle.spec_refusals.specs.declared.Fault.{Fault}
+use Rattle.spec_refusals.specs.declared.Refusal as told
 use Rattle.spec_refusals.specs.declared.Fault.TheVariants.{SheetLength, SheetLine, SheetNumber, SignalName, Formula, Undeclared, Interval, Nesting, SheetSize, ReadingsLength, ReadingsLine, UnknownName, Tick, Value, TableLength, TableMark, Asked, Records, TextLengths, Room, SpanEnd, DumpLine, Clash, CaptionLine, ListedTable}
 
 -- The number of each kind of fault.
@@ -31,3 +32,7 @@ fault_number DumpLine = 22
 fault_number Clash = 23
 fault_number CaptionLine = 24
 fault_number ListedTable = 29
+
+-- A refusal that tells a kind of fault.
+abbrev pub Refusal : Type 0
+Refusal = told.Refusal Fault

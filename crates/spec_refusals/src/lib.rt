@@ -1,7 +1,7 @@
 // What a call refuses, and at which place: an error for every reader and operation. Assumes nothing.
 #![tactic(auto)]
 
-ghost use Rattle.std.specs.Prelude.{◌≡◌};
+ghost use Rattle.std.specs.Prelude.{◌≡◌, ℕ};
 ghost use Rattle.spec_refusals.specs.Numbers.{fault_number};
 
 // What is at fault, one kind for each number of refusal. The number is the kind's value.
@@ -59,14 +59,27 @@ pub enum Fault {
     ListedTable = 29,
 }
 
+// What tells what is at fault by a number of refusal: a kind of fault, or the number itself.
+pub trait Numbered: Copy {
+    ghost number: { Self → ℕ };
+}
+
+impl Numbered for Fault {
+    ghost number = { fault_number };
+}
+
+impl Numbered for usize {
+    ghost number = { λ n. n };
+}
+
 // A refusal: what is at fault, and the place of it.
 #[derive(Clone, Copy, PartialEq, Eq)]
-pub struct Refusal {
-    pub fault: Fault,
+pub struct Refusal<F = Fault> {
+    pub fault: F,
     pub place: usize,
 }
 
-impl Refusal {
+impl Refusal<Fault> {
     // The number of the refusal.
     pub fn number(&self) -> usize
         ensures { result ≡ fault_number self.now.fault }
