@@ -1,12 +1,12 @@
 -- Writes one after the other, and that their places can be counted.
 -- Assumes nothing.
 use mathlib.Core.Path.{◌≡◌, refl, sym, subst, ◌∙◌}
-use mathlib.Core.List.{List, [], ◌∷◌, ◌++◌, append_assoc}
+use mathlib.Core.List.{List, [], ◌∷◌, ◌++◌}
 use Prim.Native.Nat.{ℕ, suc, ◌+◌, ◌≤◌}
 use native.Mathlib.Nat.{add-zero, add-suc, suc-add}
 use native.Mathlib.Omega.{arith}
-use lib.ListN.{length, set, take, drop, length-append}
-use lib.Seq.{sets, sets-eq, set_out, drop-drop}
+use lib.ListN.{length, set, drop, length-append}
+use lib.Seq.{sets, sets-eq, set_out}
 use Rattle.write_bytes.specs.declared.Writer.{Writer}
 use Rattle.write_bytes.specs.Writes.{Wrote, Counted}
 use Rattle.write_bytes.specs.Writers.{Writes}
