@@ -3,7 +3,7 @@
 #![tactic(auto)]
 
 ghost use Rattle.std.specs.Prelude.{◌≡◌, [], ◌∷◌, ◌<◌, length};
-ghost use Rattle.write_bytes.specs.Writes.{Counted, decimal_text};
+ghost use Rattle.write_bytes.specs.Writes.{Counted, Wrote, decimal_text};
 ghost use Rattle.write_bytes.specs.Writers.{Writes};
 
 // A lent buffer, and how many bytes were written: the place of the next one.
@@ -50,19 +50,12 @@ impl<'a> Writer<'a> {
         self.used += 1;
     }
 
-    // The bytes of a text, one by one: a copy of a whole part would have an archive for C ask for memcpy from outside.
+    // The bytes of a text.
     pub fn push_text(&mut self, text: &[u8])
         requires { Counted self.old.used text.now }
         ensures { Writes text.now self.old self.new }
     {
-        let mut at = self.used;
-        for b in text {
-            if at < self.out.len() {
-                self.out[at] = *b;
-            }
-            at += 1;
-        }
-        self.used = at;
+        self.used = store_text(text, self.out, self.used);
     }
 
     // A number in decimal digits, the first not 0 but for 0 itself.
@@ -78,6 +71,22 @@ impl<'a> Writer<'a> {
         self.decimal(n / 10);
         self.push(last);
     }
+}
+
+// Stores the bytes of a text from a place on, as far as there is room, and answers the place after the text. They go one by one, for a copy of a whole part
+// would have an archive for C ask for memcpy from outside; and the place is no field here, since the writer would be read and written for each byte.
+fn store_text(text: &[u8], out: &mut [u8], used: usize) -> usize
+    requires { Counted used text.now }
+    ensures { Wrote text.now used out.old out.new result }
+{
+    let mut at = used;
+    for b in text {
+        if at < out.len() {
+            out[at] = *b;
+        }
+        at += 1;
+    }
+    at
 }
 
 // How many bytes `decimal` writes of a number below 10,000.

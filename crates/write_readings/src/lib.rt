@@ -12,17 +12,17 @@ ghost use Rattle.write_readings.specs.EntryTexts.{value_text, entry_text, EntryL
 
 use read_names::spelling_end;
 use write_bytes::{Writer, digits_of};
-use write_lines::{one_if, write_name_line, write_number_line};
+use write_lines::{write_name_line, write_number_line};
 
-// An entry's last two lines, whatever its ticks are: its signal's name, and its value.
+// An entry's last two lines, whatever its ticks are: its signal's name, and its value. The second is one of two texts: as a number it costs a call more.
 fn write_value(w: &mut Writer, s: &[u8], places: &[u16], signal: usize, value: bool)
     requires { (signal < length places.now) × Counted w.old.used (value_text (names_at s.now places.now) (span signal value 0 0)) }
     ensures { Writes (value_text (names_at s.now places.now) (span signal value 0 0)) w.old w.new }
 {
     let name = places[signal] as usize;
     write_name_line(w, s, name);
-    let bit = one_if(value);
-    write_number_line(w, b"value=", bit);
+    let line = if value { b"value=1\n" } else { b"value=0\n" };
+    w.push_text(line);
 }
 
 // The lines of an entry: those of a span, or of a reading, whose tick is `first`.
